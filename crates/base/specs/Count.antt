@@ -1,0 +1,99 @@
+-- How many of the first n numbers pass a test, and whether all of them do. Assumes nothing.
+use mathlib.Core.Path.{_≡_, refl, sym, _∙_, ap, subst}
+use mathlib.Core.Bool.{Bool, true, false, cond, not, _&&_, true≢false}
+use Prim.Native.Nat.{ℕ, zero, suc, _+_, _-_, _≤_, _<_}
+use native.Mathlib.Omega.{arith}
+use Rattle.base.specs.Logic.{test?, same?, and-left, and-right, and-both}
+use Rattle.base.specs.Update.{upd, upd-same, upd-other}
+
+unfoldable pub count : ℕ → (ℕ → Bool) → ℕ
+count zero f = 0
+count (suc n) f = cond (f n) 1 0 + count n f
+
+-- the sum of f 0, .., f (n - 1)
+unfoldable pub sum : ℕ → (ℕ → ℕ) → ℕ
+sum zero f = 0
+sum (suc n) f = f n + sum n f
+
+-- does every number below n pass
+unfoldable pub all : ℕ → (ℕ → Bool) → Bool
+all zero f = true
+all (suc n) f = f n && all n f
+
+pub count-same : (n : ℕ) (f g : ℕ → Bool) → ((x : ℕ) → x < n → g x ≡ f x) → count n g ≡ count n f
+unfolding count
+count-same zero f g h = refl
+count-same (suc n) f g h = rw (h n (omega arith), count-same n f g (λ x l. h x (omega arith)))
+
+pub count-le : (n : ℕ) (f : ℕ → Bool) → count n f ≤ n
+unfolding count
+count-le zero f = omega arith
+count-le (suc n) f = test? (f n) (λ e. rw e (omega (arith, count-le n f))) (λ e. rw e (omega (arith, count-le n f)))
+
+-- none passes
+pub count-none : (n : ℕ) (f : ℕ → Bool) → ((x : ℕ) → x < n → f x ≡ false) → count n f ≡ 0
+unfolding count
+count-none zero f h = refl
+count-none (suc n) f h = rw (h n (omega arith)) (omega (arith, count-none n f (λ x l. h x (omega arith))))
+
+-- every one passes
+pub count-all : (n : ℕ) (f : ℕ → Bool) → ((x : ℕ) → x < n → f x ≡ true) → count n f ≡ n
+unfolding count
+count-all zero f h = refl
+count-all (suc n) f h = rw (h n (omega arith)) (omega (arith, count-all n f (λ x l. h x (omega arith))))
+
+-- some passes
+pub count-some : (n : ℕ) (f : ℕ → Bool) → 0 < count n f → (b : ℕ) × (b < n) × (f b ≡ true)
+unfolding count
+count-some zero f l = absurd (omega arith)
+count-some (suc n) f l =
+    test? (f n) (λ e. (n, omega arith, e))
+    (λ e. let r = count-some n f (let l′ : 0 < cond false 1 0 + count n f = rw e at l in omega arith) in (r .0, omega (arith, r .1), r .2))
+
+-- one that passes does so no longer: one fewer
+pub count-less : (n : ℕ) (f g : ℕ → Bool) (b : ℕ) → b < n → f b ≡ true → g b ≡ false → ((x : ℕ) → (b ≡ x → ⊥) → g x ≡ f x) → count n f ≡ suc (count n g)
+unfolding count
+count-less zero f g b l h k o = absurd (omega arith)
+count-less (suc n) f g b l h k o =
+    same? b n
+    (λ e. subst (λ x. cond (f x) 1 0 + count n f ≡ suc (cond (g x) 1 0 + count n g)) e
+    (rw (h, k) (let c = count-same n f g (λ x l. o x (λ q. absurd (omega arith))) in omega arith)))
+    (λ e. rw (o n e) (let c = count-less n f g b (omega arith) h k o in omega arith))
+
+-- a place that does not pass now passes: one more
+pub count-upd : (n : ℕ) (f : ℕ → Bool) (b : ℕ) → b < n → f b ≡ false → count n (upd f b true) ≡ suc (count n f)
+count-upd n f b l h = count-less n (upd f b true) f b l (upd-same f b true) h (λ x q. sym (upd-other f b true x q))
+
+-- a place that passes now does not: one fewer
+pub count-upd-false : (n : ℕ) (f : ℕ → Bool) (b : ℕ) → b < n → f b ≡ true → count n f ≡ suc (count n (upd f b false))
+count-upd-false n f b l h = count-less n f (upd f b false) b l h (upd-same f b false) (λ x q. upd-other f b false x q)
+
+-- those that pass and those that do not are all
+pub count-not : (n : ℕ) (f : ℕ → Bool) → count n f + count n (λ x. not (f x)) ≡ n
+unfolding count
+count-not zero f = refl
+count-not (suc n) f = test? (f n) (λ e. rw e (omega (arith, count-not n f))) (λ e. rw e (omega (arith, count-not n f)))
+
+pub all-at : (n : ℕ) (f : ℕ → Bool) → all n f ≡ true → (x : ℕ) → x < n → f x ≡ true
+unfolding all
+all-at zero f h x l = absurd (omega arith)
+all-at (suc n) f h x l =
+    same? x n (λ e. subst (λ y. f y ≡ true) (sym e) (and-left (f n) (all n f) h)) (λ e. all-at n f (and-right (f n) (all n f) h) x (omega arith))
+
+pub all-of : (n : ℕ) (f : ℕ → Bool) → ((x : ℕ) → x < n → f x ≡ true) → all n f ≡ true
+unfolding all
+all-of zero f h = refl
+all-of (suc n) f h = and-both (f n) (all n f) (h n (omega arith)) (all-of n f (λ x l. h x (omega arith)))
+
+-- one more number is tested; none is
+pub all-more : (n : ℕ) (f : ℕ → Bool) → all (suc n) f ≡ (f n && all n f)
+unfolding all
+all-more n f = refl
+
+pub all-none : (f : ℕ → Bool) → all 0 f ≡ true
+unfolding all
+all-none f = refl
+
+-- one that fails
+pub all-not : (n : ℕ) (f : ℕ → Bool) (x : ℕ) → x < n → f x ≡ false → all n f ≡ false
+all-not n f x l h = test? (all n f) (λ e. absurd (true≢false (sym (all-at n f e x l) ∙ h))) (λ e. e)

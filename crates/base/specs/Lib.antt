@@ -1,0 +1,5 @@
+pub mod Logic
+pub mod Update
+pub mod Count
+pub mod Search
+pub mod Tabulate

@@ -1,0 +1,50 @@
+-- A function with one value changed. Assumes nothing.
+use mathlib.Core.Path.{_≡_, refl, sym, _∙_, ap, subst, fun-ext}
+use mathlib.Core.Bool.{cond}
+use Prim.Native.Nat.{ℕ}
+use lib.Dec.{eqb}
+use borrow.Author.Tests.{eq-eqb, ne-eqb}
+use Rattle.base.specs.Logic.{same?}
+
+unfoldable pub upd : {A : Type 0} → (ℕ → A) → ℕ → A → ℕ → A
+upd f i v j = cond (eqb i j) v (f j)
+
+module _ {A : Type 0} where
+  pub upd-same : (f : ℕ → A) (i : ℕ) (v : A) → upd f i v i ≡ v
+  unfolding upd
+  upd-same f i v = rw (eq-eqb i i refl)
+
+  pub upd-other : (f : ℕ → A) (i : ℕ) (v : A) (j : ℕ) → (i ≡ j → ⊥) → upd f i v j ≡ f j
+  unfolding upd
+  upd-other f i v j h = rw (ne-eqb i j h)
+
+  -- a value put where it is
+  pub upd-self : (f : ℕ → A) (i : ℕ) → upd f i (f i) ≡ f
+  upd-self f i = fun-ext (λ j. same? i j (λ e. subst (λ x. upd f i (f i) x ≡ f x) e (upd-same f i (f i))) (λ n. upd-other f i (f i) j n))
+
+  -- a second value at the same place
+  pub upd-upd : (f : ℕ → A) (i : ℕ) (v w : A) → upd (upd f i v) i w ≡ upd f i w
+  upd-upd f i v w =
+      fun-ext (λ j. same? i j
+      (λ e. subst (λ x. upd (upd f i v) i w x ≡ upd f i w x) e (upd-same (upd f i v) i w ∙ sym (upd-same f i w)))
+      (λ n. upd-other (upd f i v) i w j n ∙ upd-other f i v j n ∙ sym (upd-other f i w j n)))
+
+  -- what the new value and every old one have, every value has
+  pub upd-all : (P : A → Type 0) (f : ℕ → A) (i : ℕ) (v : A) → P v → ((j : ℕ) → P (f j)) → (j : ℕ) → P (upd f i v j)
+  upd-all P f i v a b j =
+      same? i j
+      (λ e. subst (λ x. P (upd f i v x)) e (subst P (sym (upd-same f i v)) a))
+      (λ n. subst P (sym (upd-other f i v j n)) (b j))
+
+module _ {A B : Type 0} where
+  -- what the changed value shares with the old one, every value shares
+  pub upd-keeps : (g : A → B) (f : ℕ → A) (i : ℕ) (v : A) → g v ≡ g (f i) → (j : ℕ) → g (upd f i v j) ≡ g (f j)
+  upd-keeps g f i v h j =
+      same? i j (λ q. subst (λ x. g (upd f i v x) ≡ g (f x)) q (ap g (upd-same f i v) ∙ h)) (λ q. ap g (upd-other f i v j q))
+
+  -- a changed value under a function of the place
+  pub upd-map : (h : ℕ → A → B) (g : ℕ → A) (i : ℕ) (v : A) (j : ℕ) → h j (upd g i v j) ≡ upd (λ x. h x (g x)) i (h i v) j
+  upd-map h g i v j =
+      same? i j
+      (λ e. subst (λ x. h x (upd g i v x) ≡ upd (λ y. h y (g y)) i (h i v) x) e (ap (h i) (upd-same g i v) ∙ sym (upd-same (λ x. h x (g x)) i (h i v))))
+      (λ n. ap (h j) (upd-other g i v j n) ∙ sym (upd-other (λ x. h x (g x)) i (h i v) j n))

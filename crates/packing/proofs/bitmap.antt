@@ -1,0 +1,2 @@
+-- What the proofs of the map's functions use.
+mod Turns

@@ -1,0 +1,5 @@
+pub mod Fields
+pub mod Words
+pub mod Bits
+pub mod Bitmap
+pub mod FirstFree

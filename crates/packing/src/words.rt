@@ -1,0 +1,84 @@
+// Big-endian words of 16, 24, 32 and 64 bits at a byte offset of a slice.
+ghost use mathlib.Core.Path.{_≡_};
+ghost use Prim.Native.Nat.{_+_, _<_};
+ghost use lib.ListN.{length};
+ghost use Rattle.packing.specs.Words.{getWord, putWord};
+
+// A byte as a wider number: the bound in the contract spares each caller a proof.
+fn wide16(x: u8) -> u16
+    ensures { λ r. ⌜ (r ≡ x) × (r < 256) ⌝ }
+{
+    x as u16
+}
+
+fn wide32(x: u8) -> u32
+    ensures { λ r. ⌜ (r ≡ x) × (r < 256) ⌝ }
+{
+    x as u32
+}
+
+fn wide64(x: u8) -> u64
+    ensures { λ r. ⌜ (r ≡ x) × (r < 256) ⌝ }
+{
+    x as u64
+}
+
+pub fn read16(t: &[u8], at: usize) -> u16
+    requires { ⌜ at + 1 < length (now t) ⌝ }
+    ensures { λ r. ⌜ r ≡ getWord 1 (now (t .entry)) at ⌝ }
+{
+    let high = wide16(t[at]);
+    let low = wide16(t[at + 1]);
+    high * 256 + low
+}
+
+pub fn read24(t: &[u8], at: usize) -> u32
+    requires { ⌜ at + 2 < length (now t) ⌝ }
+    ensures { λ r. ⌜ (r ≡ getWord 2 (now (t .entry)) at) × (r < 0x1_00_00_00) ⌝ }
+{
+    (wide32(t[at]) * 256 + wide32(t[at + 1])) * 256 + wide32(t[at + 2])
+}
+
+pub fn read32(t: &[u8], at: usize) -> u32
+    requires { ⌜ at + 3 < length (now t) ⌝ }
+    ensures { λ r. ⌜ r ≡ getWord 3 (now (t .entry)) at ⌝ }
+{
+    ((wide32(t[at]) * 256 + wide32(t[at + 1])) * 256 + wide32(t[at + 2])) * 256 + wide32(t[at + 3])
+}
+
+pub fn read64(t: &[u8], at: usize) -> u64
+    requires { ⌜ at + 7 < length (now t) ⌝ }
+    ensures { λ r. ⌜ r ≡ getWord 7 (now (t .entry)) at ⌝ }
+{
+    let a = ((wide64(t[at]) * 256 + wide64(t[at + 1])) * 256 + wide64(t[at + 2])) * 256
+        + wide64(t[at + 3]);
+    (((a * 256 + wide64(t[at + 4])) * 256 + wide64(t[at + 5])) * 256 + wide64(t[at + 6])) * 256
+        + wide64(t[at + 7])
+}
+
+pub fn write16(t: &mut [u8], at: usize, v: u16)
+    requires { ⌜ at + 1 < length (now t) ⌝ }
+    ensures { λ r. ⌜ now (t .exit) ≡ putWord 1 (now (t .entry)) at v ⌝ }
+{
+    t[at] = (v / 256) as u8;
+    t[at + 1] = (v % 256) as u8;
+}
+
+pub fn write24(t: &mut [u8], at: usize, v: u32)
+    requires { ⌜ (at + 2 < length (now t)) × (v < 0x1_00_00_00) ⌝ }
+    ensures { λ r. ⌜ now (t .exit) ≡ putWord 2 (now (t .entry)) at v ⌝ }
+{
+    t[at] = (v / 256 / 256) as u8;
+    t[at + 1] = (v / 256 % 256) as u8;
+    t[at + 2] = (v % 256) as u8;
+}
+
+pub fn write32(t: &mut [u8], at: usize, v: u32)
+    requires { ⌜ at + 3 < length (now t) ⌝ }
+    ensures { λ r. ⌜ now (t .exit) ≡ putWord 3 (now (t .entry)) at v ⌝ }
+{
+    t[at] = (v / 256 / 256 / 256) as u8;
+    t[at + 1] = (v / 256 / 256 % 256) as u8;
+    t[at + 2] = (v / 256 % 256) as u8;
+    t[at + 3] = (v % 256) as u8;
+}

@@ -1,0 +1,16 @@
+pub mod Walk
+pub mod Model
+pub mod OneStep
+pub mod StepFour
+pub mod WriterSteps
+pub mod Change
+pub mod Agree
+pub mod Truncate
+pub mod Sets
+pub mod Delete
+pub mod Remove
+pub mod MapBlocks
+pub mod Accepted
+pub mod Rows
+pub mod WorkedSession
+pub mod AgreeCalls

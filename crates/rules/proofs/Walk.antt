@@ -1,0 +1,46 @@
+-- Walks up the parents: what changes none of them, and what they see after a change. Assumes nothing.
+use mathlib.Core.Option.{Option, none, some}
+use mathlib.Core.Path.{ap, refl, subst, _∙_, _≡_}
+use Prim.Native.Nat.{suc, zero, ℕ}
+use native.Mathlib.Omega.{arith}
+use Rattle.base.specs.Logic.{pick, same?}
+use Rattle.rules.specs.Reading.{walk}
+
+pub pick-eq : {Y : Type 0} (o : Option Y) (a b : Y) → (o ≡ none → a ≡ b) → pick o a ≡ pick o b
+pick-eq none a b h = h refl
+pick-eq (some v) a b h = refl
+
+module _ {X Y : Type 0} (par : ℕ → ℕ) (look : X → Option Y) (d : Y) (col col′ : ℕ → X) where
+  -- A region of sets that is closed under going up where nothing is shown: what is walked there depends on the region only.
+  module _ (Q : ℕ → Type 0) (same : (s : ℕ) → Q s → look (col′ s) ≡ look (col s)) (up : (s : ℕ) → Q s → look (col s) ≡ none → Q (par s)) where
+    pub walk-frame : (n s : ℕ) → Q s → walk par look d n col′ s ≡ walk par look d n col s
+    unfolding walk
+    walk-frame zero s q = rw (same s q)
+    walk-frame (suc n) s q = rw (same s q) (pick-eq (look (col s)) _ _ (λ e. walk-frame n (par s) (up s q e)))
+
+  -- At one set c, where nothing was shown, what was walked there is entered: every walk gives what it gave.
+  module _ (lvl : ℕ → ℕ) (lower : (s n : ℕ) → lvl s ≡ suc n → lvl (par s) ≡ n) (c m : ℕ) (at : lvl c ≡ suc m)
+      (before : look (col c) ≡ none) (after : look (col′ c) ≡ some (walk par look d m col (par c)))
+      (others : (s : ℕ) → (c ≡ s → ⊥) → look (col′ s) ≡ look (col s)) where
+    walk-fill-at : (n : ℕ) → lvl c ≡ n → walk par look d n col′ c ≡ walk par look d n col c
+    unfolding walk
+    walk-fill-at zero e = absurd (omega arith)
+    walk-fill-at (suc n) e =
+        let k : n ≡ m = omega arith in
+        rw (k, after, before)
+
+    pub walk-fill : (n s : ℕ) → lvl s ≡ n → walk par look d n col′ s ≡ walk par look d n col s
+    unfolding walk
+    walk-fill zero s e = same? c s (λ q. subst (λ x. walk par look d zero col′ x ≡ walk par look d zero col x) q (walk-fill-at zero (ap lvl q ∙ e))) (λ q. rw (others s q))
+    walk-fill (suc n) s e =
+        same? c s
+        (λ q. subst (λ x. walk par look d (suc n) col′ x ≡ walk par look d (suc n) col x) q (walk-fill-at (suc n) (ap lvl q ∙ e)))
+        (λ q. rw (others s q) (pick-eq (look (col s)) _ _ (λ _. walk-fill n (par s) (lower s n e))))
+
+-- The same with other links: a region in which what nothing is shown links alike.
+module _ {X Y : Type 0} (par par′ : ℕ → ℕ) (look : X → Option Y) (d : Y) (col col′ : ℕ → X) (Q : ℕ → Type 0) (same : (s : ℕ) → Q s → look (col′ s) ≡ look (col s))
+    (links : (s : ℕ) → Q s → par′ s ≡ par s) (up : (s : ℕ) → Q s → look (col s) ≡ none → Q (par s)) where
+  pub walk-move : (n s : ℕ) → Q s → walk par′ look d n col′ s ≡ walk par look d n col s
+  unfolding walk
+  walk-move zero s q = rw (same s q)
+  walk-move (suc n) s q = rw (same s q, links s q) (pick-eq (look (col s)) _ _ (λ e. walk-move n (par s) (up s q e)))

@@ -1,0 +1,103 @@
+-- What is compared in demand 3: the store's state with the plain store and with the tally. Document 01, "Demand 3".
+use mathlib.Core.Bool.{false}
+use mathlib.Core.List.{List, _∷_, []}
+use mathlib.Core.Option.{some}
+use mathlib.Core.Path.{_≡_}
+use Prim.Native.Nat.{_<_, suc, zero, ℕ}
+use lib.ListN.{drop, getD, length, take}
+use Rattle.rules.specs.Calls.{Store, blankMemory, byteByReading, readInto, step, treeIn}
+use Rattle.rules.specs.Numbers.{Answer, Call, create, delete, format, make, read, refusal, remove, tellFree, tellSize, truncate, write}
+use Rattle.rules.specs.Plain.{Plain, bytesIn, isNone}
+use Rattle.rules.specs.Reading.{sizeByReading}
+use Rattle.rules.specs.State.{Entry, hole, isAbsent, isMarked, stored, unmapped}
+use Rattle.rules.specs.Storage.{freeBlocks, real}
+use Rattle.rules.specs.Tally.{Both, Kind, Tally, bothStep}
+
+-- "Compared are each set's number, parent, level, writeability and children in order; which files are present; the size and bytes by reading of those not marked"
+pub record AgreesPlain (st : Store real) (pl : Plain) : Type 0 where
+  pub sets : pl .tree ≡ treeIn real st
+  pub present : (f s : ℕ) → isNone (pl .files f s) ≡ isAbsent (st .files f s .state)
+  pub size : (f s : ℕ) (l : List ℕ) → pl .files f s ≡ some l → isMarked (st .files f s .state) ≡ false → sizeByReading (treeIn real st) (st .files f) s ≡ length l
+  pub bytes : (f s : ℕ) (l : List ℕ) → pl .files f s ≡ some l → isMarked (st .files f s .state) ≡ false → (i : ℕ) → i < length l → byteByReading st s f i ≡ getD l i 0
+
+-- the kind of an entry
+abbrev pub kindOf : Entry ℕ → Kind
+kindOf unmapped = unmapped
+kindOf hole = hole
+kindOf (stored b) = stored tt
+
+-- "sets, states, sizes, kinds and a count of free blocks … the tables agree with it"
+pub record AgreesTally (st : Store real) (ta : Tally) : Type 0 where
+  pub sets : ta .tree ≡ treeIn real st
+  pub state : (f s : ℕ) → ta .files f s .state ≡ st .files f s .state
+  pub size : (f s : ℕ) → ta .files f s .size ≡ st .files f s .size
+  pub kind : (f s p : ℕ) → ta .files f s .map p ≡ kindOf (st .files f s .map p)
+  pub free : ta .free ≡ freeBlocks (st .memory)
+
+-- What a call gives back: its answer and, of a read, the bytes that it put at the buffer's front.
+pub record Given : Type 0 where
+  pub answer : Answer
+  pub bytes : List ℕ
+
+-- of a read, as many bytes as its first count; of another call, none
+unfoldable pub front : Call → Answer → List ℕ → List ℕ
+front format a l = []
+front (create s f) a l = []
+front (write s f off bs) a l = []
+front (read s f off buffer) a l = take (a .first) l
+front (truncate s f n) a l = []
+front (delete s f) a l = []
+front (make s c w) a l = []
+front (remove s) a l = []
+front (tellSize s f) a l = []
+front tellFree a l = []
+
+-- what plain store and tally together say of a call: "the first count and bytes of a read"
+unfoldable pub plainBytes : Call → Plain → List ℕ
+plainBytes format pl = []
+plainBytes (create s f) pl = []
+plainBytes (write s f off bs) pl = []
+plainBytes (read s f off buffer) pl = drop off (bytesIn (pl .files f s))
+plainBytes (truncate s f n) pl = []
+plainBytes (delete s f) pl = []
+plainBytes (make s c w) pl = []
+plainBytes (remove s) pl = []
+plainBytes (tellSize s f) pl = []
+plainBytes tellFree pl = []
+
+abbrev pub bothGive : ℕ → Call → Plain → Tally → Given
+bothGive blocks c pl ta = let a : Answer = bothStep blocks c pl ta .answer in record { answer = a; bytes = front c a (plainBytes c pl) }
+
+-- plain store and tally after a list of calls, and all that they gave
+unfoldable pub bothRun : ℕ → List Call → Plain → Tally → Both
+bothRun blocks [] pl ta = record { answer = refusal 0; plain = pl; tally = ta }
+bothRun blocks (c ∷ cs) pl ta = bothRun blocks cs (bothStep blocks c pl ta .plain) (bothStep blocks c pl ta .tally)
+
+unfoldable pub bothGiven : ℕ → List Call → Plain → Tally → List Given
+bothGiven blocks [] pl ta = []
+bothGiven blocks (c ∷ cs) pl ta = bothGive blocks c pl ta ∷ bothGiven blocks cs (bothStep blocks c pl ta .plain) (bothStep blocks c pl ta .tally)
+
+-- the store after a list of calls, and all that they gave
+unfoldable pub storeRun : ℕ → List Call → Store real → Store real
+storeRun blocks [] st = st
+storeRun blocks (c ∷ cs) st = storeRun blocks cs (step real (blankMemory blocks) c st .store)
+
+unfoldable pub bufferAfter : Call → ℕ → Store real → List ℕ
+bufferAfter format n st = []
+bufferAfter (create s f) n st = []
+bufferAfter (write s f off bs) n st = []
+bufferAfter (read s f off buffer) zero st = readInto st s f off buffer
+bufferAfter (read s f off buffer) (suc n) st = buffer
+bufferAfter (truncate s f z) n st = []
+bufferAfter (delete s f) n st = []
+bufferAfter (make s c w) n st = []
+bufferAfter (remove s) n st = []
+bufferAfter (tellSize s f) n st = []
+bufferAfter tellFree n st = []
+
+abbrev pub storeGive : ℕ → Call → Store real → Given
+storeGive blocks c st = let a : Answer = step real (blankMemory blocks) c st .answer in record { answer = a; bytes = front c a (bufferAfter c (a .number) st) }
+
+unfoldable pub storeGiven : ℕ → List Call → Store real → List Given
+storeGiven blocks [] st = []
+storeGiven blocks (c ∷ cs) st = storeGive blocks c st ∷ storeGiven blocks cs (step real (blankMemory blocks) c st .store)

@@ -1,0 +1,13 @@
+pub mod State
+pub mod Reading
+pub mod Storage
+pub mod Rules
+pub mod Sets
+pub mod Numbers
+pub mod Calls
+pub mod WellFormed
+pub mod Trees
+pub mod Plain
+pub mod Tally
+pub mod Agreement
+pub mod Rows

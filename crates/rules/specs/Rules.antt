@@ -1,0 +1,220 @@
+-- The rules of "Changing calls", once, over any storage.
+use mathlib.Core.Bool.{_&&_, Bool, cond, false, not, true}
+use mathlib.Core.List.{List, _∷_, []}
+use Prim.Native.Nat.{_%_, _+_, _-_, _/_, max, suc, zero, ℕ}
+use lib.Dec.{eqb, ltb}
+use lib.ListN.{length}
+use Rattle.base.specs.Count.{count}
+use Rattle.base.specs.Update.{upd}
+use Rattle.rules.specs.Reading.{needs, reaches, resolve, sizeByReading}
+use Rattle.rules.specs.State.{Entry, File, Files, State, Tree, absent, absentFile, hole, isStored, live, marked, own, pageBytes, pageCount, setCount, stored, unmapped, virgin}
+use Rattle.rules.specs.Storage.{Storage}
+
+-- do f at each of a list in turn
+unfoldable pub each : {A W : Type 0} → (A → W → W) → List A → W → W
+each f [] w = w
+each f (x ∷ xs) w = each f xs (f x w)
+
+-- how many of a list pass
+unfoldable pub countIn : List ℕ → (ℕ → Bool) → ℕ
+countIn [] f = 0
+countIn (x ∷ xs) f = cond (f x) 1 0 + countIn xs f
+
+-- the numbers from a on, n of them
+unfoldable pub from : ℕ → ℕ → List ℕ
+from a zero = []
+from a (suc n) = a ∷ from (suc a) n
+
+-- "the pages that hold its bytes": n bytes from offset off on
+unfoldable pub touched : ℕ → ℕ → List ℕ
+touched off zero = []
+touched off (suc n) = from (off / pageBytes) (suc ((off + n) / pageBytes - off / pageBytes))
+
+-- Truncate to n of a file of z bytes, n below z.
+-- "touched pages run from t divided by 512, rounded down, to the old last page"
+unfoldable pub cutPages : ℕ → ℕ → List ℕ
+cutPages n z = from (n / pageBytes) (suc ((z - 1) / pageBytes - n / pageBytes))
+
+-- the page that gets an own block, where it resolves to e: "if t is no multiple of 512 and its page resolves to stored"
+unfoldable pub keptPages : {K : Type 0} → ℕ → Entry K → List ℕ
+keptPages n e = cond (not (eqb (n % pageBytes) 0) && isStored e) (n / pageBytes ∷ []) []
+
+-- "All other touched pages become holes in this map"
+unfoldable pub droppedPages : ℕ → ℕ → List ℕ
+droppedPages n z = cond (eqb (n % pageBytes) 0) (cutPages n z) (from (suc (n / pageBytes)) ((z - 1) / pageBytes - n / pageBytes))
+
+module _ {K : Type 0} where
+  -- one entry of the map of the file in set c
+  unfoldable pub putEntry : Files K → ℕ → ℕ → Entry K → Files K
+  putEntry files c p e = upd files c (record { state = files c .state; size = files c .size; map = upd (files c .map) p e })
+
+  -- step 2 for one set: a virgin file "becomes own with the size it had by reading"
+  unfoldable pub settleAs : State → Tree → Files K → ℕ → Files K
+  settleAs absent t files c = files
+  settleAs own t files c = files
+  settleAs virgin t files c = upd files c (record { state = own; size = sizeByReading t files c; map = files c .map })
+  settleAs marked t files c = files
+
+  unfoldable pub settleFile : Tree → ℕ → Files K → Files K
+  settleFile t c files = settleAs (files c .state) t files c
+
+  -- "Marked files keep their records and blocks."
+  unfoldable pub markFile : File K → File K
+  markFile x = record { state = marked; size = x .size; map = x .map }
+
+  -- marking the file of set c, "and so on down"
+  unfoldable pub markDown : Tree → Files K → ℕ → Files K
+  markDown t files c s = cond (reaches t files c s) (markFile (files s)) (files s)
+
+  -- 64 holes
+  unfoldable pub holes : ℕ → Entry K
+  holes p = cond (ltb p pageCount) hole unmapped
+
+-- What a call works on: the memory, the files of its number, the blocks pending for pages of the writer until they enter its map (step 3), the counts.
+pub record Work (S : Storage) : Type 0 where
+  pub memory : S .Memory
+  pub files : Files (S .Block)
+  pub pending : ℕ → Entry (S .Block)
+  pub taken : ℕ
+  pub copies : ℕ
+  pub marks : ℕ
+
+module _ (S : Storage) where
+  -- the bytes of an entry that shows itself
+  unfoldable pub pageOf : S .Memory → Entry (S .Block) → S .Page
+  pageOf m unmapped = S .zeros
+  pageOf m hole = S .zeros
+  pageOf m (stored b) = S .get m b
+
+  -- Step 1. "Own need is the touched pages not stored in this file's map."
+  unfoldable pub ownNeed : ℕ → List ℕ → Files (S .Block) → ℕ
+  ownNeed s ps files = countIn ps (λ p. not (isStored (files s .map p)))
+
+  -- the block of an entry is free again
+  unfoldable pub freeEntry : Entry (S .Block) → S .Memory → S .Memory
+  freeEntry unmapped m = m
+  freeEntry hole m = m
+  freeEntry (stored b) m = S .release m b
+
+  -- "frees the file's blocks"
+  unfoldable pub freeMap : (ℕ → Entry (S .Block)) → S .Memory → S .Memory
+  freeMap map m = each (λ p. freeEntry (map p)) (from 0 pageCount) m
+
+module _ (S : Storage) (t : Tree) where
+  abbrev pub withFiles : Work S → Files (S .Block) → Work S
+  withFiles w fs = record { memory = w .memory; files = fs; pending = w .pending; taken = w .taken; copies = w .copies; marks = w .marks }
+
+  -- Step 2. "A virgin file, and each virgin child, becomes own with the size it had by reading."
+  unfoldable pub settle : ℕ → Work S → Work S
+  settle c w = withFiles w (settleFile t c (w .files))
+
+  -- Step 3, for one page. "Own blocks are taken, pages ascending; they enter the map in step 5."
+  unfoldable pub takeOwn : ℕ → Work S → Work S
+  takeOwn p w =
+      let r : S .Block × S .Memory = S .take (w .memory) in
+      record { memory = r .1; files = w .files; pending = upd (w .pending) p (stored (r .0)); taken = suc (w .taken); copies = w .copies; marks = w .marks }
+
+  unfoldable pub reserveAs : Entry (S .Block) → ℕ → Work S → Work S
+  reserveAs unmapped p w = takeOwn p w
+  reserveAs hole p w = takeOwn p w
+  reserveAs (stored b) p w =
+      record { memory = w .memory; files = w .files; pending = upd (w .pending) p (stored b); taken = w .taken; copies = w .copies; marks = w .marks }
+
+  unfoldable pub reserve : ℕ → ℕ → Work S → Work S
+  reserve s p w = reserveAs (w .files s .map p) p w
+
+  -- Step 4, for one page and one child that needs it.
+  -- "with none free, the child's file is marked"; the third count has those down the tree too
+  unfoldable pub mark : ℕ → Work S → Work S
+  mark c w =
+      record {
+        memory = w .memory;
+        files = markDown t (w .files) c;
+        pending = w .pending;
+        taken = w .taken;
+        copies = w .copies;
+        marks = w .marks + count setCount (reaches t (w .files) c);
+      }
+
+  -- "One resolving to stored is copied to a block taken"
+  unfoldable pub copy : S .Block → ℕ → ℕ → Work S → Work S
+  copy b c p w =
+      let r : S .Block × S .Memory = S .take (w .memory) in
+      let q : S .Block × S .Memory = S .put (r .1) (r .0) (S .get (r .1) b) in
+      record { memory = q .1; files = putEntry (w .files) c p (stored (q .0)); pending = w .pending; taken = w .taken; copies = suc (w .copies); marks = w .marks }
+
+  -- "a page resolving to a hole becomes a hole there"
+  unfoldable pub supply : Entry (S .Block) → ℕ → ℕ → Work S → Work S
+  supply unmapped c p w = w
+  supply hole c p w = withFiles w (putEntry (w .files) c p hole)
+  supply (stored b) c p w = cond (eqb (S .free (w .memory)) 0) (mark c w) (copy b c p w)
+
+  unfoldable pub give : ℕ → ℕ → ℕ → Work S → Work S
+  give s p c w = cond (needs (w .files) c p) (supply (resolve t (w .files) s p) c p w) w
+
+  -- "For each touched page ascending, for each child in order of making that needs it"
+  unfoldable pub giveAll : ℕ → List ℕ → Work S → Work S
+  giveAll s ps w = each (λ p. each (give s p) (t .children s)) ps w
+
+  -- Step 5, for one page. "Old bytes are carried to own pages, new bytes laid over": lay makes the new page of the old one.
+  unfoldable pub enterAs : Entry (S .Block) → ℕ → ℕ → S .Page → Work S → Work S
+  enterAs unmapped s p v w = w
+  enterAs hole s p v w = w
+  enterAs (stored b) s p v w =
+      let q : S .Block × S .Memory = S .put (w .memory) b v in
+      record { memory = q .1; files = putEntry (w .files) s p (stored (q .0)); pending = w .pending; taken = w .taken; copies = w .copies; marks = w .marks }
+
+  unfoldable pub enter : ℕ → (ℕ → S .Page → S .Page) → ℕ → Work S → Work S
+  enter s lay p w = enterAs (w .pending p) s p (lay p (pageOf S (w .memory) (resolve t (w .files) s p))) w
+
+  unfoldable pub resize : ℕ → ℕ → Work S → Work S
+  resize s n w = withFiles w (upd (w .files) s (record { state = own; size = n; map = w .files s .map }))
+
+  -- "become holes in this map, their blocks free"
+  unfoldable pub dropPage : ℕ → ℕ → Work S → Work S
+  dropPage s p w =
+      record { memory = freeEntry S (w .files s .map p) (w .memory); files = putEntry (w .files) s p hole; pending = w .pending; taken = w .taken; copies = w .copies; marks = w .marks }
+
+  -- A change of the file in set s, steps 2 to 5: the touched pages ps are given to the children; of these rs get new bytes by lay, ds become holes; the size is changed by resized.
+  unfoldable pub change : ℕ → List ℕ → List ℕ → List ℕ → (ℕ → S .Page → S .Page) → (ℕ → ℕ) → Work S → Work S
+  change s ps rs ds lay resized w =
+      let w₁ : Work S = each settle (s ∷ t .children s) w in
+      let w₂ : Work S = each (reserve s) rs w₁ in
+      let w₃ : Work S = giveAll s ps w₂ in
+      let w₄ : Work S = each (enter s lay) rs w₃ in
+      let w₅ : Work S = each (dropPage s) ds w₄ in
+      resize s (resized (w₅ .files s .size)) w₅
+
+  -- Write of one byte or more: "size raised to the write's end if larger".
+  unfoldable pub writeFile : ℕ → ℕ → List ℕ → Work S → Work S
+  writeFile s off bs w =
+      let ps : List ℕ = touched off (length bs) in
+      change s ps ps [] (S .over off bs) (λ n. max n (off + length bs)) w
+
+  -- "At t equal to the size, nothing changes. Above it, step 2 and the new size only." Below it, the page of t "is zeroed from t on".
+  unfoldable pub truncateAs : Bool → Bool → ℕ → ℕ → ℕ → Work S → Work S
+  truncateAs true above s n z w = w
+  truncateAs false true s n z w = change s [] [] [] (λ p v. v) (λ m. n) w
+  truncateAs false false s n z w =
+      change s (cutPages n z) (keptPages n (resolve t (w .files) s (n / pageBytes))) (droppedPages n z) (λ p. S .cut (n % pageBytes)) (λ m. n) w
+
+  unfoldable pub truncateFile : ℕ → ℕ → Work S → Work S
+  truncateFile s n w = let z : ℕ = sizeByReading t (w .files) s in truncateAs (eqb n z) (ltb z n) s n z w
+
+  -- "Own need is 1 if t is no multiple of 512 and its page resolves to stored but is not stored in this map, else 0."
+  unfoldable pub truncateNeed : ℕ → ℕ → Files (S .Block) → ℕ
+  truncateNeed s n files =
+      cond (ltb n (sizeByReading t files s)) (ownNeed S s (keptPages n (resolve t files s (n / pageBytes))) files) 0
+
+  -- "frees the file's blocks, leaves it absent"
+  unfoldable pub eraseFile : ℕ → Work S → Work S
+  eraseFile s w =
+      record { memory = freeMap S (w .files s .map) (w .memory); files = upd (w .files) s absentFile; pending = w .pending; taken = w .taken; copies = w .copies; marks = w .marks }
+
+  -- "Delete does step 2 for the children and step 4 for all 64 pages, frees the file's blocks, leaves it absent. A marked file is only freed and made absent."
+  unfoldable pub deleteAs : Bool → ℕ → Work S → Work S
+  deleteAs true s w = eraseFile s (giveAll s (from 0 pageCount) (each settle (t .children s) w))
+  deleteAs false s w = eraseFile s w
+
+  unfoldable pub deleteFile : ℕ → Work S → Work S
+  deleteFile s w = deleteAs (live (w .files s .state)) s w

@@ -1,0 +1,125 @@
+-- The layout of the packed tables. Document 01, "Packed tables".
+use mathlib.Core.List.{List, _∷_, []}
+use Prim.Native.Nat.{_*_, _+_, suc, zero, ℕ}
+use Rattle.base.specs.Logic.{digit}
+use Rattle.packing.specs.Bitmap.{isOne}
+use Rattle.packing.specs.Fields.{getField, join}
+use Rattle.packing.specs.Words.{getWord}
+use Rattle.rules.specs.State.{Entry, SetRecord, State, absent, fileCount, hole, marked, own, stored, unmapped, virgin}
+
+-- "The tables are 17,436 bytes, in this order": header, bitmap, set records, file records
+abbrev pub tableBytes : ℕ
+tableBytes = 17436
+
+abbrev pub headerAt : ℕ
+headerAt = 0
+
+abbrev pub bitmapAt : ℕ
+bitmapAt = 4
+
+abbrev pub setAt : ℕ → ℕ
+setAt s = 516 + s * 3
+
+-- "at set × 16 + file"
+abbrev pub fileAt : ℕ → ℕ → ℕ
+fileAt f s = 540 + (s * fileCount + f) * 132
+
+abbrev pub entryAt : ℕ → ℕ → ℕ → ℕ
+entryAt f s p = fileAt f s + 4 + p * 2
+
+-- "block count B 13, next start 12, zero 7"
+abbrev pub headerWidths : List ℕ
+headerWidths = 13 ∷ 12 ∷ 7 ∷ []
+
+-- "used 1, writeable 1, level 3, parent 4, first child 4, next sibling 4, zero 7"
+abbrev pub setWidths : List ℕ
+setWidths = 1 ∷ 1 ∷ 3 ∷ 4 ∷ 4 ∷ 4 ∷ 7 ∷ []
+
+-- "state 2, size 16, zero 14"
+abbrev pub headWidths : List ℕ
+headWidths = 2 ∷ 16 ∷ 14 ∷ []
+
+-- "entries of kind 2 and block 14"
+abbrev pub entryWidths : List ℕ
+entryWidths = 2 ∷ 14 ∷ []
+
+-- The words, by place. Bytes are counted to the last: 1, 2, 3 are words of 16, 24, 32 bits.
+abbrev pub headerWord : List ℕ → ℕ
+headerWord t = getWord 3 t headerAt
+
+abbrev pub setWord : List ℕ → ℕ → ℕ
+setWord t s = getWord 2 t (setAt s)
+
+abbrev pub headWord : List ℕ → ℕ → ℕ → ℕ
+headWord t f s = getWord 3 t (fileAt f s)
+
+abbrev pub entryWord : List ℕ → ℕ → ℕ → ℕ → ℕ
+entryWord t f s p = getWord 1 t (entryAt f s p)
+
+-- What the words mean.
+-- "State: 0 absent, 1 own, 2 virgin (nothing copied yet, size included), 3 marked out of sync."
+abbrev pub stateOf : ℕ → State
+stateOf zero = absent
+stateOf (suc zero) = own
+stateOf (suc (suc zero)) = virgin
+stateOf (suc (suc (suc n))) = marked
+
+abbrev pub stateNumber : State → ℕ
+stateNumber absent = 0
+stateNumber own = 1
+stateNumber virgin = 2
+stateNumber marked = 3
+
+-- "Kind: 0 unmapped, 1 hole, 2 stored; 3 is bad."
+abbrev pub entryOf : ℕ → ℕ → Entry ℕ
+entryOf zero block = unmapped
+entryOf (suc zero) block = hole
+entryOf (suc (suc n)) block = stored block
+
+abbrev pub kindNumber : Entry ℕ → ℕ
+kindNumber unmapped = 0
+kindNumber hole = 1
+kindNumber (stored b) = 2
+
+-- "The block is 0 unless stored."
+abbrev pub blockNumber : Entry ℕ → ℕ
+blockNumber unmapped = 0
+blockNumber hole = 0
+blockNumber (stored b) = b
+
+unfoldable pub readEntry : ℕ → Entry ℕ
+readEntry w = entryOf (getField entryWidths w 0) (getField entryWidths w 1)
+
+unfoldable pub writeEntry : Entry ℕ → ℕ
+writeEntry e = join entryWidths (kindNumber e ∷ blockNumber e ∷ [])
+
+unfoldable pub readState : ℕ → State
+readState w = stateOf (getField headWidths w 0)
+
+unfoldable pub readSize : ℕ → ℕ
+readSize w = getField headWidths w 1
+
+unfoldable pub writeHead : State → ℕ → ℕ
+writeHead l n = join headWidths (stateNumber l ∷ n ∷ 0 ∷ [])
+
+unfoldable pub readSet : ℕ → SetRecord
+readSet w = record {
+  used = isOne (getField setWidths w 0);
+  writeable = isOne (getField setWidths w 1);
+  level = getField setWidths w 2;
+  parent = getField setWidths w 3;
+  firstChild = getField setWidths w 4;
+  nextSibling = getField setWidths w 5;
+}
+
+unfoldable pub writeSet : SetRecord → ℕ
+writeSet r = join setWidths (digit (r .used) ∷ digit (r .writeable) ∷ r .level ∷ r .parent ∷ r .firstChild ∷ r .nextSibling ∷ 0 ∷ [])
+
+unfoldable pub readBlocks : ℕ → ℕ
+readBlocks w = getField headerWidths w 0
+
+unfoldable pub readNext : ℕ → ℕ
+readNext w = getField headerWidths w 1
+
+unfoldable pub writeHeader : ℕ → ℕ → ℕ
+writeHeader b n = join headerWidths (b ∷ n ∷ 0 ∷ [])

@@ -1,0 +1,1 @@
+// The layout of the packed tables, and what each call does to the bytes.

@@ -1,0 +1,41 @@
+//! Tells the build which calls of the library under comparison to link: the
+//! variable SWEEP_LIB names the folder of libsweep.a, SWEEP_CALLS the calls
+//! in it (a comma list; all ten when it is not set or empty).
+
+use std::env;
+
+const CALLS: [&str; 10] =
+    ["format", "create", "write", "read", "truncate", "delete", "make", "remove", "size", "free"];
+
+fn main() {
+    println!("cargo:rerun-if-changed=build.rs");
+    println!("cargo:rerun-if-env-changed=SWEEP_LIB");
+    println!("cargo:rerun-if-env-changed=SWEEP_CALLS");
+    println!("cargo:rustc-check-cfg=cfg(have_sweep)");
+    for call in CALLS {
+        println!("cargo:rustc-check-cfg=cfg(sweep_{call})");
+    }
+    let Ok(folder) = env::var("SWEEP_LIB") else { return };
+    if folder.is_empty() {
+        return;
+    }
+    println!("cargo:rerun-if-changed={folder}/libsweep.a");
+    println!("cargo:rustc-link-search=native={folder}");
+    println!("cargo:rustc-link-lib=static=sweep");
+    println!("cargo:rustc-cfg=have_sweep");
+    for call in wanted_calls() {
+        println!("cargo:rustc-cfg=sweep_{call}");
+    }
+}
+
+fn wanted_calls() -> Vec<String> {
+    let list = env::var("SWEEP_CALLS").unwrap_or_default();
+    if list.trim().is_empty() {
+        return CALLS.iter().map(|call| call.to_string()).collect();
+    }
+    let calls: Vec<String> = list.split(',').map(|call| call.trim().to_string()).collect();
+    for call in &calls {
+        assert!(CALLS.contains(&call.as_str()), "SWEEP_CALLS: unknown call '{call}'");
+    }
+    calls
+}

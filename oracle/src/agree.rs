@@ -1,0 +1,127 @@
+//! Whether tables and pages agree with plain store and tally, as "Demand 3"
+//! compares them.
+
+use crate::call::*;
+use crate::judge::Beside;
+use crate::state::*;
+use crate::store::read_bytes;
+use crate::tally::{Condition, TallyKind};
+
+/// Says the first disagreement. The state is well formed.
+pub fn agree(state: &State, pages: &[u8], beside: &Beside) -> Result<(), String> {
+    if state.free_blocks() != beside.tally.free {
+        return Err(format!(
+            "{} blocks free, {} by the tally",
+            state.free_blocks(),
+            beside.tally.free
+        ));
+    }
+    for set in 0..SETS {
+        agree_set(state, beside, set)?;
+        if state.sets[set].used {
+            for file in 0..FILES {
+                agree_file(state, pages, beside, set, file)?;
+            }
+        }
+    }
+    Ok(())
+}
+
+/// "Compared are each set's number, parent, level, writeability and children
+/// in order".
+fn agree_set(state: &State, beside: &Beside, set: usize) -> Result<(), String> {
+    let record = &state.sets[set];
+    let Some(plain) = &beside.plain.sets[set] else {
+        return if record.used { Err(format!("set {set} is used")) } else { Ok(()) };
+    };
+    let agrees = record.used
+        && record.parent == plain.parent.unwrap_or(NONE)
+        && record.level == plain.level
+        && record.writeable == plain.writeable
+        && state.children(set) == plain.children;
+    if agrees {
+        Ok(())
+    } else {
+        Err(format!("set {set} is {record:?}, by the plain store parent {:?}, level {}, writeable {}, children {:?}",
+            plain.parent, plain.level, plain.writeable, plain.children))
+    }
+}
+
+fn condition(state: FileState) -> Condition {
+    match state {
+        FileState::Absent => Condition::Absent,
+        FileState::Own => Condition::Own,
+        FileState::Virgin => Condition::Virgin,
+        FileState::Marked => Condition::Marked,
+    }
+}
+
+fn same_kind(kind: Kind, tally: TallyKind) -> bool {
+    matches!(
+        (kind, tally),
+        (Kind::Unmapped, TallyKind::Unmapped)
+            | (Kind::Hole, TallyKind::Hole)
+            | (Kind::Stored, TallyKind::Stored)
+    )
+}
+
+/// "which files are present; the size and bytes by reading of those not
+/// marked"; and states, sizes and kinds are the tally's.
+fn agree_file(
+    state: &State,
+    pages: &[u8],
+    beside: &Beside,
+    set: usize,
+    file: usize,
+) -> Result<(), String> {
+    let record = &state.files[set][file];
+    let tally = beside.tally.file(set, file);
+    let place = format!("set {set} file {file}");
+    if condition(record.state) != tally.condition {
+        return Err(format!("{place} is {:?}, by the tally {:?}", record.state, tally.condition));
+    }
+    if record.size != tally.size {
+        return Err(format!("{place} has size {}, by the tally {}", record.size, tally.size));
+    }
+    for page in 0..PAGES {
+        if !same_kind(record.entries[page].kind, tally.kinds[page]) {
+            return Err(format!(
+                "{place} page {page} is {:?}, by the tally {:?}",
+                record.entries[page].kind, tally.kinds[page]
+            ));
+        }
+    }
+    let plain = &beside.plain.set(set).files[file];
+    match plain {
+        None if record.is_present() => Err(format!("{place} is present")),
+        Some(_) if !record.is_present() => Err(format!("{place} is absent")),
+        Some(list) if record.state != FileState::Marked => {
+            agree_bytes(state, pages, set, file, list)
+        }
+        _ => Ok(()),
+    }
+}
+
+fn agree_bytes(
+    state: &State,
+    pages: &[u8],
+    set: usize,
+    file: usize,
+    list: &[u8],
+) -> Result<(), String> {
+    let size = state.size_by_reading(set, file);
+    if size != list.len() {
+        return Err(format!(
+            "set {set} file {file} reads with size {size}, by the plain store {}",
+            list.len()
+        ));
+    }
+    let mut bytes = vec![0; size];
+    read_bytes(state, pages, set, file, 0, &mut bytes);
+    if bytes == list {
+        return Ok(());
+    }
+    let at = (0..size).find(|at| bytes[*at] != list[*at]).expect("some byte differs");
+    let (found, wanted) = (bytes[at], list[at]);
+    Err(format!("set {set} file {file} byte {at} reads as {found}, by the plain store {wanted}"))
+}

@@ -1,0 +1,470 @@
+//! The program `compare`: runs the C library libsweep.a beside the oracle and
+//! compares answers and every byte. The library is linked when SWEEP_LIB (its
+//! folder) is set at build time; SWEEP_CALLS says which calls it has.
+
+use std::process::ExitCode;
+
+#[cfg(not(have_sweep))]
+fn main() -> ExitCode {
+    eprintln!("compare: built without a library to compare with.");
+    eprintln!("Set SWEEP_LIB to the folder of libsweep.a (and SWEEP_CALLS to its calls,");
+    eprintln!("for example read,size,free) and build again.");
+    ExitCode::from(2)
+}
+
+#[cfg(have_sweep)]
+fn main() -> ExitCode {
+    linked::main()
+}
+
+#[cfg(have_sweep)]
+mod sweep {
+    use oracle::bench::Other;
+    use oracle::call::{Answer, Call};
+
+    // A slice is a pointer, then a length. Only the calls that are linked are
+    // declared.
+    macro_rules! declare {
+        ($($when:meta, $name:ident($($argument:ident: $kind:ty),*);)*) => {
+            extern "C" {
+                $(#[cfg($when)]
+                fn $name($($argument: $kind),*) -> Answer;)*
+            }
+        };
+    }
+
+    declare! {
+        sweep_format, sweep_format(tables: *mut u8, t: usize, pages: *mut u8, p: usize);
+        sweep_create, sweep_create(tables: *mut u8, t: usize, pages: *mut u8, p: usize,
+            set: u32, file: u32);
+        sweep_write, sweep_write(tables: *mut u8, t: usize, pages: *mut u8, p: usize,
+            set: u32, file: u32, offset: u32, data: *const u8, d: usize);
+        sweep_read, sweep_read(tables: *const u8, t: usize, pages: *const u8, p: usize,
+            set: u32, file: u32, offset: u32, buffer: *mut u8, b: usize);
+        sweep_truncate, sweep_truncate(tables: *mut u8, t: usize, pages: *mut u8, p: usize,
+            set: u32, file: u32, size: u32);
+        sweep_delete, sweep_delete(tables: *mut u8, t: usize, pages: *mut u8, p: usize,
+            set: u32, file: u32);
+        sweep_make, sweep_make(tables: *mut u8, t: usize, pages: *mut u8, p: usize,
+            parent: u32, set: u32, writeable: u32);
+        sweep_remove, sweep_remove(tables: *mut u8, t: usize, pages: *mut u8, p: usize, set: u32);
+        sweep_size, sweep_size(tables: *const u8, t: usize, pages: *const u8, p: usize,
+            set: u32, file: u32);
+        sweep_free, sweep_free(tables: *const u8, t: usize, pages: *const u8, p: usize);
+    }
+
+    /// In the order of `CALL_NAMES`.
+    pub const LINKED: [bool; 10] = [
+        cfg!(sweep_format),
+        cfg!(sweep_create),
+        cfg!(sweep_write),
+        cfg!(sweep_read),
+        cfg!(sweep_truncate),
+        cfg!(sweep_delete),
+        cfg!(sweep_make),
+        cfg!(sweep_remove),
+        cfg!(sweep_size),
+        cfg!(sweep_free),
+    ];
+
+    /// The library.
+    pub struct Sweep;
+
+    impl Other for Sweep {
+        fn has(&self, index: usize) -> bool {
+            LINKED[index]
+        }
+
+        // With some calls not linked, their arguments are not used, and with
+        // all linked the last line is not reached.
+        #[allow(unused_variables, unreachable_patterns)]
+        fn run(
+            &mut self,
+            call: &Call,
+            tables: &mut [u8],
+            pages: &mut [u8],
+            bytes: &mut [u8],
+        ) -> Answer {
+            let (t, tables) = (tables.len(), tables.as_mut_ptr());
+            let (p, pages) = (pages.len(), pages.as_mut_ptr());
+            let (b, bytes) = (bytes.len(), bytes.as_mut_ptr());
+            // Sound as far as the library keeps to the slices it is given.
+            unsafe {
+                match *call {
+                    #[cfg(sweep_format)]
+                    Call::Format { .. } => sweep_format(tables, t, pages, p),
+                    #[cfg(sweep_create)]
+                    Call::Create { set, file } => sweep_create(tables, t, pages, p, set, file),
+                    #[cfg(sweep_write)]
+                    Call::Write { set, file, offset, .. } => {
+                        sweep_write(tables, t, pages, p, set, file, offset, bytes, b)
+                    }
+                    #[cfg(sweep_read)]
+                    Call::Read { set, file, offset, .. } => {
+                        sweep_read(tables, t, pages, p, set, file, offset, bytes, b)
+                    }
+                    #[cfg(sweep_truncate)]
+                    Call::Truncate { set, file, size } => {
+                        sweep_truncate(tables, t, pages, p, set, file, size)
+                    }
+                    #[cfg(sweep_delete)]
+                    Call::Delete { set, file } => sweep_delete(tables, t, pages, p, set, file),
+                    #[cfg(sweep_make)]
+                    Call::Make { parent, set, writeable } => {
+                        sweep_make(tables, t, pages, p, parent, set, writeable)
+                    }
+                    #[cfg(sweep_remove)]
+                    Call::Remove { set } => sweep_remove(tables, t, pages, p, set),
+                    #[cfg(sweep_size)]
+                    Call::Size { set, file } => sweep_size(tables, t, pages, p, set, file),
+                    #[cfg(sweep_free)]
+                    Call::Free => sweep_free(tables, t, pages, p),
+                    _ => unreachable!("the call is not linked"),
+                }
+            }
+        }
+    }
+}
+
+#[cfg(have_sweep)]
+mod linked {
+    use super::sweep::{Sweep, LINKED};
+    use super::ExitCode;
+    use oracle::bench::{replay, report, Bench, Counts};
+    use oracle::call::*;
+    use oracle::check::{check_all, Rule};
+    use oracle::gen::{self, Made};
+    use oracle::history::{any_history, Failure};
+    use oracle::rng::Rng;
+    use oracle::state::State;
+    use std::fs::File;
+    use std::io::{Seek, Write};
+    use std::time::{Duration, Instant};
+
+    const HELP: &str = "\
+usage:
+  compare SEED SECONDS [TRACE-FILE]  wrong lengths, damaged tables and random histories;
+                                     the script in hand is kept in TRACE-FILE, for a
+                                     library that ends the program
+  compare replay FILE                run the script in FILE
+  compare help                       this text
+exit status: 0 no difference, 1 a difference, 2 bad usage
+";
+
+    /// "each elementary rule broken at least 100 times"
+    const DAMAGES_OF_EACH_RULE: u64 = 100;
+    const STATES: usize = 60;
+    const LENGTH_ROUNDS: usize = 15;
+
+    pub fn main() -> ExitCode {
+        let arguments: Vec<String> = std::env::args().skip(1).collect();
+        let words: Vec<&str> = arguments.iter().map(String::as_str).collect();
+        let outcome = match words.as_slice() {
+            ["help" | "--help" | "-h"] => {
+                print!("{HELP}");
+                Ok(true)
+            }
+            ["replay", file] => run_script(file),
+            [seed, seconds] => compare(seed, seconds, None),
+            [seed, seconds, trace] => compare(seed, seconds, Some(trace)),
+            _ => Err("bad arguments".to_string()),
+        };
+        match outcome {
+            Ok(true) => ExitCode::SUCCESS,
+            Ok(false) => ExitCode::from(1),
+            Err(text) => {
+                eprintln!("compare: {text} ('compare help' shows the usage)");
+                ExitCode::from(2)
+            }
+        }
+    }
+
+    fn number(word: &str) -> Result<u64, String> {
+        word.parse().map_err(|_| format!("'{word}' is not a number in range"))
+    }
+
+    fn run_script(file: &str) -> Result<bool, String> {
+        let text = std::fs::read_to_string(file).map_err(|e| format!("cannot read {file}: {e}"))?;
+        let script = Item::parse_script(&text)?;
+        match replay(&script, &mut Sweep) {
+            None => {
+                println!("compare: ok");
+                Ok(true)
+            }
+            Some((place, text)) => {
+                println!("line {} ({}): {text}", place + 1, script[place]);
+                Ok(false)
+            }
+        }
+    }
+
+    /// Keeps the script in hand in a file, if one was asked for.
+    struct Trace(Option<File>);
+
+    impl Trace {
+        fn restart(&mut self) {
+            if let Some(file) = &mut self.0 {
+                let cut = file.set_len(0).and_then(|_| file.rewind());
+                cut.expect("the trace file can be cut");
+            }
+        }
+
+        fn line(&mut self, item: &Item) {
+            if let Some(file) = &mut self.0 {
+                writeln!(file, "{item}").expect("the trace file can be written");
+            }
+        }
+    }
+
+    fn compare(seed: &str, seconds: &str, trace: Option<&str>) -> Result<bool, String> {
+        let (seed, seconds) = (number(seed)?, number(seconds)?);
+        let file = match trace {
+            None => None,
+            Some(name) => {
+                Some(File::create(name).map_err(|error| format!("cannot write {name}: {error}"))?)
+            }
+        };
+        println!("seed {seed}, {seconds} seconds");
+        let names: Vec<&str> =
+            CALL_NAMES.iter().zip(LINKED).filter(|call| call.1).map(|call| *call.0).collect();
+        println!("linked: {}", names.join(","));
+        let mut run = Run {
+            rng: Rng::new(seed),
+            counts: Counts::default(),
+            states: Vec::new(),
+            histories: 0,
+            twists: 0,
+            trace: Trace(file),
+        };
+        let outcome = run.all(Duration::from_secs(seconds));
+        run.show();
+        match outcome {
+            Ok(()) => println!("compare: ok"),
+            Err(ref failure) => {
+                println!("compare: DIFFERENCE: {}", failure.text);
+                println!("shortened: {}", report(&failure.script, &mut Sweep));
+            }
+        }
+        Ok(outcome.is_ok())
+    }
+
+    struct Run {
+        rng: Rng,
+        counts: Counts,
+        /// Well-formed states to damage.
+        states: Vec<Made>,
+        histories: u64,
+        twists: u64,
+        trace: Trace,
+    }
+
+    type Outcome = Result<(), Failure>;
+
+    impl Run {
+        fn all(&mut self, time: Duration) -> Outcome {
+            let start = Instant::now();
+            self.states = (0..STATES).map(|_| gen::made(&mut self.rng)).collect();
+            for _ in 0..LENGTH_ROUNDS {
+                self.wrong_lengths()?;
+            }
+            for rule in Rule::ALL {
+                while self.damages_of(*rule) < DAMAGES_OF_EACH_RULE {
+                    self.damaged(Some(*rule))?;
+                }
+            }
+            while self.histories < 20 || start.elapsed() < time {
+                self.history()?;
+                for _ in 0..5 {
+                    self.damaged(None)?;
+                    self.twisted()?;
+                }
+                if self.rng.percent(10) {
+                    self.new_state();
+                    self.wrong_lengths()?;
+                }
+            }
+            Ok(())
+        }
+
+        fn damages_of(&self, rule: Rule) -> u64 {
+            self.counts.damages.get(&rule).copied().unwrap_or(0)
+        }
+
+        fn new_state(&mut self) {
+            let place = self.rng.below(STATES);
+            self.states[place] = gen::made(&mut self.rng);
+        }
+
+        /// (a) A whole random history.
+        fn history(&mut self) -> Outcome {
+            let seed = self.rng.word();
+            self.histories += 1;
+            self.trace.restart();
+            let trace = &mut self.trace;
+            any_history(seed, &mut Sweep, &mut self.counts, &mut |item| trace.line(item))
+        }
+
+        /// (b) Damaged tables: every linked call on them.
+        fn damaged(&mut self, rule: Option<Rule>) -> Outcome {
+            let made = self.rng.pick(&self.states);
+            let mut tables = made.tables.clone();
+            match rule {
+                Some(rule) if !gen::damage_rule(&mut self.rng, &mut tables, rule) => {
+                    // No place for this damage here: another state comes.
+                    if self.rng.percent(5) {
+                        self.new_state();
+                    }
+                    return Ok(());
+                }
+                Some(_) => {}
+                None => {
+                    self.counts.flips +=
+                        u64::from(gen::damage(&mut self.rng, &mut tables).is_none())
+                }
+            }
+            let mut broken: Vec<Rule> =
+                check_all(&tables, made.pages.len()).iter().map(|broken| broken.rule).collect();
+            broken.sort();
+            broken.dedup();
+            for rule in broken {
+                *self.counts.damages.entry(rule).or_default() += 1;
+            }
+            let mut script: Vec<Item> = made.calls.iter().cloned().map(Item::Call).collect();
+            script.extend(pokes(&made.tables, &tables));
+            let mut bench = Bench::with(tables, made.pages.clone());
+            // A block count out of range, but as many pages.
+            if rule == Some(Rule::BlockCount) && self.rng.percent(50) {
+                let length = State::unpack(&bench.tables).block_count * PAGE_BYTES;
+                self.do_item(&mut bench, &mut script, Item::Pages { length })?;
+            }
+            let calls = self.calls(&made);
+            self.calls_on(bench, script, calls)
+        }
+
+        /// Well-formed stores that no history need reach: some linked calls on
+        /// each.
+        fn twisted(&mut self) -> Outcome {
+            let made = self.rng.pick(&self.states);
+            let (mut tables, mut pages) = (made.tables.clone(), made.pages.clone());
+            gen::twist(&mut self.rng, &mut tables, &mut pages);
+            self.twists += 1;
+            let mut script: Vec<Item> = made.calls.iter().cloned().map(Item::Call).collect();
+            script.extend(pokes(&made.tables, &tables));
+            let changed = (0..pages.len()).filter(|at| pages[*at] != made.pages[*at]);
+            script.extend(changed.map(|at| Item::PokePage { at, value: pages[at] }));
+            let mut calls = Vec::new();
+            for _ in 0..3 {
+                calls.extend(self.calls(&made));
+                calls.retain(|call| !matches!(call, Call::Format { .. }));
+            }
+            self.calls_on(Bench::with(tables, pages), script, calls)
+        }
+
+        /// One call of each linked kind, format last, with numbers in range
+        /// and out of it.
+        fn calls(&mut self, made: &Made) -> Vec<Call> {
+            let mut style = made.style.clone();
+            style.wild = self.rng.pick(&[0, 0, 10, 50, 100]);
+            let linked = (1..10).chain([0]).filter(|index| LINKED[*index]);
+            linked.map(|index| gen::call_of(&mut self.rng, &style, &made.beside, index)).collect()
+        }
+
+        /// (c) Wrong lengths of tables and pages, and the largest numbers.
+        fn wrong_lengths(&mut self) -> Outcome {
+            let made = self.rng.pick(&self.states);
+            let right = made.pages.len();
+            let tables = [TABLES_BYTES, 0, 1, TABLES_BYTES - 1, TABLES_BYTES + 1, 100_000];
+            let pages = [right, 0, 1, right - 1, right + 1, right - 512, right + 512, 3_000_000];
+            let mut pairs: Vec<(usize, usize)> = tables.iter().map(|t| (*t, right)).collect();
+            pairs.extend(pages.iter().map(|p| (TABLES_BYTES, *p)));
+            pairs.push((self.rng.pick(&tables), self.rng.pick(&pages)));
+            for (tables_length, pages_length) in pairs {
+                let mut script: Vec<Item> = made.calls.iter().cloned().map(Item::Call).collect();
+                let mut bench = Bench::with(made.tables.clone(), made.pages.clone());
+                bench.beside = Some(made.beside.clone());
+                for item in
+                    [Item::Tables { length: tables_length }, Item::Pages { length: pages_length }]
+                {
+                    if (tables_length, pages_length) != (TABLES_BYTES, right) {
+                        self.do_item(&mut bench, &mut script, item)?;
+                    }
+                }
+                let mut calls = self.calls(&made);
+                calls.extend(self.calls(&made));
+                if LINKED[0] {
+                    calls.push(Call::Format { pages_length });
+                }
+                self.calls_on(bench, script, calls)?;
+            }
+            Ok(())
+        }
+
+        fn calls_on(
+            &mut self,
+            mut bench: Bench,
+            mut script: Vec<Item>,
+            calls: Vec<Call>,
+        ) -> Outcome {
+            self.trace.restart();
+            for item in &script {
+                self.trace.line(item);
+            }
+            for call in calls {
+                self.do_item(&mut bench, &mut script, Item::Call(call))?;
+            }
+            Ok(())
+        }
+
+        fn do_item(&mut self, bench: &mut Bench, script: &mut Vec<Item>, item: Item) -> Outcome {
+            self.trace.line(&item);
+            script.push(item.clone());
+            std::mem::swap(&mut bench.counts, &mut self.counts);
+            let outcome = bench.step(&item, &mut Sweep);
+            std::mem::swap(&mut bench.counts, &mut self.counts);
+            match outcome {
+                Ok(_) => Ok(()),
+                Err(text) => Err(Failure { text, script: script.clone() }),
+            }
+        }
+
+        fn show(&self) {
+            let counts = &self.counts;
+            println!(
+                "histories {}, well-formed stores changed by hand {}",
+                self.histories, self.twists
+            );
+            for (index, name) in CALL_NAMES.iter().enumerate() {
+                println!(
+                    "calls {name} {}, of the library {}",
+                    counts.calls[index], counts.linked[index]
+                );
+            }
+            for (number, calls) in counts.numbers.iter().enumerate() {
+                println!("number {number} {calls}");
+            }
+            println!("copies {}, files marked {}", counts.copies, counts.files_marked);
+            for rule in Rule::ALL {
+                println!("damage {} {}", rule.name(), self.damages_of(*rule));
+            }
+            println!("damages by random bit flips {}", counts.flips);
+            println!(
+                "reads with the oracle's maps looked at {}, with other {}",
+                counts.maps_same, counts.maps_differ
+            );
+        }
+    }
+
+    /// The lines that make one table of another.
+    fn pokes(before: &[u8], after: &[u8]) -> Vec<Item> {
+        let mut items = Vec::new();
+        if before.len() != after.len() {
+            items.push(Item::Tables { length: after.len() });
+        }
+        for (at, value) in after.iter().enumerate() {
+            if before.get(at).copied().unwrap_or(0) != *value {
+                items.push(Item::Poke { at, value: *value });
+            }
+        }
+        items
+    }
+}

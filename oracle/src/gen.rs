@@ -1,0 +1,949 @@
+//! Random calls, histories, well-formed states and damages.
+
+use crate::call::*;
+use crate::check::{check_state, Rule};
+use crate::judge::Beside;
+use crate::maps::Resolved;
+use crate::rng::Rng;
+use crate::state::*;
+use crate::store;
+use crate::tally::{Condition, TallyKind};
+
+/// What a history is fond of.
+#[derive(Clone, Debug)]
+pub struct Style {
+    pub block_count: usize,
+    /// File numbers used most.
+    pub files: Vec<u32>,
+    /// Pages where writes mostly begin.
+    pub pages: Vec<usize>,
+    /// Percent of sets made from the deepest set.
+    pub deep: usize,
+    /// Percent of arguments out of range.
+    pub wild: usize,
+    /// How often each call of `CALL_NAMES` comes.
+    pub weights: [usize; 10],
+    /// Percent of writes of several pages.
+    pub long: usize,
+}
+
+/// Calls that begin a history, and the style of those that follow.
+pub struct Start {
+    pub style: Style,
+    pub calls: Vec<Call>,
+}
+
+/// A store's size: mostly 1 to 12 blocks, sometimes 64, seldom 4,096.
+pub fn block_count(rng: &mut Rng) -> usize {
+    match rng.below(100) {
+        0..=71 => rng.between(1, 12),
+        72..=97 => 64,
+        _ => MOST_BLOCKS,
+    }
+}
+
+fn style(rng: &mut Rng, block_count: usize) -> Style {
+    let fond_files = rng.between(1, 3);
+    let fond_pages = rng.between(1, 4);
+    //                format create write read trunc delete make remove size free
+    let weights = rng.pick(&[
+        [1, 30, 220, 60, 80, 30, 110, 40, 15, 10],
+        [1, 40, 160, 40, 120, 50, 90, 40, 10, 10],
+        [2, 30, 150, 60, 60, 30, 200, 60, 20, 10],
+        [0, 60, 250, 20, 60, 70, 80, 20, 5, 5],
+    ]);
+    Style {
+        block_count,
+        files: (0..fond_files).map(|_| rng.below(FILES) as u32).collect(),
+        pages: (0..fond_pages).map(|_| rng.pick(&[0, 0, 0, 1, 1, 2, 3, 31, 62, 63])).collect(),
+        deep: rng.pick(&[0, 30, 60, 90]),
+        wild: rng.pick(&[0, 2, 5, 12]),
+        weights,
+        long: rng.pick(&[5, 20, 60]),
+    }
+}
+
+/// A format and, in larger stores, often calls that fill them nearly.
+pub fn start(rng: &mut Rng, block_count: usize) -> Start {
+    let style = style(rng, block_count);
+    let mut calls = vec![Call::Format { pages_length: block_count * PAGE_BYTES }];
+    if block_count > 12 && rng.percent(75) {
+        calls.extend(fill_calls(rng, block_count));
+    }
+    Start { style, calls }
+}
+
+/// Calls that leave few blocks free: full files, in set 0 and in sets made
+/// from it while it was empty.
+fn fill_calls(rng: &mut Rng, block_count: usize) -> Vec<Call> {
+    let mut calls = Vec::new();
+    let sets = block_count.div_ceil(FILES * PAGES);
+    for set in 1..sets as u32 {
+        calls.push(Call::Make { parent: 0, set, writeable: 1 });
+    }
+    let mut left = block_count - rng.below(6);
+    let places = (0..sets * FILES).map(|place| ((place / FILES) as u32, (place % FILES) as u32));
+    for (set, file) in places {
+        if left == 0 {
+            break;
+        }
+        let pages = left.min(PAGES);
+        left -= pages;
+        calls.push(Call::Create { set, file });
+        let seed = rng.word() as u32;
+        calls.push(Call::Write { set, file, offset: 0, length: pages * PAGE_BYTES, seed });
+    }
+    calls
+}
+
+const WILD_SETS: [u32; 8] = [8, 9, 15, 16, 255, 256, 65_536, u32::MAX];
+const WILD_FILES: [u32; 7] = [16, 17, 31, 255, 256, 1 << 20, u32::MAX];
+const WILD_PLACES: [u32; 9] =
+    [32_767, 32_768, 32_769, 33_000, 65_535, 65_536, 1 << 31, u32::MAX - 511, u32::MAX];
+
+fn used_sets(beside: &Beside) -> Vec<u32> {
+    (0..SETS as u32).filter(|set| beside.plain.sets[*set as usize].is_some()).collect()
+}
+
+fn present_files(beside: &Beside) -> Vec<(u32, u32)> {
+    let mut list = Vec::new();
+    for set in used_sets(beside) {
+        for file in 0..FILES as u32 {
+            if beside.plain.set(set as usize).files[file as usize].is_some() {
+                list.push((set, file));
+            }
+        }
+    }
+    list
+}
+
+/// Files that a call can change: not marked, in a writeable set.
+fn changeable_files(beside: &Beside) -> Vec<(u32, u32)> {
+    present_files(beside)
+        .into_iter()
+        .filter(|(set, file)| {
+            beside.plain.set(*set as usize).writeable
+                && beside.tally.file(*set as usize, *file as usize).condition != Condition::Marked
+        })
+        .collect()
+}
+
+fn any_set(rng: &mut Rng, style: &Style, beside: &Beside) -> u32 {
+    if rng.percent(style.wild) {
+        if rng.percent(50) {
+            rng.pick(&WILD_SETS)
+        } else {
+            rng.below(SETS) as u32
+        }
+    } else {
+        rng.pick(&used_sets(beside))
+    }
+}
+
+fn any_file(rng: &mut Rng, style: &Style) -> u32 {
+    if rng.percent(style.wild) {
+        rng.pick(&WILD_FILES)
+    } else if rng.percent(5) {
+        rng.below(FILES) as u32
+    } else {
+        rng.pick(&style.files)
+    }
+}
+
+/// The pages stored in a file's own map that a child needs: changing them
+/// takes copies, or marks.
+fn needed_pages(beside: &Beside, set: u32, file: u32) -> Vec<usize> {
+    let tally = &beside.tally;
+    let kinds = &tally.file(set as usize, file as usize).kinds;
+    let children = &tally.set(set as usize).children;
+    let needs = |child: usize, page: usize| {
+        let record = tally.file(child, file as usize);
+        matches!(record.condition, Condition::Own | Condition::Virgin)
+            && record.kinds[page] == TallyKind::Unmapped
+    };
+    (0..PAGES)
+        .filter(|page| kinds[*page] == TallyKind::Stored)
+        .filter(|page| children.iter().any(|child| needs(*child, *page)))
+        .collect()
+}
+
+/// A set and a file of it: mostly one that the call can work on, often one
+/// whose children need its pages.
+fn target(rng: &mut Rng, style: &Style, beside: &Beside) -> (u32, u32) {
+    let mut list = if rng.percent(85) { changeable_files(beside) } else { present_files(beside) };
+    if rng.percent(50) {
+        prefer(&mut list, |(set, file)| !needed_pages(beside, set, file).is_empty());
+    }
+    if rng.percent(85) {
+        prefer(&mut list, |(_, file)| style.files.contains(&file));
+    }
+    match rng.pick_any(&list) {
+        Some(target) if !rng.percent(style.wild) => target,
+        _ => (any_set(rng, style, beside), any_file(rng, style)),
+    }
+}
+
+/// Keeps those for which the condition holds, if there are any.
+fn prefer(list: &mut Vec<(u32, u32)>, holds: impl Fn((u32, u32)) -> bool) {
+    if list.iter().any(|target| holds(*target)) {
+        list.retain(|target| holds(*target));
+    }
+}
+
+/// The size by reading of a file, if there is one.
+fn size_of(beside: &Beside, set: u32, file: u32) -> usize {
+    let list = beside.plain.sets.get(set as usize).and_then(Option::as_ref);
+    let list = list.and_then(|set| set.files.get(file as usize)).and_then(Option::as_ref);
+    list.map_or(0, Vec::len)
+}
+
+/// An offset or a size.
+fn place(rng: &mut Rng, style: &Style, size: usize) -> u32 {
+    if rng.percent(style.wild) {
+        return rng.pick(&WILD_PLACES);
+    }
+    let near_size =
+        [size, size.saturating_sub(1), size + 1, size / 512 * 512, size / 2, size + 700];
+    let chosen = match rng.below(10) {
+        0..=6 => {
+            let within = rng.below(512);
+            rng.pick(&style.pages) * 512 + rng.pick(&[0, 0, 0, 1, 100, 511, within])
+        }
+        7 | 8 => rng.pick(&near_size),
+        _ => rng.below(LARGEST_SIZE + 1),
+    };
+    chosen.min(LARGEST_SIZE) as u32
+}
+
+fn length(rng: &mut Rng, style: &Style, offset: u32) -> usize {
+    let room = LARGEST_SIZE.saturating_sub(offset as usize);
+    if rng.percent(style.wild) {
+        return rng.pick(&[0, room, room + 1, 32_768, 32_769, 70_000]);
+    }
+    let chosen = if rng.percent(style.long) {
+        rng.pick(&[1_023, 1_024, 1_025, 1_536, 2_048, 3_000, 5_000])
+    } else {
+        rng.pick(&[0, 1, 1, 1, 2, 100, 511, 512, 513])
+    };
+    let random = rng.between(1, 600);
+    rng.pick(&[chosen, chosen, chosen, random]).min(room)
+}
+
+fn data_seed(rng: &mut Rng) -> u32 {
+    if rng.percent(8) {
+        0
+    } else {
+        rng.between(1, 1_000_000) as u32
+    }
+}
+
+/// A random call for the store as plain store and tally know it.
+pub fn call(rng: &mut Rng, style: &Style, beside: &Beside) -> Call {
+    let total: usize = style.weights.iter().sum();
+    let mut left = rng.below(total);
+    let mut index = 0;
+    while left >= style.weights[index] {
+        left -= style.weights[index];
+        index += 1;
+    }
+    // Without files most calls say little, so create one.
+    if (2..=5).contains(&index) && changeable_files(beside).is_empty() && rng.percent(80) {
+        index = 1;
+    }
+    // With every set used, make room for making more.
+    if index == 6 && used_sets(beside).len() == SETS && rng.percent(80) {
+        index = 7;
+    }
+    call_of(rng, style, beside, index)
+}
+
+/// A random call of the kind at this place in `CALL_NAMES`.
+pub fn call_of(rng: &mut Rng, style: &Style, beside: &Beside, index: usize) -> Call {
+    match index {
+        0 => Call::Format { pages_length: format_length(rng, style) },
+        1 => {
+            let (set, file) = (any_set(rng, style, beside), any_file(rng, style));
+            Call::Create { set, file }
+        }
+        6 => make_call(rng, style, beside),
+        7 => remove_call(rng, style, beside),
+        9 => Call::Free,
+        _ => {
+            let (set, file) = target(rng, style, beside);
+            let size = size_of(beside, set, file);
+            let mut offset = place(rng, style, size);
+            if let Some(page) = stored_page(rng, beside, set, file) {
+                offset = (page * PAGE_BYTES + rng.pick(&[0, 0, 1, 300, 511])) as u32;
+            }
+            file_call(rng, style, index, (set, file), offset, size)
+        }
+    }
+}
+
+/// Sometimes a page stored in the file's own map, if it has one: a write
+/// there needs no own block, but its children may need copies.
+fn stored_page(rng: &mut Rng, beside: &Beside, set: u32, file: u32) -> Option<usize> {
+    if size_of(beside, set, file) == 0 || !rng.percent(45) {
+        return None;
+    }
+    if let Some(page) = rng.pick_any(&needed_pages(beside, set, file)) {
+        return Some(page);
+    }
+    let kinds = &beside.tally.file(set as usize, file as usize).kinds;
+    let stored: Vec<usize> = (0..PAGES).filter(|page| kinds[*page] == TallyKind::Stored).collect();
+    rng.pick_any(&stored)
+}
+
+fn file_call(
+    rng: &mut Rng,
+    style: &Style,
+    index: usize,
+    (set, file): (u32, u32),
+    offset: u32,
+    size: usize,
+) -> Call {
+    match index {
+        2 => {
+            let (length, seed) = (length(rng, style, offset), data_seed(rng));
+            Call::Write { set, file, offset, length, seed }
+        }
+        3 => {
+            let length = rng.pick(&[0, 1, 511, 512, 513, 1_024, 2_000, 40_000]);
+            Call::Read { set, file, offset, length }
+        }
+        4 => {
+            let size = if rng.percent(40) { shorter(rng, size) } else { offset };
+            Call::Truncate { set, file, size }
+        }
+        5 => Call::Delete { set, file },
+        _ => Call::Size { set, file },
+    }
+}
+
+/// A size below this one, if it is not 0.
+fn shorter(rng: &mut Rng, size: usize) -> u32 {
+    let random = rng.below(size + 1);
+    let page = random / 512 * 512;
+    rng.pick(&[0, random, random, page, size.saturating_sub(1), size.saturating_sub(512)]) as u32
+}
+
+fn format_length(rng: &mut Rng, style: &Style) -> usize {
+    if rng.percent(50) {
+        rng.pick(&[0, 1, 511, 513, 1_000, 2_097_151, 2_097_153, 2_097_152 + 512])
+    } else if rng.percent(80) {
+        style.block_count * PAGE_BYTES
+    } else {
+        rng.between(1, 12) * PAGE_BYTES
+    }
+}
+
+fn make_call(rng: &mut Rng, style: &Style, beside: &Beside) -> Call {
+    let deepest = used_sets(beside)
+        .into_iter()
+        .max_by_key(|set| beside.plain.set(*set as usize).level)
+        .unwrap_or(0);
+    let parent = if rng.percent(style.deep) { deepest } else { any_set(rng, style, beside) };
+    let unused: Vec<u32> =
+        (0..SETS as u32).filter(|set| beside.plain.sets[*set as usize].is_none()).collect();
+    let set = match rng.pick_any(&unused) {
+        Some(set) if !rng.percent(style.wild + 2) => set,
+        _ if rng.percent(50) => rng.pick(&WILD_SETS),
+        _ => rng.below(SETS) as u32,
+    };
+    Call::Make { parent, set, writeable: rng.pick(&[0, 0, 1, 1, 1, 1, 2, 256, u32::MAX]) }
+}
+
+fn remove_call(rng: &mut Rng, style: &Style, beside: &Beside) -> Call {
+    let leaves: Vec<u32> = used_sets(beside)
+        .into_iter()
+        .filter(|set| *set != 0 && beside.plain.set(*set as usize).children.is_empty())
+        .collect();
+    let set = match rng.pick_any(&leaves) {
+        Some(set) if !rng.percent(style.wild + 10) => set,
+        _ => any_set(rng, style, beside),
+    };
+    Call::Remove { set }
+}
+
+/// A well-formed state with the calls that made it.
+#[derive(Clone)]
+pub struct Made {
+    pub tables: Vec<u8>,
+    pub pages: Vec<u8>,
+    pub calls: Vec<Call>,
+    pub beside: Beside,
+    pub style: Style,
+}
+
+/// A random well-formed state, made by a random history from format on.
+pub fn made(rng: &mut Rng) -> Made {
+    let blocks = block_count(rng);
+    let length = rng.between(10, 90);
+    made_of(rng, blocks, length)
+}
+
+/// A random well-formed state of this many blocks, after this many calls.
+pub fn made_of(rng: &mut Rng, block_count: usize, length: usize) -> Made {
+    let start = start(rng, block_count);
+    let mut made = Made {
+        tables: vec![0; TABLES_BYTES],
+        pages: vec![0; block_count * PAGE_BYTES],
+        calls: Vec::new(),
+        beside: Beside::format(block_count),
+        style: start.style,
+    };
+    // Calls that only look, and later formats, add nothing to a state.
+    for index in [0, 3, 8, 9] {
+        made.style.weights[index] = 0;
+    }
+    for call in start.calls {
+        made.run(call);
+    }
+    for _ in 0..length {
+        let call = call(rng, &made.style, &made.beside);
+        made.run(call);
+    }
+    made
+}
+
+impl Made {
+    fn run(&mut self, call: Call) {
+        let (answer, _) = self.beside.step(&call);
+        if answer.number != 0 {
+            return;
+        }
+        let mut bytes = match call {
+            Call::Write { length, seed, .. } => data_bytes(length, seed),
+            _ => Vec::new(),
+        };
+        store::run(&call, &mut self.tables, &mut self.pages, &mut bytes);
+        self.calls.push(call);
+    }
+}
+
+// Well-formed states that no history need reach.
+
+/// Changes a well-formed store in ways that keep it well formed, whether or
+/// not calls could bring it there: other page bytes and next starts, marked
+/// files with any map and size, other kinds, sizes and writeabilities.
+pub fn twist(rng: &mut Rng, tables: &mut [u8], pages: &mut [u8]) {
+    let mut state = State::unpack(tables);
+    for _ in 0..rng.between(1, 12) {
+        let mut changed = state.clone();
+        if twist_once(rng, &mut changed).is_some() && check_state(&changed, pages.len()).is_empty()
+        {
+            state = changed;
+        }
+    }
+    state.pack(tables);
+    for _ in 0..rng.below(12) {
+        let place = rng.below(pages.len());
+        pages[place] = rng.word() as u8;
+    }
+}
+
+fn twist_once(rng: &mut Rng, state: &mut State) -> Option<()> {
+    let present = files(state, |_, record| record.is_present());
+    let page = rng.below(PAGES);
+    match rng.below(8) {
+        0 => state.next_start = rng.below(state.block_count),
+        1 => {
+            let set = rng.pick_any(&sets(state, |set, record| set != 0 && record.used))?;
+            state.sets[set].writeable = !state.sets[set].writeable;
+        }
+        2 => {
+            let (set, file) = rng.pick_any(&present)?;
+            state.files[set][file].state = FileState::Marked;
+        }
+        3 => {
+            let (set, file) = rng.pick_any(&present)?;
+            let random = rng.below(LARGEST_SIZE + 1);
+            state.files[set][file].size = rng.pick(&[0, 512, LARGEST_SIZE, random, random]);
+        }
+        4 => {
+            // A marked file becomes own again.
+            let marked = files(state, |_, record| record.state == FileState::Marked);
+            let (set, file) = rng.pick_any(&marked)?;
+            state.files[set][file].state = FileState::Own;
+        }
+        _ => {
+            let (set, file) = rng.pick_any(&present)?;
+            let old = state.files[set][file].entries[page];
+            state.free_entry(old);
+            let block = free_block(rng, state)?;
+            let new = rng.pick(&[UNMAPPED, HOLE, stored(block)]);
+            if new.kind == Kind::Stored {
+                state.bits[block] = true;
+            }
+            state.files[set][file].entries[page] = new;
+        }
+    }
+    Some(())
+}
+
+// Damages.
+
+/// Breaks one rule of well-formed tables, or flips some bits. Gives the rule
+/// aimed at, if one was. Most damages to a rule break that rule alone.
+pub fn damage(rng: &mut Rng, tables: &mut Vec<u8>) -> Option<Rule> {
+    if rng.percent(80) {
+        let rule = rng.pick(Rule::ALL);
+        if damage_rule(rng, tables, rule) {
+            return Some(rule);
+        }
+    }
+    flip_bits(rng, tables);
+    None
+}
+
+/// Flips 1 to 8 bits, half of the time in the header, bitmap and set records.
+pub fn flip_bits(rng: &mut Rng, tables: &mut [u8]) {
+    let end = if rng.percent(50) { tables.len().min(540) } else { tables.len() };
+    for _ in 0..rng.between(1, 8) {
+        if end != 0 {
+            tables[rng.below(end)] ^= 1 << rng.below(8);
+        }
+    }
+}
+
+/// Damages well-formed tables so that this rule is broken; false if these
+/// tables offer no place for it.
+pub fn damage_rule(rng: &mut Rng, tables: &mut Vec<u8>, rule: Rule) -> bool {
+    if rule == Rule::TablesLength {
+        let length = rng.pick(&[0, 1, TABLES_BYTES - 1, TABLES_BYTES + 1, 2 * TABLES_BYTES]);
+        tables.resize(length, 0);
+        return true;
+    }
+    let mut state = State::unpack(tables);
+    let done = break_rule(rng, &mut state, rule).is_some();
+    if done {
+        state.pack(tables);
+    }
+    done
+}
+
+type Place = (usize, usize, usize);
+
+/// The entries of present files for which the condition holds.
+fn entries(state: &State, holds: impl Fn(&FileRecord, usize) -> bool) -> Vec<Place> {
+    let mut list = Vec::new();
+    for (set, file) in files(state, |_, record| record.is_present()) {
+        for page in 0..PAGES {
+            if holds(&state.files[set][file], page) {
+                list.push((set, file, page));
+            }
+        }
+    }
+    list
+}
+
+fn stored_entries(state: &State) -> Vec<Place> {
+    entries(state, |record, page| record.entries[page].kind == Kind::Stored)
+}
+
+fn entry_at(state: &mut State, place: Place) -> &mut Entry {
+    &mut state.files[place.0][place.1].entries[place.2]
+}
+
+/// The files for which the condition on set number and record holds.
+fn files(state: &State, holds: impl Fn(usize, &FileRecord) -> bool) -> Vec<(usize, usize)> {
+    let mut list = Vec::new();
+    for set in 0..SETS {
+        for file in 0..FILES {
+            if holds(set, &state.files[set][file]) {
+                list.push((set, file));
+            }
+        }
+    }
+    list
+}
+
+fn sets(state: &State, holds: impl Fn(usize, &SetRecord) -> bool) -> Vec<usize> {
+    (0..SETS).filter(|set| holds(*set, &state.sets[*set])).collect()
+}
+
+fn free_block(rng: &mut Rng, state: &State) -> Option<usize> {
+    let free: Vec<usize> = (0..state.block_count).filter(|block| !state.bits[*block]).collect();
+    rng.pick_any(&free)
+}
+
+/// Breaks a rule in a well-formed state; None if there is no place for it.
+fn break_rule(rng: &mut Rng, state: &mut State, rule: Rule) -> Option<()> {
+    match rule {
+        Rule::TablesLength => return None,
+        Rule::BlockCount => state.block_count = rng.pick(&[0, 0, 4_097, 4_098, 8_191]),
+        Rule::NextStart => break_next_start(rng, state)?,
+        Rule::PagesLength => break_pages_length(rng, state)?,
+        Rule::HeaderZero => state.header_zero = rng.between(1, 127),
+        Rule::SetZero => {
+            let set = rng.pick_any(&sets(state, |_, record| record.used))?;
+            state.sets[set].zero = rng.between(1, 127);
+        }
+        Rule::FileZero => {
+            let (set, file) = rng.pick_any(&files(state, |_, record| record.is_present()))?;
+            state.files[set][file].zero = rng.between(1, (1 << 14) - 1);
+        }
+        Rule::KindThree => break_kind(rng, state)?,
+        Rule::BlockNotStored => break_block_not_stored(rng, state)?,
+        Rule::UnusedSetNotZero => break_unused_set(rng, state)?,
+        Rule::AbsentFileNotZero => break_absent_file(rng, state)?,
+        Rule::UnusedSetHasFile => break_unused_set_has_file(rng, state)?,
+        Rule::BlockTooHigh => break_block_too_high(rng, state)?,
+        Rule::BlockNamedTwice => break_named_twice(rng, state)?,
+        Rule::BitWithoutEntry => {
+            let free: Vec<usize> = (0..MOST_BLOCKS).filter(|block| !state.bits[*block]).collect();
+            let near: Vec<usize> =
+                free.iter().copied().filter(|b| *b <= state.block_count).collect();
+            let list = if rng.percent(70) && !near.is_empty() { near } else { free };
+            state.bits[rng.pick_any(&list)?] = true;
+        }
+        Rule::EntryWithoutBit => {
+            let place = rng.pick_any(&stored_entries(state))?;
+            let block = entry_at(state, place).block;
+            state.bits[block] = false;
+        }
+        Rule::Set0NotUsed => {
+            state.sets[0].used = false;
+            if rng.percent(30) {
+                state.sets[0] = UNUSED_SET;
+            }
+        }
+        Rule::Set0NotWriteable => state.sets[0].writeable = false,
+        Rule::Set0Level => break_set_0_level(rng, state),
+        Rule::Set0Parent => state.sets[0].parent = other_link(rng, state),
+        Rule::Set0Sibling => state.sets[0].next_sibling = other_link(rng, state),
+        Rule::NoParent => {
+            let set = rng.pick_any(&sets(state, |set, record| set != 0 && record.used))?;
+            if rng.percent(70) {
+                skip_in_chain(state, set);
+            }
+            state.sets[set].parent = NONE;
+        }
+        Rule::NotOnceInChain => {
+            let set = rng.pick_any(&sets(state, |set, record| set != 0 && record.used))?;
+            skip_in_chain(state, set);
+        }
+        Rule::LevelWrong => {
+            let set = rng.pick_any(&sets(state, |set, record| set != 0 && record.used))?;
+            state.sets[set].level = (state.sets[set].level + rng.between(1, 5)) % 6;
+        }
+        Rule::LevelOver5 => break_level_over_5(rng, state)?,
+        Rule::ChainEndless => {
+            let parent = rng.pick_any(&sets(state, |_, r| r.used && r.first_child != NONE))?;
+            let chain = state.children(parent);
+            state.sets[*chain.last()?].next_sibling = rng.pick(&chain);
+        }
+        Rule::ChainForeign => break_chain_foreign(rng, state)?,
+        Rule::LinkBad => break_link(rng, state)?,
+        Rule::SizeOver => {
+            let list = files(state, |_, r| matches!(r.state, FileState::Own | FileState::Marked));
+            let (set, file) = rng.pick_any(&list)?;
+            let random = rng.between(32_769, 65_535);
+            state.files[set][file].size = rng.pick(&[32_769, 65_535, random]);
+        }
+        Rule::VirginSize => {
+            let list = files(state, |_, record| record.state == FileState::Virgin);
+            let (set, file) = rng.pick_any(&list)?;
+            state.files[set][file].size = rng.between(1, LARGEST_SIZE);
+        }
+        Rule::VirginMapped => break_virgin_mapped(rng, state)?,
+        Rule::Set0State => break_set_0_state(rng, state)?,
+        Rule::Set0Unmapped => {
+            let list = entries(state, |record, page| record.entries[page].kind == Kind::Hole);
+            let list: Vec<Place> = list.into_iter().filter(|place| place.0 == 0).collect();
+            let place = rng.pick_any(&list)?;
+            *entry_at(state, place) = UNMAPPED;
+        }
+        Rule::UnmappedNoParentFile => break_unmapped(rng, state)?,
+        Rule::PastSizeStored => break_past_size(rng, state)?,
+    }
+    Some(())
+}
+
+fn break_next_start(rng: &mut Rng, state: &mut State) -> Option<()> {
+    if state.block_count >= MOST_BLOCKS {
+        return None;
+    }
+    let random = rng.between(state.block_count, MOST_BLOCKS - 1);
+    state.next_start = rng.pick(&[state.block_count, MOST_BLOCKS - 1, random]);
+    Some(())
+}
+
+/// Another block count in range that no block and no next start denies.
+fn break_pages_length(rng: &mut Rng, state: &mut State) -> Option<()> {
+    let lowest = (0..MOST_BLOCKS).rev().find(|block| state.bits[*block]).map_or(0, |b| b + 1);
+    let lowest = lowest.max(state.next_start + 1);
+    let list: Vec<usize> = (lowest..=MOST_BLOCKS).filter(|c| *c != state.block_count).collect();
+    let near: Vec<usize> =
+        list.iter().copied().filter(|count| count.abs_diff(state.block_count) == 1).collect();
+    let list = if rng.percent(50) && !near.is_empty() { near } else { list };
+    state.block_count = rng.pick_any(&list)?;
+    Some(())
+}
+
+fn break_kind(rng: &mut Rng, state: &mut State) -> Option<()> {
+    let mapped = entries(state, |record, page| record.entries[page].kind == Kind::Hole);
+    let all = entries(state, |record, page| record.entries[page].kind != Kind::Stored);
+    let list = if rng.percent(80) && !mapped.is_empty() { mapped } else { all };
+    let place = rng.pick_any(&list)?;
+    entry_at(state, place).kind = Kind::Bad;
+    Some(())
+}
+
+fn break_block_not_stored(rng: &mut Rng, state: &mut State) -> Option<()> {
+    let list = entries(state, |record, page| record.entries[page].kind != Kind::Stored);
+    let place = rng.pick_any(&list)?;
+    let random = rng.between(1, (1 << 14) - 1);
+    entry_at(state, place).block = rng.pick(&[1, 4_095, (1 << 14) - 1, random]);
+    Some(())
+}
+
+fn break_unused_set(rng: &mut Rng, state: &mut State) -> Option<()> {
+    let set = rng.pick_any(&sets(state, |_, record| !record.used))?;
+    let record = &mut state.sets[set];
+    match rng.below(5) {
+        0 => record.writeable = true,
+        1 => record.level = rng.between(1, 7),
+        2 => record.parent = NONE,
+        3 => record.first_child = NONE,
+        _ => record.next_sibling = NONE,
+    }
+    Some(())
+}
+
+fn break_absent_file(rng: &mut Rng, state: &mut State) -> Option<()> {
+    let (set, file) = rng.pick_any(&files(state, |_, record| !record.is_present()))?;
+    let page = rng.below(PAGES);
+    let block = free_block(rng, state);
+    let record = &mut state.files[set][file];
+    match (rng.below(3), block) {
+        (0, _) => record.size = rng.between(1, LARGEST_SIZE),
+        (1, Some(block)) => {
+            record.entries[page] = stored(block);
+            state.bits[block] = true;
+        }
+        _ => record.entries[page] = HOLE,
+    }
+    Some(())
+}
+
+fn break_unused_set_has_file(rng: &mut Rng, state: &mut State) -> Option<()> {
+    let set = rng.pick_any(&sets(state, |_, record| !record.used))?;
+    let record = &mut state.files[set][rng.below(FILES)];
+    record.state = rng.pick(&[FileState::Own, FileState::Virgin, FileState::Marked]);
+    if record.state == FileState::Own {
+        record.entries = [HOLE; PAGES];
+    }
+    Some(())
+}
+
+fn break_block_too_high(rng: &mut Rng, state: &mut State) -> Option<()> {
+    let place = rng.pick_any(&stored_entries(state))?;
+    let random = rng.between(state.block_count, (1 << 14) - 1);
+    let high = rng.pick(&[state.block_count, MOST_BLOCKS, (1 << 14) - 1, random]);
+    let low = entry_at(state, place).block;
+    entry_at(state, place).block = high;
+    state.bits[low] = false;
+    if high < MOST_BLOCKS {
+        state.bits[high] = true;
+    }
+    Some(())
+}
+
+fn break_named_twice(rng: &mut Rng, state: &mut State) -> Option<()> {
+    let first = rng.pick_any(&stored_entries(state))?;
+    let block = entry_at(state, first).block;
+    let holes = entries(state, |record, page| {
+        record.entries[page].kind == Kind::Hole && page * PAGE_BYTES < record.size
+    });
+    let stored_list = stored_entries(state);
+    let list = if rng.percent(50) && !holes.is_empty() { holes } else { stored_list };
+    let list: Vec<Place> = list.into_iter().filter(|place| *place != first).collect();
+    let second = rng.pick_any(&list)?;
+    let before = *entry_at(state, second);
+    state.free_entry(before);
+    *entry_at(state, second) = stored(block);
+    Some(())
+}
+
+/// A link other than 8.
+fn other_link(rng: &mut Rng, state: &State) -> usize {
+    if rng.percent(80) {
+        rng.pick(&sets(state, |_, record| record.used))
+    } else {
+        rng.pick(&[1, 7, 9, 15])
+    }
+}
+
+/// Mostly all levels are raised alike, where the highest allows it.
+fn break_set_0_level(rng: &mut Rng, state: &mut State) {
+    let highest = state.sets.iter().map(|record| record.level).max().unwrap_or(0);
+    if highest < HIGHEST_LEVEL && rng.percent(70) {
+        let more = rng.between(1, HIGHEST_LEVEL - highest);
+        for record in state.sets.iter_mut().filter(|record| record.used) {
+            record.level += more;
+        }
+    } else {
+        state.sets[0].level = rng.between(1, 7);
+    }
+}
+
+/// The link that names a set becomes the link that it has.
+fn skip_in_chain(state: &mut State, set: usize) {
+    let after = state.sets[set].next_sibling;
+    let parent = state.sets[set].parent;
+    if state.sets[parent].first_child == set {
+        state.sets[parent].first_child = after;
+    }
+    for sibling in state.children(parent) {
+        if state.sets[sibling].next_sibling == set {
+            state.sets[sibling].next_sibling = after;
+        }
+    }
+}
+
+/// Sets below the deepest one down to level 6, where there are enough unused
+/// numbers, else a level that is wrong too.
+fn break_level_over_5(rng: &mut Rng, state: &mut State) -> Option<()> {
+    let mut parent =
+        *sets(state, |_, record| record.used).iter().max_by_key(|set| state.sets[**set].level)?;
+    let mut unused = sets(state, |_, record| !record.used);
+    if state.sets[parent].level + unused.len() > HIGHEST_LEVEL {
+        while state.sets[parent].level <= HIGHEST_LEVEL {
+            let set = unused.swap_remove(rng.below(unused.len()));
+            add_child(state, parent, set);
+            parent = set;
+        }
+        return Some(());
+    }
+    let set = rng.pick_any(&sets(state, |set, record| set != 0 && record.used))?;
+    state.sets[set].level = rng.between(6, 7);
+    Some(())
+}
+
+/// Adds a set without files as the last child, at any level.
+fn add_child(state: &mut State, parent: usize, set: usize) {
+    match state.children(parent).last() {
+        Some(last) => state.sets[*last].next_sibling = set,
+        None => state.sets[parent].first_child = set,
+    }
+    state.sets[set] = SetRecord {
+        used: true,
+        writeable: true,
+        level: state.sets[parent].level + 1,
+        parent,
+        first_child: NONE,
+        next_sibling: NONE,
+        zero: 0,
+    };
+}
+
+fn break_chain_foreign(rng: &mut Rng, state: &mut State) -> Option<()> {
+    let used = sets(state, |_, record| record.used);
+    let parent = rng.pick(&used);
+    let foreign: Vec<usize> =
+        used.into_iter().filter(|set| state.sets[*set].parent != parent).collect();
+    let set = rng.pick_any(&foreign)?;
+    match state.children(parent).last() {
+        Some(last) => state.sets[*last].next_sibling = set,
+        None => state.sets[parent].first_child = set,
+    }
+    Some(())
+}
+
+/// Mostly a link that was 8, so that no other rule breaks.
+fn break_link(rng: &mut Rng, state: &mut State) -> Option<()> {
+    let mut bad = sets(state, |_, record| !record.used);
+    bad.extend([9, 10, 15]);
+    let link = rng.pick(&bad);
+    let set = rng.pick_any(&sets(state, |_, record| record.used))?;
+    let keeps_others = rng.percent(70);
+    let record = &mut state.sets[set];
+    if record.first_child == NONE && rng.percent(50) {
+        record.first_child = link;
+    } else if record.next_sibling == NONE && set != 0 && keeps_others {
+        record.next_sibling = link;
+    } else if rng.percent(50) && set != 0 {
+        record.parent = link;
+    } else {
+        record.first_child = link;
+    }
+    Some(())
+}
+
+fn break_virgin_mapped(rng: &mut Rng, state: &mut State) -> Option<()> {
+    let list = files(state, |_, record| record.state == FileState::Virgin);
+    let (set, file) = rng.pick_any(&list)?;
+    let page = rng.below(PAGES);
+    let block = free_block(rng, state);
+    match block {
+        Some(block) if rng.percent(40) => {
+            state.bits[block] = true;
+            state.files[set][file].entries[page] = stored(block);
+        }
+        _ => state.files[set][file].entries[page] = HOLE,
+    }
+    Some(())
+}
+
+/// Marks a file of set 0, one that no child depends on if there is one.
+fn break_set_0_state(rng: &mut Rng, state: &mut State) -> Option<()> {
+    let present = files(state, |set, record| set == 0 && record.is_present());
+    let alone: Vec<(usize, usize)> = present
+        .iter()
+        .copied()
+        .filter(|(_, file)| {
+            state.children(0).iter().all(|child| {
+                let record = &state.files[*child][*file];
+                !record.is_own_or_virgin() || !record.has_unmapped()
+            })
+        })
+        .collect();
+    let list = if alone.is_empty() { present } else { alone };
+    let (set, file) = rng.pick_any(&list)?;
+    state.files[set][file].state =
+        rng.pick(&[FileState::Marked, FileState::Marked, FileState::Virgin]);
+    Some(())
+}
+
+/// An unmapped entry in a file whose parent's file is not own or virgin, or a
+/// parent's file taken away or marked under one that has such entries.
+fn break_unmapped(rng: &mut Rng, state: &mut State) -> Option<()> {
+    let lonely: Vec<(usize, usize)> = files(state, |set, record| {
+        set != 0 && record.state == FileState::Own && record.entries.contains(&HOLE)
+    })
+    .into_iter()
+    .filter(|(set, file)| !state.files[state.sets[*set].parent][*file].is_own_or_virgin())
+    .collect();
+    if let (Some((set, file)), true) = (rng.pick_any(&lonely), rng.percent(50)) {
+        let page = state.files[set][file].entries.iter().position(|entry| *entry == HOLE)?;
+        state.files[set][file].entries[page] = UNMAPPED;
+        return Some(());
+    }
+    let dependent = files(state, |set, r| set != 0 && r.is_own_or_virgin() && r.has_unmapped());
+    let (set, file) = rng.pick_any(&dependent)?;
+    let parent = state.sets[set].parent;
+    if parent != 0 && rng.percent(50) {
+        state.files[parent][file].state = FileState::Marked;
+    } else {
+        state.drop_file(parent, file);
+    }
+    Some(())
+}
+
+/// A size at or before a page that resolves to stored.
+fn break_past_size(rng: &mut Rng, state: &mut State) -> Option<()> {
+    let mut list = Vec::new();
+    for (set, file) in files(state, |_, record| record.state == FileState::Own) {
+        for page in 0..PAGES {
+            if state.resolve(set, file, page) != Resolved::Hole {
+                list.push((set, file, page));
+            }
+        }
+    }
+    let (set, file, page) = rng.pick_any(&list)?;
+    let at_most = page * PAGE_BYTES;
+    let random = rng.between(0, at_most);
+    state.files[set][file].size = rng.pick(&[at_most, at_most, random]);
+    Some(())
+}

@@ -1,0 +1,26 @@
+//! A second implementation of the sweep store, written from document 01 and
+//! the list of readings alone. Clarity goes before speed: each call unpacks
+//! the tables to a plain state, does the paper's steps, and packs.
+//!
+//! The words are those of document 01: set, file, page, block, own, virgin,
+//! marked, hole, stored, unmapped, next start, needs.
+
+// The remainder is what document 01 speaks of.
+#![allow(clippy::manual_is_multiple_of)]
+
+pub mod agree;
+pub mod bench;
+pub mod bits;
+pub mod call;
+pub mod check;
+pub mod gen;
+pub mod history;
+pub mod judge;
+pub mod maps;
+pub mod plain;
+pub mod rng;
+pub mod rows;
+pub mod session;
+pub mod state;
+pub mod store;
+pub mod tally;

@@ -1,0 +1,187 @@
+//! Maps and copying: resolving a page, taking a block, and the steps that
+//! write, truncate and delete have in common. All of it works on a state that
+//! is well formed.
+
+use crate::call::*;
+use crate::state::*;
+
+/// What a page resolves to.
+#[derive(Clone, Copy, PartialEq, Eq, Debug)]
+pub enum Resolved {
+    Hole,
+    Stored(usize),
+}
+
+/// A resolved page with the maps looked at on the way.
+pub struct Look {
+    pub resolved: Resolved,
+    pub maps: u32,
+}
+
+impl State {
+    /// "A stored page is its block. A hole is 512 zeros. In an own or virgin
+    /// file, an unmapped page is what the same page is in the parent set."
+    pub fn look(&self, set: usize, file: usize, page: usize) -> Look {
+        let entry = self.files[set][file].entries[page];
+        match entry.kind {
+            Kind::Stored => Look { resolved: Resolved::Stored(entry.block), maps: 1 },
+            Kind::Hole => Look { resolved: Resolved::Hole, maps: 1 },
+            Kind::Unmapped => {
+                let above = self.look(self.sets[set].parent, file, page);
+                Look { maps: above.maps + 1, ..above }
+            }
+            Kind::Bad => unreachable!("a well-formed state has no kind 3"),
+        }
+    }
+
+    pub fn resolve(&self, set: usize, file: usize, page: usize) -> Resolved {
+        self.look(set, file, page).resolved
+    }
+
+    /// "A virgin file has the size of the parent's."
+    pub fn size_by_reading(&self, set: usize, file: usize) -> usize {
+        match self.files[set][file].state {
+            FileState::Virgin => self.size_by_reading(self.sets[set].parent, file),
+            _ => self.files[set][file].size,
+        }
+    }
+
+    /// A set's children in order of making.
+    pub fn children(&self, set: usize) -> Vec<usize> {
+        let mut children = Vec::new();
+        let mut link = self.sets[set].first_child;
+        while link != NONE {
+            children.push(link);
+            link = self.sets[link].next_sibling;
+        }
+        children
+    }
+
+    pub fn free_blocks(&self) -> usize {
+        self.bits[..self.block_count].iter().filter(|used| !**used).count()
+    }
+
+    /// "Taking a block: the first free one from next start, going round; next
+    /// start then is that block plus one, modulo B." None if none is free.
+    pub fn take_block(&mut self) -> Option<usize> {
+        let count = self.block_count;
+        let block = (0..count)
+            .map(|step| (self.next_start + step) % count)
+            .find(|block| !self.bits[*block])?;
+        self.bits[block] = true;
+        self.next_start = (block + 1) % count;
+        Some(block)
+    }
+
+    /// Frees the block of an entry, if it is stored. "A freed block keeps its
+    /// bytes."
+    pub fn free_entry(&mut self, entry: Entry) {
+        if entry.kind == Kind::Stored {
+            self.bits[entry.block] = false;
+        }
+    }
+
+    /// Frees the blocks of a file and leaves it absent.
+    pub fn drop_file(&mut self, set: usize, file: usize) {
+        for entry in self.files[set][file].entries {
+            self.free_entry(entry);
+        }
+        self.files[set][file] = ABSENT_FILE;
+    }
+
+    /// "A child needs page p when its file is own or virgin and p is unmapped
+    /// there."
+    pub fn needs(&self, child: usize, file: usize, page: usize) -> bool {
+        let record = &self.files[child][file];
+        record.is_own_or_virgin() && record.entries[page].kind == Kind::Unmapped
+    }
+
+    /// Marks a file. "Marking a file marks every own or virgin file of its
+    /// number in a child set that has any unmapped page, and so on down."
+    /// Gives how many files were newly marked.
+    pub fn mark(&mut self, set: usize, file: usize) -> u32 {
+        self.files[set][file].state = FileState::Marked;
+        let mut marked = 1;
+        for child in self.children(set) {
+            let record = &self.files[child][file];
+            if record.is_own_or_virgin() && record.has_unmapped() {
+                marked += self.mark(child, file);
+            }
+        }
+        marked
+    }
+
+    /// Step 2 for one file: a virgin file "becomes own with the size it had
+    /// by reading".
+    pub fn virgin_to_own(&mut self, set: usize, file: usize) {
+        if self.files[set][file].state == FileState::Virgin {
+            self.files[set][file].size = self.size_by_reading(set, file);
+            self.files[set][file].state = FileState::Own;
+        }
+    }
+
+    /// Step 2 for "each virgin child".
+    pub fn virgin_children_to_own(&mut self, set: usize, file: usize) {
+        for child in self.children(set) {
+            self.virgin_to_own(child, file);
+        }
+    }
+
+    /// Step 2: "A virgin file, and each virgin child, becomes own with the
+    /// size it had by reading."
+    pub fn step_2(&mut self, set: usize, file: usize) {
+        self.virgin_to_own(set, file);
+        self.virgin_children_to_own(set, file);
+    }
+
+    /// Step 4: "For each touched page ascending, for each child in order of
+    /// making that needs it". Gives copies made and files newly marked.
+    pub fn step_4(
+        &mut self,
+        pages: &mut [u8],
+        set: usize,
+        file: usize,
+        touched: &[usize],
+    ) -> (u32, u32) {
+        let (mut copies, mut marked) = (0, 0);
+        for &page in touched {
+            for child in self.children(set) {
+                if !self.needs(child, file, page) {
+                    continue;
+                }
+                match self.resolve(set, file, page) {
+                    // "a page resolving to a hole becomes a hole there"
+                    Resolved::Hole => self.files[child][file].entries[page] = HOLE,
+                    // "One resolving to stored is copied to a block taken;
+                    // with none free, the child's file is marked."
+                    Resolved::Stored(source) => match self.take_block() {
+                        Some(block) => {
+                            copy_block(pages, source, block);
+                            self.files[child][file].entries[page] = stored(block);
+                            copies += 1;
+                        }
+                        None => marked += self.mark(child, file),
+                    },
+                }
+            }
+        }
+        (copies, marked)
+    }
+}
+
+/// The bytes of a block.
+pub fn block_range(block: usize) -> std::ops::Range<usize> {
+    block * PAGE_BYTES..(block + 1) * PAGE_BYTES
+}
+
+pub fn copy_block(pages: &mut [u8], source: usize, target: usize) {
+    pages.copy_within(block_range(source), target * PAGE_BYTES);
+}
+
+/// Gives a block the bytes that a resolved page has.
+pub fn carry_old_bytes(pages: &mut [u8], old: Resolved, target: usize) {
+    match old {
+        Resolved::Hole => pages[block_range(target)].fill(0),
+        Resolved::Stored(source) => copy_block(pages, source, target),
+    }
+}

@@ -1,0 +1,310 @@
+//! The tally of "Demand 3": it "does the same calls under the rules above
+//! with sets, states, sizes, kinds and a count of free blocks (B at format),
+//! but no block numbers or bytes". It has its own code for every step.
+
+use crate::call::{FILES, PAGES, PAGE_BYTES, SETS};
+
+#[derive(Clone, Copy, PartialEq, Eq, Debug)]
+pub enum TallyKind {
+    Unmapped,
+    Hole,
+    Stored,
+}
+
+use TallyKind::{Hole, Stored, Unmapped};
+
+#[derive(Clone, Copy, PartialEq, Eq, Debug)]
+pub enum Condition {
+    Absent,
+    Own,
+    Virgin,
+    Marked,
+}
+
+#[derive(Clone, PartialEq, Eq, Debug)]
+pub struct TallyFile {
+    pub condition: Condition,
+    /// The recorded size: 0 for a virgin file.
+    pub size: usize,
+    pub kinds: Vec<TallyKind>,
+}
+
+impl TallyFile {
+    fn new(condition: Condition, kind: TallyKind) -> TallyFile {
+        TallyFile { condition, size: 0, kinds: vec![kind; PAGES] }
+    }
+
+    /// Own or virgin.
+    fn lives(&self) -> bool {
+        self.condition == Condition::Own || self.condition == Condition::Virgin
+    }
+
+    /// "an own or virgin file depends on the parent set's file as long as it
+    /// has any unmapped page, whatever its size"
+    fn depends(&self) -> bool {
+        self.lives() && self.kinds.contains(&Unmapped)
+    }
+
+    fn stored_pages(&self) -> usize {
+        self.kinds.iter().filter(|kind| **kind == Stored).count()
+    }
+}
+
+#[derive(Clone, PartialEq, Eq, Debug)]
+pub struct TallySet {
+    pub parent: Option<usize>,
+    pub children: Vec<usize>,
+    pub files: Vec<TallyFile>,
+}
+
+#[derive(Clone, PartialEq, Eq, Debug)]
+pub struct Tally {
+    pub free: usize,
+    pub sets: Vec<Option<TallySet>>,
+}
+
+/// Needed copies made and files newly marked by one call.
+#[derive(Default)]
+struct Given {
+    copies: u32,
+    marked: u32,
+}
+
+impl Tally {
+    /// "a count of free blocks (B at format)"
+    pub fn format(block_count: usize) -> Tally {
+        let absent = TallyFile::new(Condition::Absent, Unmapped);
+        let mut sets = vec![None; SETS];
+        sets[0] = Some(TallySet { parent: None, children: Vec::new(), files: vec![absent; FILES] });
+        Tally { free: block_count, sets }
+    }
+
+    pub fn set(&self, set: usize) -> &TallySet {
+        self.sets[set].as_ref().expect("a used set")
+    }
+
+    pub fn file(&self, set: usize, file: usize) -> &TallyFile {
+        &self.set(set).files[file]
+    }
+
+    fn file_mut(&mut self, set: usize, file: usize) -> &mut TallyFile {
+        &mut self.sets[set].as_mut().expect("a used set").files[file]
+    }
+
+    pub fn is_marked(&self, set: usize, file: usize) -> bool {
+        self.file(set, file).condition == Condition::Marked
+    }
+
+    /// The kind a page resolves to, and how many maps were looked at.
+    fn resolves(&self, set: usize, file: usize, page: usize) -> (TallyKind, u32) {
+        let mut at = set;
+        let mut maps = 1;
+        while self.file(at, file).kinds[page] == Unmapped {
+            at = self.set(at).parent.expect("set 0 has no unmapped page");
+            maps += 1;
+        }
+        (self.file(at, file).kinds[page], maps)
+    }
+
+    /// The size by reading.
+    pub fn size(&self, set: usize, file: usize) -> usize {
+        let mut at = set;
+        while self.file(at, file).condition == Condition::Virgin {
+            at = self.set(at).parent.expect("set 0 has no virgin file");
+        }
+        self.file(at, file).size
+    }
+
+    /// The pages that hold the bytes from `offset` up to `end`.
+    fn pages_of(offset: usize, end: usize) -> Vec<usize> {
+        (0..PAGES)
+            .filter(|page| page * PAGE_BYTES < end && (page + 1) * PAGE_BYTES > offset)
+            .collect()
+    }
+
+    // Step 1.
+
+    /// Own need of a write of one byte or more: "the touched pages not stored
+    /// in this file's map".
+    pub fn own_need_of_write(&self, set: usize, file: usize, offset: usize, end: usize) -> usize {
+        let kinds = &self.file(set, file).kinds;
+        Tally::pages_of(offset, end).iter().filter(|page| kinds[**page] != Stored).count()
+    }
+
+    /// Own need of a truncate: "1 if t is no multiple of 512 and its page
+    /// resolves to stored but is not stored in this map, else 0"; nothing is
+    /// needed at or above the size.
+    pub fn own_need_of_truncate(&self, set: usize, file: usize, size: usize) -> usize {
+        if size >= self.size(set, file) || size % PAGE_BYTES == 0 {
+            return 0;
+        }
+        let page = size / PAGE_BYTES;
+        let stored_here = self.file(set, file).kinds[page] == Stored;
+        usize::from(!stored_here && self.resolves(set, file, page).0 == Stored)
+    }
+
+    // Step 2.
+
+    fn settle(&mut self, set: usize, file: usize) {
+        if self.file(set, file).condition == Condition::Virgin {
+            let size = self.size(set, file);
+            let record = self.file_mut(set, file);
+            record.size = size;
+            record.condition = Condition::Own;
+        }
+    }
+
+    fn settle_children(&mut self, set: usize, file: usize) {
+        for child in self.set(set).children.clone() {
+            self.settle(child, file);
+        }
+    }
+
+    // Step 4 and marking.
+
+    /// "A needed copy is step 4's, of a needed page resolving to stored; it
+    /// finds none free if, at its turn, no block is free, own blocks and that
+    /// call's earlier copies being taken."
+    fn give_to_children(&mut self, set: usize, file: usize, touched: &[usize]) -> Given {
+        let mut given = Given::default();
+        let children = self.set(set).children.clone();
+        for &page in touched {
+            let (kind, _) = self.resolves(set, file, page);
+            for &child in &children {
+                let record = self.file(child, file);
+                if !record.lives() || record.kinds[page] != Unmapped {
+                    continue;
+                }
+                if kind == Stored && self.free == 0 {
+                    given.marked += self.mark(child, file);
+                    continue;
+                }
+                self.file_mut(child, file).kinds[page] = kind;
+                if kind == Stored {
+                    self.free -= 1;
+                    given.copies += 1;
+                }
+            }
+        }
+        given
+    }
+
+    fn mark(&mut self, set: usize, file: usize) -> u32 {
+        let mut to_mark = vec![set];
+        let mut marked = 0;
+        while let Some(at) = to_mark.pop() {
+            self.file_mut(at, file).condition = Condition::Marked;
+            marked += 1;
+            for &child in &self.set(at).children {
+                if self.file(child, file).depends() {
+                    to_mark.push(child);
+                }
+            }
+        }
+        marked
+    }
+
+    // The calls, once accepted.
+
+    pub fn create(&mut self, set: usize, file: usize) {
+        *self.file_mut(set, file) = TallyFile::new(Condition::Own, Hole);
+    }
+
+    pub fn write(&mut self, set: usize, file: usize, offset: usize, end: usize) -> [u32; 3] {
+        if offset == end {
+            return [0, 0, 0];
+        }
+        let own = self.own_need_of_write(set, file, offset, end);
+        self.settle(set, file);
+        self.settle_children(set, file);
+        self.free -= own;
+        let touched = Tally::pages_of(offset, end);
+        let given = self.give_to_children(set, file, &touched);
+        let record = self.file_mut(set, file);
+        for page in touched {
+            record.kinds[page] = Stored;
+        }
+        record.size = record.size.max(end);
+        [own as u32, given.copies, given.marked]
+    }
+
+    pub fn truncate(&mut self, set: usize, file: usize, size: usize) -> [u32; 3] {
+        let old_size = self.size(set, file);
+        if size == old_size {
+            return [0, 0, 0];
+        }
+        let own = self.own_need_of_truncate(set, file, size);
+        self.settle(set, file);
+        self.settle_children(set, file);
+        let mut given = Given::default();
+        if size < old_size {
+            self.free -= own;
+            let touched: Vec<usize> = (0..PAGES)
+                .filter(|page| *page >= size / PAGE_BYTES && page * PAGE_BYTES < old_size)
+                .collect();
+            given = self.give_to_children(set, file, &touched);
+            self.cut(set, file, size, own == 1, &touched);
+        }
+        self.file_mut(set, file).size = size;
+        [own as u32, given.copies, given.marked]
+    }
+
+    /// The map after a truncate below the size.
+    fn cut(&mut self, set: usize, file: usize, size: usize, own: bool, touched: &[usize]) {
+        let before = self.file(set, file).stored_pages();
+        let record = self.file_mut(set, file);
+        for &page in touched {
+            if page * PAGE_BYTES >= size {
+                record.kinds[page] = Hole;
+            }
+        }
+        let after = record.stored_pages();
+        if own {
+            record.kinds[size / PAGE_BYTES] = Stored;
+        }
+        self.free += before - after;
+    }
+
+    pub fn delete(&mut self, set: usize, file: usize) -> [u32; 3] {
+        let mut given = Given::default();
+        if !self.is_marked(set, file) {
+            self.settle_children(set, file);
+            let all: Vec<usize> = (0..PAGES).collect();
+            given = self.give_to_children(set, file, &all);
+        }
+        self.free += self.file(set, file).stored_pages();
+        *self.file_mut(set, file) = TallyFile::new(Condition::Absent, Unmapped);
+        [0, given.copies, given.marked]
+    }
+
+    pub fn make(&mut self, parent: usize, set: usize) {
+        let files = (0..FILES)
+            .map(|file| {
+                let condition = match self.file(parent, file).condition {
+                    Condition::Own => Condition::Virgin,
+                    other => other,
+                };
+                TallyFile::new(condition, Unmapped)
+            })
+            .collect();
+        self.sets[set] = Some(TallySet { parent: Some(parent), children: Vec::new(), files });
+        let above = self.sets[parent].as_mut().expect("a used set");
+        above.children.push(set);
+    }
+
+    pub fn remove(&mut self, set: usize) {
+        let gone = self.sets[set].take().expect("a used set");
+        self.free += gone.files.iter().map(TallyFile::stored_pages).sum::<usize>();
+        for other in self.sets.iter_mut().flatten() {
+            other.children.retain(|child| *child != set);
+        }
+    }
+
+    /// The maps looked at by a read of the bytes from `offset` up to `end`.
+    pub fn maps_looked_at(&self, set: usize, file: usize, offset: usize, end: usize) -> u32 {
+        if offset >= end {
+            return 0;
+        }
+        Tally::pages_of(offset, end).iter().map(|page| self.resolves(set, file, *page).1).sum()
+    }
+}

@@ -1,0 +1,94 @@
+//! The program `oracle` as people use it: what it prints and its exit status.
+
+use oracle::call::*;
+use oracle::state::State;
+use std::io::Write;
+use std::path::PathBuf;
+use std::process::{Command, Output, Stdio};
+
+fn oracle(arguments: &[&str]) -> Output {
+    Command::new(env!("CARGO_BIN_EXE_oracle")).args(arguments).output().unwrap()
+}
+
+fn status(arguments: &[&str]) -> i32 {
+    oracle(arguments).status.code().unwrap()
+}
+
+fn printed(arguments: &[&str]) -> String {
+    String::from_utf8(oracle(arguments).stdout).unwrap()
+}
+
+/// A file with these bytes, in the folder for tests' files.
+fn file(name: &str, bytes: &[u8]) -> String {
+    let path: PathBuf = [env!("CARGO_TARGET_TMPDIR"), name].iter().collect();
+    std::fs::write(&path, bytes).unwrap();
+    path.to_str().unwrap().to_string()
+}
+
+#[test]
+fn check_says_well_formed_or_each_broken_rule() {
+    let mut state = State::formatted(3);
+    let good = file("good", &state.packed());
+    assert_eq!(printed(&["check", &good]), "well formed\n");
+    assert_eq!(status(&["check", &good]), 0);
+    assert_eq!(status(&["check", &good, "1536"]), 0);
+    assert_eq!(status(&["check", &good, "1535"]), 1);
+
+    state.bits[1] = true;
+    state.sets[0].zero = 5;
+    let bad = file("bad", &state.packed());
+    assert_eq!(status(&["check", &bad]), 1);
+    let wanted = "not well formed, broken rules: 2\n\
+        set-zero: The zero field of a set record is not zero. set 0\n\
+        bit-without-entry: A bit is 1 but no stored entry names its block. block 1\n";
+    assert_eq!(printed(&["check", &bad]), wanted);
+
+    for length in [0, 3, TABLES_BYTES - 1] {
+        let short = file(&format!("short-{length}"), &state.packed()[..length]);
+        assert_eq!(status(&["check", &short]), 1);
+        assert!(printed(&["check", &short]).contains("tables-length"));
+    }
+}
+
+#[test]
+fn bad_usage_gives_2() {
+    let bad: [&[&str]; 7] = [
+        &[],
+        &["nonsense"],
+        &["check"],
+        &["check", "no-such-file"],
+        &["random", "1"],
+        &["random", "x", "1"],
+        &["rows", "more"],
+    ];
+    for arguments in bad {
+        let output = oracle(arguments);
+        assert_eq!(output.status.code(), Some(2), "{arguments:?}");
+        assert!(output.stderr.starts_with(b"oracle: "), "{arguments:?}");
+    }
+    assert_eq!(status(&["help"]), 0);
+}
+
+#[test]
+fn rows_random_and_session_run() {
+    assert_eq!(printed(&["rows"]).lines().filter(|line| line.ends_with("holds")).count(), 12);
+    assert_eq!(status(&["rows"]), 0);
+    assert!(printed(&["random", "7", "2"]).ends_with("random: ok\n"));
+
+    let mut program = Command::new(env!("CARGO_BIN_EXE_oracle"));
+    let mut child =
+        program.arg("session").stdin(Stdio::piped()).stdout(Stdio::piped()).spawn().unwrap();
+    child.stdin.take().unwrap().write_all(&[0x10, 0, 0, 0, 0, 0, 0, 0, 1]).unwrap();
+    let output = child.wait_with_output().unwrap();
+    let wanted = "call 1 1 0 0 0 0\nend 2\nset 0 0 8 1\nfile 0 0 1 0\next 0 -1\next 64 -1\n";
+    assert_eq!(String::from_utf8(output.stdout).unwrap(), wanted);
+}
+
+/// Without a library to compare with, `compare` says so.
+#[test]
+#[cfg(not(have_sweep))]
+fn compare_without_a_library_gives_2() {
+    let output = Command::new(env!("CARGO_BIN_EXE_compare")).output().unwrap();
+    assert_eq!(output.status.code(), Some(2));
+    assert!(output.stderr.starts_with(b"compare: built without"));
+}

@@ -1,0 +1,168 @@
+//! Each rule of the well-formed check, broken by a damage aimed at it.
+
+use oracle::bench::{Bench, NoOther};
+use oracle::call::*;
+use oracle::check::{check_all, is_well_formed, Rule};
+use oracle::gen::{self, Made};
+use oracle::rng::Rng;
+use std::collections::BTreeSet;
+
+const SEED: u64 = 20_260_101;
+
+fn pool(rng: &mut Rng, count: usize) -> Vec<Made> {
+    (0..count).map(|_| gen::made(rng)).collect()
+}
+
+#[test]
+fn made_states_are_well_formed() {
+    println!("seed {SEED}");
+    for made in pool(&mut Rng::new(SEED), 40) {
+        let broken = check_all(&made.tables, made.pages.len());
+        assert!(broken.is_empty(), "{}", broken[0]);
+    }
+}
+
+/// Well formed is kept by every call, also from states that no history need
+/// reach.
+#[test]
+fn well_formed_is_kept_from_any_well_formed_state() {
+    println!("seed {SEED}");
+    let mut rng = Rng::new(SEED ^ 2);
+    let pool = pool(&mut rng, 20);
+    for _ in 0..400 {
+        let made = rng.pick(&pool);
+        let (mut tables, mut pages) = (made.tables.clone(), made.pages.clone());
+        gen::twist(&mut rng, &mut tables, &mut pages);
+        assert!(is_well_formed(&tables, pages.len()));
+        let mut bench = Bench::with(tables, pages);
+        for _ in 0..10 {
+            let call = gen::call(&mut rng, &made.style, &made.beside);
+            let answer = bench.call(&call, &mut NoOther).unwrap();
+            assert_ne!(answer.number, 1);
+            let broken = check_all(&bench.tables, bench.pages.len());
+            assert!(broken.is_empty(), "{call}: {}", broken[0]);
+        }
+    }
+}
+
+#[test]
+fn each_rule_is_reported_when_its_damage_is_done() {
+    println!("seed {SEED}");
+    let mut rng = Rng::new(SEED);
+    let pool = pool(&mut rng, 60);
+    // Damages to these break others too, by their nature.
+    let never_alone = [Rule::Set0NotUsed, Rule::BlockCount];
+    for rule in Rule::ALL {
+        let (mut done, mut alone) = (0, 0);
+        let mut tries = 0;
+        while done < 40 {
+            tries += 1;
+            assert!(tries < 3_000, "too few states offer a place for {rule:?}");
+            let made = rng.pick(&pool);
+            let mut tables = made.tables.clone();
+            if !gen::damage_rule(&mut rng, &mut tables, *rule) {
+                continue;
+            }
+            let found: BTreeSet<Rule> =
+                check_all(&tables, made.pages.len()).iter().map(|broken| broken.rule).collect();
+            assert!(found.contains(rule), "{rule:?} was damaged, reported {found:?}");
+            assert!(!is_well_formed(&tables, made.pages.len()));
+            done += 1;
+            alone += usize::from(found.len() == 1);
+        }
+        println!("{}: {done} damages in {tries} tries, {alone} broke this rule alone", rule.name());
+        assert!(
+            alone * 5 >= done || never_alone.contains(rule),
+            "{rule:?}: {alone} of {done} alone"
+        );
+    }
+}
+
+/// The rules reported after a script of pokes on a small store.
+fn reported(script: &str) -> Vec<Rule> {
+    let mut bench = Bench::new();
+    for item in Item::parse_script(script).unwrap() {
+        bench.step(&item, &mut NoOther).unwrap();
+    }
+    check_all(&bench.tables, bench.pages.len()).iter().map(|broken| broken.rule).collect()
+}
+
+/// Damages by hand, byte by byte: the packing is looked at once more.
+#[test]
+fn damages_by_hand() {
+    // The record of file f of set s begins at 540 + 132 x (16 x s + f).
+    let base = "format 2048; create 0 0; write 0 0 0 600 1; make 0 1 1; ";
+    let cases: [(&str, &[Rule]); 26] = [
+        ("", &[]),
+        ("poke 3 1", &[Rule::HeaderZero]),
+        ("poke 1 34", &[Rule::NextStart]),
+        // B = 4,097 with as many pages, and B = 0 with none.
+        ("poke 0 128; poke 1 8; pages 2097664", &[Rule::BlockCount]),
+        ("remove 1; delete 0 0; poke 1 0; pages 0", &[Rule::BlockCount, Rule::NextStart]),
+        ("pages 2047", &[Rule::PagesLength]),
+        ("tables 17437", &[Rule::TablesLength]),
+        ("poke 4 64", &[Rule::EntryWithoutBit]),
+        ("poke 4 224", &[Rule::BitWithoutEntry]),
+        ("poke 515 1", &[Rule::BitWithoutEntry]),
+        ("poke 516 132", &[Rule::Set0NotWriteable]),
+        ("poke 516 204", &[Rule::Set0Level, Rule::LevelWrong]),
+        ("poke 518 1", &[Rule::SetZero]),
+        ("poke 522 64", &[Rule::UnusedSetNotZero]),
+        ("poke 522 1", &[Rule::UnusedSetNotZero]),
+        ("poke 524 1", &[Rule::SetZero, Rule::UnusedSetNotZero]),
+        ("poke 542 1", &[Rule::FileZero]),
+        ("poke 543 1", &[Rule::FileZero]),
+        // Entry 2 of file 0 of set 0.
+        ("poke 548 192", &[Rule::KindThree]),
+        ("poke 549 1", &[Rule::BlockNotStored]),
+        ("poke 548 0", &[Rule::Set0Unmapped]),
+        // Size 600 becomes 512: page 1 is wholly past it.
+        ("poke 541 128; poke 542 0", &[Rule::PastSizeStored]),
+        // Entry 1 names block 0, entry 0 block 0 too.
+        ("poke 547 0; poke 4 128", &[Rule::BlockNamedTwice]),
+        // File 0 of set 1 is virgin: a size, a hole.
+        ("poke 2653 1", &[Rule::VirginSize]),
+        ("poke 2656 64", &[Rule::VirginMapped]),
+        // File 0 of set 2, which is not used.
+        ("poke 4764 192", &[Rule::UnusedSetHasFile]),
+    ];
+    for (damage, wanted) in cases {
+        assert_eq!(reported(&format!("{base}{damage}")), wanted, "{damage}");
+    }
+}
+
+/// The check is a sum of its rules for any bytes: it never fails to end, and
+/// damaged tables give 1 in every call.
+#[test]
+fn any_bytes_are_judged() {
+    println!("seed {SEED}");
+    let mut rng = Rng::new(SEED ^ 1);
+    let pool = pool(&mut rng, 20);
+    for round in 0..600 {
+        let made = rng.pick(&pool);
+        let mut tables = made.tables.clone();
+        if round % 10 == 0 {
+            tables.iter_mut().for_each(|byte| *byte = rng.word() as u8);
+        } else {
+            gen::damage(&mut rng, &mut tables);
+        }
+        let well_formed = is_well_formed(&tables, made.pages.len());
+        let mut bench = Bench::with(tables, made.pages.clone());
+        for index in 1..10 {
+            let call = gen::call_of(&mut rng, &made.style, &made.beside, index);
+            let answer = bench.call(&call, &mut NoOther).unwrap();
+            if !well_formed {
+                assert_eq!(answer, Answer::refused(1));
+            } else if bench.counts.numbers[0] != 0 {
+                break;
+            }
+        }
+    }
+}
+
+#[test]
+fn every_rule_has_a_name_of_its_own() {
+    let names: BTreeSet<&str> = Rule::ALL.iter().map(|rule| rule.name()).collect();
+    assert_eq!(names.len(), Rule::ALL.len());
+    assert_eq!(Rule::ALL.len(), 35);
+}
