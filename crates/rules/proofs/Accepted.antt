@@ -37,6 +37,12 @@ live-of own h k = refl
 live-of virgin h k = refl
 live-of marked h k = absurd (true≢false k)
 
+pub live-unmarked : (l : State) → live l ≡ true → isMarked l ≡ false
+live-unmarked absent h = refl
+live-unmarked own h = refl
+live-unmarked virgin h = refl
+live-unmarked marked h = absurd (true≢false (sym h))
+
 module _ (v : View) where
   -- a file that is looked at: present and not marked
   pub record Looked (s f : ℕ) : Type 0 where
@@ -168,12 +174,6 @@ module _ (v : View) where
       let p₃ = pass _ 10 _ (p₂ .1) in
       let p₄ = pass _ 11 _ (p₃ .1) in
       record { set = used-set v s (p₂ .0); childless = is-nil (v .tree .children s) (not-false _ (p₃ .0)); not-root = eqb-false s 0 (p₄ .0) }
-
-  live-unmarked : (l : State) → live l ≡ true → isMarked l ≡ false
-  live-unmarked absent h = refl
-  live-unmarked own h = refl
-  live-unmarked virgin h = refl
-  live-unmarked marked h = absurd (true≢false (sym h))
 
   -- no condition applies: the call is accepted
   pub accepts-write : v .formed ≡ true → (s f off : ℕ) (bs : List ℕ) → Written s f (off + length bs) (v .writeNeed s f off (length bs)) → numberOf v (write s f off bs) ≡ 0

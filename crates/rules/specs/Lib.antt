@@ -10,4 +10,5 @@ pub mod Trees
 pub mod Plain
 pub mod Tally
 pub mod Agreement
+pub mod StateTheorem
 pub mod Rows

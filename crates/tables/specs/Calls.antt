@@ -9,6 +9,7 @@ use Rattle.rules.specs.Calls.{Result, Store, accepted, blankMemory, readInto, v
 use Rattle.rules.specs.Numbers.{Answer, Call, View, create, delete, format, make, numberOf, read, refusal, remove, tellFree, tellSize, truncate, write}
 use Rattle.rules.specs.Rules.{countIn, touched}
 use Rattle.rules.specs.State.{Tables, largestBlocks, pageBytes}
+use Rattle.rules.specs.StateTheorem.{tablesOf}
 use Rattle.rules.specs.Storage.{Memory, PageData, real}
 use Rattle.tables.specs.Layout.{tableBytes}
 use Rattle.tables.specs.Packed.{pack, unpack, wellFormed}
@@ -20,14 +21,11 @@ pagesOf p b i = cond (ltb i pageBytes) (getD p (b * pageBytes + i) 0) 0
 unfoldable pub packPages : ℕ → (ℕ → PageData) → List ℕ
 packPages n pg = tab (n * pageBytes) (λ i. pg (i / pageBytes) (i % pageBytes))
 
--- the store in tables and pages, and the tables of a store
+-- the store in tables and pages
 abbrev pub storeOf : List ℕ → List ℕ → Store real
 storeOf t p =
     let tb : Tables = unpack t in
     record { memory = record { blocks = tb .blocks; next = tb .next; bits = tb .bits; pages = pagesOf p }; sets = tb .sets; files = tb .files }
-
-abbrev pub tablesOf : Store real → Tables
-tablesOf st = record { blocks = st .memory .blocks; next = st .memory .next; bits = st .memory .bits; sets = st .sets; files = st .files }
 
 -- what a call leaves: its answer, the tables, the pages, and the buffer of a read
 pub record Outcome : Type 0 where

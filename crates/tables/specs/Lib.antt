@@ -1,3 +1,5 @@
 pub mod Layout
 pub mod Packed
 pub mod Calls
+pub mod OneReading
+pub mod Views

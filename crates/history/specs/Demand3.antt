@@ -1,0 +1,61 @@
+-- DEMAND 3: one claim about the whole list of calls. Document 01, "Demand 3".
+--
+-- For every tables and pages of lengths that a format accepts, and every list of calls, any of the ten with any arguments, refused ones included, run from
+-- their format on, tables and pages handed from call to call as bytes, by the definition `callOn` that the contracts of the exported functions cite:
+-- the tables are well formed; sets, presence, sizes and bytes by reading are the plain store's; states, sizes, kinds and free blocks are the tally's; and
+-- every answer, with the bytes of every read, is the one that plain store and tally give, fed the calls' arguments alone.
+-- So accepted are exactly the calls to which no refusal applies, judged on these two; and a file becomes marked exactly when the tally marks it.
+--
+-- A call added later joins by a case of `Call` (rules/specs/Numbers), of its conditions, of `accepted`, `plainCall`, `tallyCall` and `acceptedOn`,
+-- and one step lemma in each of the proofs that go by cases on the call; this statement stays as it is.
+use mathlib.Core.Bool.{true}
+use mathlib.Core.List.{List, _∷_, []}
+use mathlib.Core.Path.{_≡_}
+use Prim.Native.Nat.{_/_, ℕ}
+use lib.ListN.{length}
+use Rattle.rules.specs.Agreement.{AgreesPlain, AgreesTally, Given, bothGiven, bothRun, front}
+use Rattle.rules.specs.Numbers.{Call, format}
+use Rattle.rules.specs.Plain.{plainFormat}
+use Rattle.rules.specs.State.{pageBytes}
+use Rattle.rules.specs.Tally.{Both, tallyFormat}
+use Rattle.tables.specs.Calls.{Outcome, callOn, storeOf}
+use Rattle.tables.specs.Packed.{wellFormed}
+
+-- tables and pages, as bytes
+pub record Image : Type 0 where
+  pub tables : List ℕ
+  pub pages : List ℕ
+
+-- after one call, after a list of calls
+abbrev pub after : Call → Image → Image
+after c m = let o : Outcome = callOn c (m .tables) (m .pages) in record { tables = o .tables; pages = o .pages }
+
+unfoldable pub afterAll : List Call → Image → Image
+afterAll [] m = m
+afterAll (c ∷ cs) m = afterAll cs (after c m)
+
+-- what each call of a list gave: its answer and, of a read, the bytes at the buffer's front
+abbrev pub gave : Call → Image → Given
+gave c m = let o : Outcome = callOn c (m .tables) (m .pages) in record { answer = o .answer; bytes = front c (o .answer) (o .buffer) }
+
+unfoldable pub gaveAll : List Call → Image → List Given
+gaveAll [] m = []
+gaveAll (c ∷ cs) m = gave c m ∷ gaveAll cs (after c m)
+
+-- the image after the format and the list; plain store and tally after the list
+abbrev pub imageAfter : Image → List Call → Image
+imageAfter m cs = afterAll cs (after format m)
+
+abbrev pub bothAfter : Image → List Call → Both
+bothAfter m cs = let blocks : ℕ = length (m .pages) / pageBytes in bothRun blocks cs plainFormat (tallyFormat blocks)
+
+-- THE CLAIM
+pub record Demand3 (m : Image) (cs : List Call) : Type 0 where
+  -- 1. the tables are well formed
+  pub formed : wellFormed (imageAfter m cs .tables) (length (imageAfter m cs .pages)) ≡ true
+  -- 2, 3. sets, presence, sizes and bytes by reading are those of the plain store
+  pub plain : AgreesPlain (storeOf (imageAfter m cs .tables) (imageAfter m cs .pages)) (bothAfter m cs .plain)
+  -- 4, 5. every call's number and counts, and the bytes of every read, are those that plain store and tally give
+  pub given : gaveAll cs (after format m) ≡ bothGiven (length (m .pages) / pageBytes) cs plainFormat (tallyFormat (length (m .pages) / pageBytes))
+  -- 6. states, sizes, kinds and free blocks are the tally's
+  pub tally : AgreesTally (storeOf (imageAfter m cs .tables) (imageAfter m cs .pages)) (bothAfter m cs .tally)

@@ -1,0 +1,10 @@
+pub mod Fits
+pub mod Layouts
+pub mod PackedTables
+pub mod ReadParts
+pub mod PackWords
+pub mod PackUnpack
+pub mod OneReading
+pub mod Operations
+pub mod Kept
+pub mod Stores
