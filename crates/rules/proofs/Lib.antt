@@ -57,3 +57,4 @@ pub mod ModelFormed
 pub mod Holds
 pub mod HoldsMeans
 pub mod StateTheorem
+pub mod Frames
