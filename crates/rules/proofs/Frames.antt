@@ -35,10 +35,10 @@ module _ (S : Storage) (st : Store S) where
   pub create-others : (s f g x : ℕ) → (f ≡ g → s ≡ x → ⊥) → created S s f st .files g x ≡ st .files g x
   unfolding created
   create-others s f g x n =
-    same? f g
-    (λ e. subst (λ y. upd (st .files) f (upd (st .files f) s newFile) y x ≡ st .files y x) e
+      same? f g
+      (λ e. subst (λ y. upd (st .files) f (upd (st .files f) s newFile) y x ≡ st .files y x) e
       (ap (λ (c : Files (S .Block)). c x) (upd-same (st .files) f _) ∙ upd-other (st .files f) s newFile x (n e)))
-    (λ d. ap (λ (c : Files (S .Block)). c x) (upd-other (st .files) f _ g d))
+      (λ d. ap (λ (c : Files (S .Block)). c x) (upd-other (st .files) f _ g d))
 
   pub make-memory : (s c : ℕ) (w : Bool) → made S s c w st .memory ≡ st .memory
   unfolding made
@@ -74,8 +74,8 @@ module _ (t : Tree) (ok : TreeOk t) (s off : ℕ) (bs : List ℕ) (w : Work mode
   written : Changed t s (touched off (length bs)) [] (overlay off bs) (λ n. max n (off + length bs)) (w .files) (writeFile model t s off bs w .files)
   unfolding writeFile
   written =
-    changed t ok s (touched off (length bs)) (touched off (length bs)) [] (λ p m. m) (λ p m. elim m [ ]) (touched-once off (length bs)) (overlay off bs)
-    (λ n. max n (off + length bs)) w k al
+      changed t ok s (touched off (length bs)) (touched off (length bs)) [] (λ p m. m) (λ p m. elim m [ ]) (touched-once off (length bs)) (overlay off bs)
+      (λ n. max n (off + length bs)) w k al
 
   pub write-frame : (x p : ℕ) → p < 64 → (s ≡ x → ⊥) → Alive (writeFile model t s off bs w .files) x → resolve t (writeFile model t s off bs w .files) x p ≡ resolve t (w .files) x p
   write-frame = written .page

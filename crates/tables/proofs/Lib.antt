@@ -8,3 +8,8 @@ pub mod OneReading
 pub mod Operations
 pub mod Kept
 pub mod Stores
+pub mod Codes
+pub mod Written
+pub mod FreeBlocks
+pub mod Pending
+pub mod FormedStore

@@ -3,3 +3,4 @@ pub mod Packed
 pub mod Calls
 pub mod OneReading
 pub mod Views
+pub mod Meaning

@@ -1,0 +1,127 @@
+-- The numbers that the code computes: what it takes from a word is what the layout reads, the words that it makes are those of the layout,
+-- and the places are the layout's. Assumes nothing.
+use mathlib.Core.List.{List}
+use mathlib.Core.Path.{ap, refl, sym, _∙_, _≡_}
+use Prim.Native.Nat.{_%_, _*_, _+_, _-_, _/_, _<_, suc, zero, ℕ, _≤_}
+use native.Mathlib.Omega.{arith}
+use lib.Dec.{eqb}
+use Rattle.packing.specs.Bitmap.{isOne}
+use Rattle.packing.specs.Words.{getWord}
+use Rattle.rules.specs.State.{SetRecord, State, fileCount, hole, marked, pageCount, setCount, stored, unmapped}
+use Rattle.tables.proofs.ReadParts.{read-blocks, read-map, read-next, read-set, read-size, read-state}
+use Rattle.tables.specs.Layout.{entryAt, fileAt, headerAt, readBlocks, readEntry, readNext, readSet, readSize, readState, setAt, stateNumber, stateOf, writeEntry, writeHead, writeHeader}
+use Rattle.tables.specs.Packed.{unpack}
+
+-- ---- an entry
+
+pub word-unmapped : (w : ℕ) → w < 16384 → readEntry w ≡ unmapped
+unfolding readEntry
+word-unmapped w h = let e : w / 16384 ≡ 0 = omega arith in rw e
+
+pub word-hole : (w : ℕ) → 16384 ≤ w → w < 32768 → readEntry w ≡ hole
+unfolding readEntry
+word-hole w l h = let e : w / 16384 ≡ 1 = omega arith in rw e
+
+pub word-stored : (w : ℕ) → 32768 ≤ w → readEntry w ≡ stored (w % 16384)
+unfolding readEntry
+word-stored w l =
+    let k : w / 16384 ≡ suc (suc (w / 16384 - 2)) = omega arith in
+    let b : w % 16384 / 1 ≡ w % 16384 = omega arith in
+    rw (k, b)
+
+pub stored-word : (b : ℕ) → 32768 + b ≡ writeEntry (stored b)
+unfolding writeEntry
+stored-word b = omega arith
+
+pub entry-place : (f s p : ℕ) → 544 + (s * 16 + f) * 132 + p * 2 ≡ entryAt f s p
+entry-place f s p = omega arith
+
+-- LAW: the entry that the code reads
+pub entry-read : (t : List ℕ) (f s p w : ℕ) → f < fileCount → s < setCount → p < pageCount → w ≡ getWord 1 t (544 + (s * 16 + f) * 132 + p * 2)
+    → readEntry w ≡ unpack t .files f s .map p
+entry-read t f s p w hf hs hp e = ap readEntry (e ∙ ap (getWord 1 t) (entry-place f s p)) ∙ sym (read-map t f s p hf hs hp)
+
+-- ---- a state and a size
+
+pub number-marked : (n : ℕ) → 3 ≤ n → stateOf n ≡ marked
+number-marked n h = let e : n ≡ suc (suc (suc (n - 3))) = omega arith in rw e
+
+-- LAW: the state and the size that the code reads
+module _ (t : List ℕ) (f s w : ℕ) (hf : f < fileCount) (hs : s < setCount) (e : w ≡ getWord 3 t (fileAt f s)) where
+  pub state-read : stateOf (w / 1073741824) ≡ unpack t .files f s .state
+  unfolding readState
+  state-read = ap readState e ∙ sym (read-state t f s hf hs)
+
+  pub size-read : w / 16384 % 65536 ≡ unpack t .files f s .size
+  unfolding readSize
+  size-read = let q : w / 16384 % 65536 ≡ readSize w = omega arith in q ∙ ap readSize e ∙ sym (read-size t f s hf hs)
+
+pub head-word : (l : State) (n k : ℕ) → k ≡ stateNumber l → (k * 65536 + n) * 16384 ≡ writeHead l n
+unfolding writeHead
+head-word l n k e = omega arith
+
+-- ---- a set record
+
+is-one : (d : ℕ) → d < 2 → eqb d 1 ≡ isOne d
+is-one zero h = refl
+is-one (suc zero) h = refl
+is-one (suc (suc d)) h = absurd (omega arith)
+
+module _ (w : ℕ) where
+  -- the record that the code takes from a word
+  abbrev pub setFields : SetRecord
+  setFields = record {
+    used = eqb (w / 8388608) 1;
+    writeable = eqb (w / 4194304 % 2) 1;
+    level = w / 524288 % 8;
+    parent = w / 32768 % 16;
+    firstChild = w / 2048 % 16;
+    nextSibling = w / 128 % 16;
+  }
+
+  -- field by field: one omega for all is too much
+  writeable-field : w / 4194304 % 2 ≡ w % 8388608 / 4194304
+  writeable-field = omega arith
+
+  level-field : w / 524288 % 8 ≡ readSet w .level
+  unfolding readSet
+  level-field = omega arith
+
+  parent-field : w / 32768 % 16 ≡ readSet w .parent
+  unfolding readSet
+  parent-field = omega arith
+
+  child-field : w / 2048 % 16 ≡ readSet w .firstChild
+  unfolding readSet
+  child-field = omega arith
+
+  sibling-field : w / 128 % 16 ≡ readSet w .nextSibling
+  unfolding readSet
+  sibling-field = omega arith
+
+  set-fields : w < 16777216 → setFields ≡ readSet w
+  unfolding readSet
+  set-fields h =
+      let u = is-one (w / 8388608) (omega arith) in
+      let v = is-one (w / 4194304 % 2) (omega arith) ∙ ap isOne writeable-field in
+      λ i. record { used = u i; writeable = v i; level = level-field i; parent = parent-field i; firstChild = child-field i; nextSibling = sibling-field i }
+
+-- LAW: the set record that the code reads
+pub set-read : (t : List ℕ) (s w : ℕ) → s < setCount → (w ≡ getWord 2 t (setAt s)) × (w < 16777216) → setFields w ≡ unpack t .sets s
+set-read t s w hs h = set-fields w (h .1) ∙ ap readSet (h .0) ∙ sym (read-set t s hs)
+
+-- ---- the header
+
+-- LAW: the block count and the next start that the code reads
+module _ (t : List ℕ) (w : ℕ) (e : w ≡ getWord 3 t headerAt) where
+  pub blocks-read : w / 524288 ≡ unpack t .blocks
+  unfolding readBlocks
+  blocks-read = ap readBlocks e ∙ sym (read-blocks t)
+
+  pub next-read : w / 128 % 4096 ≡ unpack t .next
+  unfolding readNext
+  next-read = let q : w / 128 % 4096 ≡ readNext w = omega arith in q ∙ ap readNext e ∙ sym (read-next t)
+
+pub header-word : (b n : ℕ) → (b * 4096 + n) * 128 ≡ writeHeader b n
+unfolding writeHeader
+header-word b n = omega arith

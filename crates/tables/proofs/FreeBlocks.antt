@@ -1,0 +1,99 @@
+-- The bitmap of the tables and the bits of the state: the first free block, the number of free blocks, and a block that is taken. Assumes nothing.
+use mathlib.Core.Bool.{Bool, false, not, true}
+use mathlib.Core.List.{List}
+use mathlib.Core.Option.{none, some}
+use mathlib.Core.Path.{ap, refl, sym, _∙_, _≡_}
+use Prim.Native.Nat.{_%_, _+_, _<_, suc, zero, ℕ, _≤_}
+use native.Mathlib.Nat.{mod-lt}
+use native.Mathlib.Omega.{arith}
+use Rattle.base.specs.Count.{count, count-not, count-same}
+use Rattle.base.specs.Logic.{same?}
+use Rattle.base.specs.Search.{Free, first-found, first-says, firstFree, searchFrom}
+use Rattle.packing.specs.Bitmap.{bitAt, setBit}
+use Rattle.packing.specs.FirstFree.{found-at, found-none, foundOf}
+use Rattle.packing.specs.declared.bitmap.Found.{Found}
+use Rattle.packing.specs.declared.bitmap.Found.the-variants.{At, Nothing}
+use Rattle.rules.specs.State.{largestBlocks}
+use Rattle.tables.proofs.ReadParts.{read-bit}
+use Rattle.tables.proofs.Written.{bit-set}
+use Rattle.tables.specs.Layout.{bitmapAt}
+use Rattle.tables.specs.Packed.{unpack}
+use Rattle.tables.specs.Views.{HeaderIn, PackedTables, Took, Turns, putBitIn, putNextIn, took}
+
+-- ---- two functions that agree below a limit
+
+search-same : (k n : ℕ) (f g : ℕ → Bool) (b : ℕ) → b < n → ((c : ℕ) → c < n → g c ≡ f c) → searchFrom k n g b ≡ searchFrom k n f b
+unfolding searchFrom
+search-same zero n f g b l h = refl
+search-same (suc k) n f g b l h = rw (h b l, search-same k n f g ((b + 1) % n) (mod-lt (b + 1) (omega arith)) h)
+
+-- LAW: the first free number depends on the numbers below the limit alone
+pub first-same : (n : ℕ) (f g : ℕ → Bool) (b : ℕ) → b < n → ((c : ℕ) → c < n → g c ≡ f c) → firstFree n g b ≡ firstFree n f b
+unfolding firstFree
+first-same n f g b l h = search-same n n f g b l h
+
+-- LAW: what passes nowhere from m on is counted below m
+pub count-cut : (n m : ℕ) (f : ℕ → Bool) → m ≤ n → ((b : ℕ) → m ≤ b → f b ≡ false) → count n f ≡ count m f
+unfolding count
+count-cut zero m f l h = let e : 0 ≡ m = omega arith in ap (λ k. count k f) e
+count-cut (suc n) m f l h =
+    same? m (suc n) (λ e. ap (λ k. count k f) (sym e)) (λ d. rw (h n (omega arith)) (omega (arith, count-cut n m f (omega arith) h)))
+
+-- ---- free blocks
+
+-- LAW: the set bits of the map and the free blocks are all blocks
+pub free-count : (t : List ℕ) → unpack t .blocks ≤ largestBlocks → ((b : ℕ) → unpack t .blocks ≤ b → unpack t .bits b ≡ false)
+    → count 4096 (bitAt t bitmapAt) + count (unpack t .blocks) (λ b. not (unpack t .bits b)) ≡ unpack t .blocks
+free-count t most out =
+    let a = count-same largestBlocks (unpack t .bits) (bitAt t bitmapAt) (λ b l. sym (read-bit t b l)) in
+    let e = count-cut largestBlocks (unpack t .blocks) (unpack t .bits) most out in
+    omega (arith, count-not (unpack t .blocks) (unpack t .bits))
+
+-- the block that the code finds, in the words of the state
+module _ (t : List ℕ) (limit start : ℕ) (r : Found) (h : HeaderIn (unpack t)) (el : limit ≡ unpack t .blocks) (es : start ≡ unpack t .next)
+    (found : r ≡ foundOf (firstFree limit (bitAt t bitmapAt) start)) where
+  same-answer : r ≡ foundOf (firstFree (unpack t .blocks) (unpack t .bits) (unpack t .next))
+  same-answer =
+      found ∙ (λ i. foundOf (firstFree (el i) (bitAt t bitmapAt) (es i)))
+      ∙ ap foundOf (first-same (unpack t .blocks) (unpack t .bits) (bitAt t bitmapAt) (unpack t .next) (h .next-in)
+      (λ b l. sym (read-bit t b (omega (arith, h .most)))))
+
+  -- LAW: a block that the code finds is the first free one of the state
+  pub found-first : (b : ℕ) → r ≡ At b → firstFree (unpack t .blocks) (unpack t .bits) (unpack t .next) ≡ some b
+  found-first b e = found-at _ b (sym same-answer ∙ e)
+
+  -- LAW: where a block is free, one is found
+  pub found-some : 0 < count (unpack t .blocks) (λ b. not (unpack t .bits b)) → r ≡ Nothing → ⊥
+  found-some some-free e =
+      let q = found-none _ (sym same-answer ∙ e) in
+      let x = first-found (unpack t .blocks) (unpack t .bits) (unpack t .next) (h .next-in) some-free in
+      let w : some (x .0) ≡ none = sym (x .1) ∙ q in
+      let z : _≡_ {A = ℕ} 0 1 = cc in
+      omega arith
+
+-- ---- a block is taken
+
+module _ (t : List ℕ) (b : ℕ) (h : PackedTables t) (hd : HeaderIn (unpack t))
+    (first : firstFree (unpack t .blocks) (unpack t .bits) (unpack t .next) ≡ some b) where
+  first-free : Free (unpack t .blocks) (unpack t .bits) b
+  first-free = first-says (unpack t .blocks) (unpack t .bits) (unpack t .next) b (hd .next-in) first
+
+  pub first-lt : b < largestBlocks
+  first-lt = omega (arith, first-free .below, hd .most)
+
+  -- its bit is set
+  pub bit-taken : (u : List ℕ) → u ≡ setBit t bitmapAt b → Turns t u (putBitIn b true)
+  bit-taken u e = bit-set t u b (h, first-lt) e
+
+  -- LAW: its bit is set and next start is moved: the block is taken
+  pub block-taken : (u v : List ℕ) (limit : ℕ) → limit ≡ unpack t .blocks → u ≡ setBit t bitmapAt b → Turns u v (putNextIn ((b + 1) % limit)) → Took t v b
+  unfolding took
+  block-taken u v limit el e n = record {
+    first = first;
+    below = first-free .below;
+    unused = first-free .unused;
+    turns = record {
+      view = n .view ∙ (λ i. putNextIn ((b + 1) % el i) (bit-taken u e .view i));
+      packed = n .packed;
+    };
+  }

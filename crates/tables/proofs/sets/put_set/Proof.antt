@@ -1,0 +1,16 @@
+-- `tables::sets::put_set` meets its contract. Assumes nothing.
+use borrow.Author.Needs.{needs}
+use Rattle.tables.proofs.Written.{set-written}
+use Rattle.tables.proofs.sets.put_set.Statement.{statement}
+use Rattle.tables.proofs.sets.put_set.Tie as tie
+
+returns : tie.Need-returns
+returns c =
+    let w = c .before .before .before .before in
+    set-written _ _ _ _ _ (w .before .before .pre) (w .word-of .ensures .0) (c .before .before .write24 .ensures)
+
+pub put-set-spec : {M : Type 1} → statement M
+put-set-spec =
+    tie.close
+    (tie.spec
+    (λ c κs. search needs) (λ c. search needs) (λ c. search needs) (λ c κs. search needs) (λ c. search needs) returns)

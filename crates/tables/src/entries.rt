@@ -1,0 +1,169 @@
+// Entries of a file's map. A page number and a block number are two counts: only a lookup in a map, or taking a block,
+// makes a Block.
+ghost use mathlib.Core.Path.{_≡_};
+ghost use mathlib.Core.Bool.{false, not};
+ghost use Prim.Native.Nat.{_<_};
+ghost use lib.ListN.{length};
+ghost use Rattle.base.specs.Count.{count};
+ghost use Rattle.base.specs.Update.{upd};
+ghost use Rattle.rules.specs.State.{isUnmapped, isStored, stored};
+ghost use Rattle.tables.specs.Layout.{tableBytes, readEntry, writeEntry};
+ghost use Rattle.tables.specs.Packed.{unpack};
+ghost use Rattle.tables.specs.OneReading.{blockFits};
+ghost use Rattle.tables.specs.Views.{PackedTables, Turns, putEntryIn, putBitIn, HeaderIn, Took, pendingOf, nonePending};
+ghost use Rattle.tables.specs.Meaning.{entryMeant};
+use crate::header;
+use packing::bitmap;
+use packing::bitmap::Found;
+use packing::words;
+
+// A file page number.
+pub struct Page(usize);
+
+// A store block number.
+pub struct Block(usize);
+
+// "a page is unmapped, a hole, or stored in a named block"
+pub enum Entry {
+    Unmapped,
+    Hole,
+    Stored(Block),
+}
+
+impl Page {
+    pub fn new(n: usize) -> Page
+        ensures { λ r. ⌜ r .0 ≡ n ⌝ }
+    {
+        Page(n)
+    }
+
+    pub fn number(self) -> usize
+        ensures { λ r. ⌜ r ≡ self .0 ⌝ }
+    {
+        self.0
+    }
+}
+
+impl Block {
+    pub fn number(self) -> usize
+        ensures { λ r. ⌜ r ≡ self .0 ⌝ }
+    {
+        self.0
+    }
+}
+
+fn decode(w: u16) -> Entry
+    ensures { λ r. ⌜ entryMeant r ≡ readEntry w ⌝ }
+{
+    if w < 16384 {
+        return Entry::Unmapped;
+    }
+    if w < 32768 {
+        return Entry::Hole;
+    }
+    Entry::Stored(Block((w % 16384) as usize))
+}
+
+fn encode(e: Entry) -> u16
+    requires { ⌜ blockFits (entryMeant e) ⌝ }
+    ensures { λ r. ⌜ r ≡ writeEntry (entryMeant e) ⌝ }
+{
+    match e {
+        Entry::Unmapped => 0,
+        Entry::Hole => 16384,
+        Entry::Stored(b) => (32768 + b.0) as u16,
+    }
+}
+
+pub fn entry_at(t: &[u8], f: usize, s: usize, page: Page) -> Entry
+    requires { ⌜ (length (now t) ≡ tableBytes) × (f < 16) × (s < 8) × (page .0 < 64) ⌝ }
+    ensures { λ r. ⌜ entryMeant r ≡ unpack (now (t .entry)) .files f s .map (page .0) ⌝ }
+{
+    decode(words::read16(t, 544 + (s * 16 + f) * 132 + page.0 * 2))
+}
+
+pub fn put_entry(t: &mut [u8], f: usize, s: usize, page: Page, e: Entry)
+    requires { ⌜ PackedTables (now t) × (f < 16) × (s < 8) × (page .0 < 64) × blockFits (entryMeant e) ⌝ }
+    ensures { λ _. ⌜ Turns (now (t .entry)) (now (t .exit)) (putEntryIn f s (page .0) (entryMeant e)) ⌝ }
+{
+    let w = encode(e);
+    words::write16(t, 544 + (s * 16 + f) * 132 + page.0 * 2, w);
+}
+
+pub fn is_unmapped(e: Entry) -> bool
+    ensures { λ r. ⌜ r ≡ isUnmapped (entryMeant e) ⌝ }
+{
+    match e {
+        Entry::Unmapped => true,
+        Entry::Hole => false,
+        Entry::Stored(b) => false,
+    }
+}
+
+pub fn is_stored(e: Entry) -> bool
+    ensures { λ r. ⌜ r ≡ isStored (entryMeant e) ⌝ }
+{
+    match e {
+        Entry::Unmapped => false,
+        Entry::Hole => false,
+        Entry::Stored(b) => true,
+    }
+}
+
+// "the first free one from next start, going round; next start then is that block plus one, modulo B"
+pub fn take_block(t: &mut [u8]) -> Block
+    requires { ⌜ PackedTables (now t) × HeaderIn (unpack (now t)) × (0 < count (unpack (now t) .blocks) (λ b. not (unpack (now t) .bits b))) ⌝ }
+    ensures { λ r. ⌜ Took (now (t .entry)) (now (t .exit)) (r .0) ⌝ }
+{
+    let limit = header::block_count(&*t);
+    let start = header::next_start(&*t);
+    let Found::At(b) = bitmap::first_free(&*t, 4, start, limit) else {
+        return Block(0);
+    };
+    bitmap::set_bit(t, 4, b);
+    header::put_next(t, (b + 1) % limit);
+    Block(b)
+}
+
+// The block is free again.
+pub fn release_block(t: &mut [u8], b: Block)
+    requires { ⌜ PackedTables (now t) × (b .0 < 4096) ⌝ }
+    ensures { λ _. ⌜ Turns (now (t .entry)) (now (t .exit)) (putBitIn (b .0) false) ⌝ }
+{
+    bitmap::clear_bit(t, 4, b.0);
+}
+
+// No block is pending.
+pub fn none_pending() -> [u16; 64]
+    ensures { λ r. ⌜ r ≡ nonePending ⌝ }
+{
+    [65535; 64]
+}
+
+// Block b is pending for a page.
+pub fn hold(pending: &mut [u16; 64], page: Page, b: Block)
+    requires { ⌜ (page .0 < 64) × (length (now pending) ≡ 64) × (b .0 < 16384) ⌝ }
+    ensures { λ _. ⌜ (pendingOf (now (pending .exit)) ≡ upd (pendingOf (now (pending .entry))) (page .0) (stored (b .0))) × (length (now (pending .exit)) ≡ 64) ⌝ }
+{
+    let i = page.0;
+    pending[i] = b.0 as u16;
+}
+
+fn wide(x: u16) -> usize
+    ensures { λ r. ⌜ r ≡ x ⌝ }
+{
+    x as usize
+}
+
+// The block that is pending for a page.
+pub fn held(pending: &[u16; 64], page: Page) -> Entry
+    requires { ⌜ (page .0 < 64) × (length (now pending) ≡ 64) ⌝ }
+    ensures { λ r. ⌜ entryMeant r ≡ pendingOf (now (pending .entry)) (page .0) ⌝ }
+{
+    let i = page.0;
+    let n = wide(pending[i]);
+    if n < 16384 {
+        return Entry::Stored(Block(n));
+    }
+    Entry::Unmapped
+}
