@@ -14,15 +14,14 @@ use Rattle.rules.proofs.Holds.{Holds, holds-step}
 use Rattle.rules.proofs.HoldsMeans.{agrees-plain, agrees-tally}
 use Rattle.rules.proofs.StateTheorem.{given-run, holds-run, holds-start}
 use Rattle.rules.proofs.WriterSteps.{bytes}
-use Rattle.rules.specs.Agreement.{AgreesPlain, AgreesTally, bufferAfter, front, storeGive, storeGiven, storeRun}
-use Rattle.rules.specs.Calls.{Store, accepted, blankMemory, formatted, readInto, resultOf, step, viewOf, worked}
-use Rattle.rules.specs.Numbers.{Call, View, conditions, create, delete, format, lowest, make, numberOf, read, refusal, remove, tellFree, tellSize, truncate, write}
+use Rattle.rules.specs.Agreement.{AgreesPlain, AgreesTally, bufferAfter, bufferOf, front, frontOf, storeGive, storeGiven, storeRun}
+use Rattle.rules.specs.Calls.{Store, accepted, blankMemory, formatted, readInto, resultOf, step, tablesOf, viewOf, worked}
+use Rattle.rules.specs.Numbers.{Call, Look, View, bytesAsked, conditions, create, delete, format, lookOf, lowest, make, noCounts, noneAsked, numberOf, read, refusal, remove, sizeAsked, tellFree, tellSize, truncate, write}
 use Rattle.rules.specs.Plain.{Plain}
-use Rattle.rules.specs.StateTheorem.{tablesOf}
 use Rattle.rules.specs.Storage.{Memory, real}
 use Rattle.rules.specs.Tally.{Tally}
 use Rattle.tables.proofs.PackWords.{length-pack}
-use Rattle.tables.specs.Calls.{Outcome, acceptedOn, bufferOf, callOn, formatLengths, freshOf, lookedAt, outcomeOf, repacked, storeOf, viewOn}
+use Rattle.tables.specs.Calls.{Outcome, acceptedOn, bufferIn, callOn, formatLengths, freshOf, lookedAt, outcomeOf, repacked, storeOf, viewOn}
 use Rattle.tables.specs.Layout.{tableBytes}
 use Rattle.tables.specs.Packed.{wellFormed}
 
@@ -78,7 +77,7 @@ module _ (B : ℕ) (least : 1 ≤ B) (most : B ≤ 4096) (r : Store real) (pl : 
   }
 
   accepted-image : (c : Call) → AcceptedImage c
-  unfolding acceptedOn bufferAfter
+  unfolding acceptedOn bufferOf
   accepted-image format = changing format refl
   accepted-image (create s f) = changing (create s f) refl
   accepted-image (write s f off bs) = changing (write s f off bs) refl
@@ -91,18 +90,11 @@ module _ (B : ℕ) (least : 1 ≤ B) (most : B ≤ 4096) (r : Store real) (pl : 
   accepted-image tellFree = looking tellFree (λ st. []) refl ∙ (unfold accepted in refl)
 
   -- the buffer of a refused call
-  refused-buffer : (c : Call) (n : ℕ) → bufferOf c ≡ bufferAfter c (suc n) r
-  unfolding bufferAfter
-  refused-buffer format n = refl
-  refused-buffer (create s f) n = refl
-  refused-buffer (write s f off bs) n = refl
-  refused-buffer (read s f off buffer) n = refl
-  refused-buffer (truncate s f z) n = refl
-  refused-buffer (delete s f) n = refl
-  refused-buffer (make s c w) n = refl
-  refused-buffer (remove s) n = refl
-  refused-buffer (tellSize s f) n = refl
-  refused-buffer tellFree n = refl
+  refused-buffer : (k : Look) (n : ℕ) → bufferIn k ≡ bufferOf k (suc n) r
+  unfolding bufferOf
+  refused-buffer (bytesAsked s f off buffer) n = refl
+  refused-buffer (sizeAsked s f) n = refl
+  refused-buffer noneAsked n = refl
 
   -- an accepted call gives the number 0
   accepted-number : (c : Call) → accepted real (blankMemory B) c r .answer .number ≡ 0
@@ -127,7 +119,7 @@ module _ (B : ℕ) (least : 1 ≤ B) (most : B ≤ 4096) (r : Store real) (pl : 
   }
   unfolding outcomeOf resultOf
   images-as zero c = rw (accepted-number c) (accepted-image c)
-  images-as (suc n) c = ap (lookedAt (refusal (suc n)) (imageOf r .tables) (imageOf r .pages)) (refused-buffer c n)
+  images-as (suc n) c = ap (lookedAt (refusal (suc n)) (imageOf r .tables) (imageOf r .pages)) (refused-buffer (lookOf c) n)
 
   -- A CALL on the image is the call on the store
   pub call-image : (c : Call) → callOn c (imageOf r .tables) (imageOf r .pages) ≡ record {
@@ -164,6 +156,10 @@ format-image : (m : Image) → formatLengths (length (m .tables)) (length (m .pa
 unfolding callOn numberOf conditions lowest
 format-image m h = rw h (unfold outcomeOf acceptedOn accepted in refl)
 
+format-gives : (m : Image) → formatLengths (length (m .tables)) (length (m .pages)) ≡ true → gave format m ≡ record { answer = noCounts; bytes = [] }
+unfolding callOn numberOf conditions lowest frontOf
+format-gives m h = rw h (unfold outcomeOf acceptedOn accepted in refl)
+
 -- THEOREM
 pub demand3 : (m : Image) → formatLengths (length (m .tables)) (length (m .pages)) ≡ true → (cs : List Call) → Demand3 m cs
 demand3 m h cs =
@@ -175,6 +171,7 @@ demand3 m h cs =
     let s : storeOf (imageAfter m cs .tables) (imageAfter m cs .pages) ≡ storeRun B cs (formatted real (blankMemory B)) =
     ap (λ (x : Image). storeOf (x .tables) (x .pages)) e ∙ image-store B (l .2) (l .3) _ _ _ v in
     record {
+      begins = format-gives m h;
       formed = ap (λ (x : Image). wellFormed (x .tables) (length (x .pages))) e ∙ image-formed B (l .2) (l .3) _ _ _ v;
       plain = subst (λ x. AgreesPlain x (bothAfter m cs .plain)) (sym s) (agrees-plain B _ _ _ v);
       tally = subst (λ x. AgreesTally x (bothAfter m cs .tally)) (sym s) (agrees-tally B _ _ _ v);

@@ -16,10 +16,9 @@ use Rattle.rules.proofs.Holds.{Holds}
 use Rattle.rules.proofs.SetsOk.{SetsOk, first-used, next-used, parent-below, used-below}
 use Rattle.rules.proofs.Shape.{FileFits}
 use Rattle.rules.proofs.StateTheorem.{holds-blocks, holds-sets, holds-state}
-use Rattle.rules.specs.Calls.{Store, treeIn}
+use Rattle.rules.specs.Calls.{Store, tablesOf, treeIn}
 use Rattle.rules.specs.Plain.{Plain}
 use Rattle.rules.specs.State.{Entry, File, absentFile, hole, isAbsent, noSet, stored, unmapped}
-use Rattle.rules.specs.StateTheorem.{tablesOf}
 use Rattle.rules.specs.Storage.{PageData, real}
 use Rattle.rules.specs.Tally.{Tally}
 use Rattle.tables.proofs.PackUnpack.{pack-packed, unpack-pack}

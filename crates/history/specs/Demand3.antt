@@ -14,7 +14,7 @@ use mathlib.Core.Path.{_≡_}
 use Prim.Native.Nat.{_/_, ℕ}
 use lib.ListN.{length}
 use Rattle.rules.specs.Agreement.{AgreesPlain, AgreesTally, Given, bothGiven, bothRun, front}
-use Rattle.rules.specs.Numbers.{Call, format}
+use Rattle.rules.specs.Numbers.{Call, format, noCounts}
 use Rattle.rules.specs.Plain.{plainFormat}
 use Rattle.rules.specs.State.{pageBytes}
 use Rattle.rules.specs.Tally.{Both, tallyFormat}
@@ -51,6 +51,8 @@ bothAfter m cs = let blocks : ℕ = length (m .pages) / pageBytes in bothRun blo
 
 -- THE CLAIM
 pub record Demand3 (m : Image) (cs : List Call) : Type 0 where
+  -- the format is accepted
+  pub begins : gave format m ≡ record { answer = noCounts; bytes = [] }
   -- 1. the tables are well formed
   pub formed : wellFormed (imageAfter m cs .tables) (length (imageAfter m cs .pages)) ≡ true
   -- 2, 3. sets, presence, sizes and bytes by reading are those of the plain store

@@ -42,7 +42,7 @@ pub record Plainly (st : Store model) (pl : Plain) : Type 0 where
   pub trees : pl .tree ≡ treeIn model st
   pub agree : (f : ℕ) → Agree (treeIn model st) (st .files f) (pl .files f)
 
-has-list : (o : Option (List ℕ)) → isNone o ≡ false → (l : List ℕ) × (o ≡ some l)
+pub has-list : (o : Option (List ℕ)) → isNone o ≡ false → (l : List ℕ) × (o ≡ some l)
 has-list none h = absurd (true≢false h)
 has-list (some l) h = (l, refl)
 

@@ -13,10 +13,9 @@ use Rattle.rules.proofs.GoodWork.{Used, at}
 use Rattle.rules.proofs.RealStore.{BlocksOk, Named, Placed, none-stored}
 use Rattle.rules.proofs.Sums.{count-sum, sum3, sum3-one, sum3-some, sum3-term, sum3-two, sum3-zero}
 use Rattle.rules.proofs.Truncate.{apart}
-use Rattle.rules.specs.Calls.{Store}
+use Rattle.rules.specs.Calls.{Store, tablesOf}
 use Rattle.rules.specs.Plain.{present}
 use Rattle.rules.specs.State.{Entry, Tables, absent, hole, isAbsent, isUnmapped, stored, unmapped}
-use Rattle.rules.specs.StateTheorem.{tablesOf}
 use Rattle.rules.specs.Storage.{real}
 use Rattle.rules.specs.WellFormed.{allFiles, allPages, allSets, bitsFormed, blockBelow, headerFormed, names, timesNamed, zeroFile, zeroSet, zerosFormed}
 

@@ -1,23 +1,24 @@
 -- What the invariant means: the store agrees with plain store and tally, and gives what they give. Assumes nothing.
-use mathlib.Core.Bool.{false, true, true≢false}
-use mathlib.Core.List.{_++_, List}
-use mathlib.Core.Option.{Option, none, some}
-use mathlib.Core.Path.{ap, refl, sym, _∙_, _≡_}
-use Prim.Native.Nat.{_%_, _+_, _-_, _/_, _<_, suc, zero, ℕ, _≤_}
+use mathlib.Core.Bool.{false, true}
+use mathlib.Core.List.{_++_, List, _∷_, []}
+use mathlib.Core.Option.{Option, some}
+use mathlib.Core.Path.{_≡_, ap, refl, subst, sym, _∙_}
+use Prim.Native.Nat.{_%_, _+_, _-_, _/_, _<_, min, suc, zero, ℕ, _≤_}
 use native.Mathlib.Omega.{arith}
 use lib.ListN.{drop, getD, length, length-drop, length-take, take}
 use lib.Seq.{getD-drop, getD-take, take-at}
 use Rattle.base.specs.Tabulate.{length-tab, tab, tab-of}
-use Rattle.rules.proofs.Accepted.{live-of, passed-read}
+use Rattle.rules.proofs.Accepted.{live-of, passed-read, passed-size}
+use Rattle.rules.proofs.AgreeCalls.{has-list}
 use Rattle.rules.proofs.CountCalls.{forget, modelOf}
 use Rattle.rules.proofs.Holds.{Holds, answer-step}
 use Rattle.rules.proofs.MapBlocks.{mapEntry, resolve-map, size-map}
 use Rattle.rules.proofs.OneStep.{live-present}
 use Rattle.rules.proofs.Shape.{size-most}
 use Rattle.rules.proofs.WriterSteps.{bytes}
-use Rattle.rules.specs.Agreement.{AgreesPlain, AgreesTally, bothGive, bufferAfter, front, kindOf, plainBytes, storeGive}
-use Rattle.rules.specs.Calls.{Store, accepted, blankMemory, byteByReading, readCount, readInto, resultOf, step, treeIn, viewOf}
-use Rattle.rules.specs.Numbers.{Answer, Call, create, delete, format, make, numberOf, read, remove, tellFree, tellSize, truncate, write}
+use Rattle.rules.specs.Agreement.{AgreesPlain, AgreesTally, bothAnswer, bothGive, bufferAfter, bufferOf, front, frontOf, kindOf, plainBytes, plainFirst, storeGive}
+use Rattle.rules.specs.Calls.{Store, accepted, blankMemory, byteByReading, readCount, readInto, resultOf, step, treeIn, viewOf, worked}
+use Rattle.rules.specs.Numbers.{Answer, Call, Look, bytesAsked, create, delete, format, lookOf, make, noneAsked, numberOf, read, refusal, remove, sizeAsked, tellFree, tellSize, truncate, write}
 use Rattle.rules.specs.Plain.{Plain, bytesIn, isNone, present}
 use Rattle.rules.specs.Reading.{resolve, sizeByReading}
 use Rattle.rules.specs.Rules.{pageOf}
@@ -102,33 +103,84 @@ module _ (B : ℕ) (r : Store real) (pl : Plain) (ta : Tally) (v : Holds B r pl 
     answer-same : (c : Call) → step real (blankMemory B) c r .answer ≡ bothStep B c pl ta .answer
     answer-same c = answer-step B least r pl ta v c
 
-    -- a read that is accepted
-    read-as : (s f off : ℕ) (buffer : List ℕ) (n : ℕ) → numberOf (viewOf real true true r) (read s f off buffer) ≡ n →
-        let a : Answer = resultOf real n (blankMemory B) (read s f off buffer) r .answer in
-        take (a .first) (bufferAfter (read s f off buffer) (a .number) r) ≡ take (a .first) (drop off (bytesIn (pl .files f s)))
-    unfolding resultOf accepted bufferAfter
-    read-as s f off buffer zero e =
-        let al = passed-read (viewOf real true true r) s f off buffer e .alive in
-        let q = listed (pl .files f s) (v .plainly .agree f .there s ∙ live-present (r .files f s .state) al) in
-        rw (q .1) (read-bytes s f off buffer (q .0) (q .1) al)
+    -- a file that is looked at has a list in the plain store
+    listed : (s f : ℕ) → live (r .files f s .state) ≡ true → (l : List ℕ) × (pl .files f s ≡ some l)
+    listed s f al = has-list (pl .files f s) (v .plainly .agree f .there s ∙ live-present (r .files f s .state) al)
+
+    -- what a call gives back of a look: the first count and the bytes
+    pub record LooksSame (c : Call) (n : ℕ) : Type 0 where
+      pub count : resultOf real n (blankMemory B) c r .answer ≡ bothAnswer (resultOf real n (blankMemory B) c r .answer .number) c pl (resultOf real n (blankMemory B) c r .answer)
+      pub shown : front c (resultOf real n (blankMemory B) c r .answer) (bufferAfter c (resultOf real n (blankMemory B) c r .answer .number) r)
+          ≡ front c (resultOf real n (blankMemory B) c r .answer) (plainBytes (lookOf c) pl)
+
+    abbrev firstCount : ℕ → Answer
+    firstCount n = record { number = 0; first = n; second = 0; third = 0 }
+
+    read-same : (s f off : ℕ) (buffer : List ℕ) → live (r .files f s .state) ≡ true → LooksSame (read s f off buffer) 0
+    unfolding resultOf accepted bufferOf frontOf plainBytes bothAnswer plainFirst
+    read-same s f off buffer al =
+        let q = listed s f al in
+        record {
+          count = ap firstCount (ap (λ z. min (length buffer) (z - off)) (size-plain f s (q .0) (q .1) al ∙ ap (λ (o : Option (List ℕ)). length (bytesIn o)) (sym (q .1))));
+          shown = read-bytes s f off buffer (q .0) (q .1) al
+              ∙ ap (λ (o : Option (List ℕ)). take (readCount (length buffer) off (sizeByReading (treeIn real r) (r .files f) s)) (drop off (bytesIn o))) (sym (q .1));
+        }
+
+    size-same : (s f : ℕ) → live (r .files f s .state) ≡ true → LooksSame (tellSize s f) 0
+    unfolding resultOf accepted bufferOf frontOf plainBytes bothAnswer plainFirst
+    size-same s f al =
+        let q = listed s f al in
+        record {
+          count = ap firstCount (size-plain f s (q .0) (q .1) al ∙ ap (λ (o : Option (List ℕ)). length (bytesIn o)) (sym (q .1)));
+          shown = refl;
+        }
+
+    looks-refused : (c : Call) (n : ℕ) → LooksSame c (suc n)
+    unfolding resultOf bothAnswer
+    looks-refused c n = record { count = refl; shown = go (lookOf c) }
       where
-        listed : (o : Option (List ℕ)) → isNone o ≡ false → (l : List ℕ) × (o ≡ some l)
-        listed none h = absurd (true≢false h)
-        listed (some l) h = (l, refl)
-    read-as s f off buffer (suc n) e = refl
+        go : (k : Look) → frontOf k (refusal (suc n)) (bufferOf k (suc n) r) ≡ frontOf k (refusal (suc n)) (plainBytes k pl)
+        go (bytesAsked s f off buffer) = unfold frontOf in refl
+        go (sizeAsked s f) = unfold frontOf in refl
+        go noneAsked = unfold frontOf in refl
+
+    -- a call that does not look
+    plain-count : (c : Call) (a : Answer) → lookOf c ≡ noneAsked → a .number ≡ 0 → a ≡ bothAnswer (a .number) c pl a
+    unfolding bothAnswer plainFirst
+    plain-count c a e z =
+        subst (λ n. a ≡ bothAnswer n c pl a) (sym z)
+        (λ i. record { number = a .number; first = ap (λ (k : Look). plainFirst k pl (a .first)) (sym e) i; second = a .second; third = a .third })
+
+    looks-not : (c : Call) → lookOf c ≡ noneAsked → accepted real (blankMemory B) c r .answer .number ≡ 0 → LooksSame c 0
+    unfolding resultOf
+    looks-not c e z = record { count = plain-count c (accepted real (blankMemory B) c r .answer) e z; shown = go (lookOf c) e }
+      where
+        go : (k : Look) → k ≡ noneAsked → frontOf k (accepted real (blankMemory B) c r .answer) (bufferOf k (accepted real (blankMemory B) c r .answer .number) r) ≡ frontOf k (accepted real (blankMemory B) c r .answer) (plainBytes k pl)
+        go (bytesAsked s f off buffer) e = absurd (let z : _≡_ {A = ℕ} 0 1 = cc in omega arith)
+        go (sizeAsked s f) e = unfold frontOf in refl
+        go noneAsked e = unfold frontOf in refl
+
+    looks-accepted : (c : Call) → numberOf (viewOf real true true r) c ≡ 0 → LooksSame c 0
+    looks-accepted format h = looks-not format refl (unfold accepted in refl)
+    looks-accepted (create s f) h = looks-not (create s f) refl (unfold accepted in refl)
+    looks-accepted (write s f off []) h = looks-not (write s f off []) refl (unfold accepted in refl)
+    looks-accepted (write s f off (x ∷ bs)) h = looks-not (write s f off (x ∷ bs)) refl (unfold accepted worked in refl)
+    looks-accepted (read s f off buffer) h = read-same s f off buffer (passed-read (viewOf real true true r) s f off buffer h .alive)
+    looks-accepted (truncate s f n) h = looks-not (truncate s f n) refl (unfold accepted worked in refl)
+    looks-accepted (delete s f) h = looks-not (delete s f) refl (unfold accepted worked in refl)
+    looks-accepted (make s c w) h = looks-not (make s c w) refl (unfold accepted in refl)
+    looks-accepted (remove s) h = looks-not (remove s) refl (unfold accepted in refl)
+    looks-accepted (tellSize s f) h = size-same s f (passed-size (viewOf real true true r) s f h .alive)
+    looks-accepted tellFree h = looks-not tellFree refl (unfold accepted in refl)
+
+    looks-same : (c : Call) (n : ℕ) → numberOf (viewOf real true true r) c ≡ n → LooksSame c n
+    looks-same c zero h = looks-accepted c h
+    looks-same c (suc n) h = looks-refused c n
 
     pub given-step : (c : Call) → storeGive B c r ≡ bothGive B c pl ta
-    given-step c = λ i. record { answer = answer-same c i; bytes = (bytes-same c ∙ ap (λ a. front c a (plainBytes c pl)) (answer-same c)) i }
-      where
-        bytes-same : (c : Call) → front c (step real (blankMemory B) c r .answer) (bufferAfter c (step real (blankMemory B) c r .answer .number) r)
-            ≡ front c (step real (blankMemory B) c r .answer) (plainBytes c pl)
-        bytes-same format = unfold front in refl
-        bytes-same (create s f) = unfold front in refl
-        bytes-same (write s f off bs) = unfold front in refl
-        bytes-same (read s f off buffer) = unfold front plainBytes step in read-as s f off buffer _ refl
-        bytes-same (truncate s f n) = unfold front in refl
-        bytes-same (delete s f) = unfold front in refl
-        bytes-same (make s d w) = unfold front in refl
-        bytes-same (remove s) = unfold front in refl
-        bytes-same (tellSize s f) = unfold front in refl
-        bytes-same tellFree = unfold front in refl
+    unfolding step
+    given-step c =
+        let q = looks-same c (numberOf (viewOf real true true r) c) refl in
+        let e : step real (blankMemory B) c r .answer ≡ bothStep B c pl ta .answer = answer-same c in
+        let a : step real (blankMemory B) c r .answer ≡ bothAnswer (bothStep B c pl ta .answer .number) c pl (bothStep B c pl ta .answer) = q .count ∙ ap (λ (x : Answer). bothAnswer (x .number) c pl x) e in
+        λ i. record { answer = a i; bytes = (q .shown ∙ ap (λ (x : Answer). front c x (plainBytes (lookOf c) pl)) a) i }

@@ -15,12 +15,12 @@ use Rattle.rules.proofs.RealCalls.{fresh-free, kept-format}
 use Rattle.rules.proofs.SetsFormed.{sets-formed}
 use Rattle.rules.proofs.SetsOk.{format-same, format-sets}
 use Rattle.rules.specs.Agreement.{bothGiven, bothRun, storeGiven, storeRun}
-use Rattle.rules.specs.Calls.{Store, blankMemory, formatted, treeIn}
+use Rattle.rules.specs.Calls.{Store, blankMemory, formatted, tablesOf, treeIn}
 use Rattle.rules.specs.Numbers.{Call}
 use Rattle.rules.specs.Plain.{Plain, plainFormat}
 use Rattle.rules.specs.Sets.{rootAlone}
 use Rattle.rules.specs.State.{treeOf}
-use Rattle.rules.specs.StateTheorem.{StateTheorem, tablesOf}
+use Rattle.rules.specs.StateTheorem.{StateTheorem}
 use Rattle.rules.specs.Storage.{real}
 use Rattle.rules.specs.Tally.{Tally, tallyFormat}
 use Rattle.rules.specs.WellFormed.{bitsFormed, blocksFormed, headerFormed, setsFormed}

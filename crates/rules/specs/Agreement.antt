@@ -3,10 +3,10 @@ use mathlib.Core.Bool.{false}
 use mathlib.Core.List.{List, _∷_, []}
 use mathlib.Core.Option.{some}
 use mathlib.Core.Path.{_≡_}
-use Prim.Native.Nat.{_<_, suc, zero, ℕ}
+use Prim.Native.Nat.{_-_, _<_, min, suc, zero, ℕ}
 use lib.ListN.{drop, getD, length, take}
 use Rattle.rules.specs.Calls.{Store, blankMemory, byteByReading, readInto, step, treeIn}
-use Rattle.rules.specs.Numbers.{Answer, Call, create, delete, format, make, read, refusal, remove, tellFree, tellSize, truncate, write}
+use Rattle.rules.specs.Numbers.{Answer, Call, Look, bytesAsked, lookOf, noneAsked, refusal, sizeAsked}
 use Rattle.rules.specs.Plain.{Plain, bytesIn, isNone}
 use Rattle.rules.specs.Reading.{sizeByReading}
 use Rattle.rules.specs.State.{Entry, hole, isAbsent, isMarked, stored, unmapped}
@@ -40,33 +40,35 @@ pub record Given : Type 0 where
   pub bytes : List ℕ
 
 -- of a read, as many bytes as its first count; of another call, none
-unfoldable pub front : Call → Answer → List ℕ → List ℕ
-front format a l = []
-front (create s f) a l = []
-front (write s f off bs) a l = []
-front (read s f off buffer) a l = take (a .first) l
-front (truncate s f n) a l = []
-front (delete s f) a l = []
-front (make s c w) a l = []
-front (remove s) a l = []
-front (tellSize s f) a l = []
-front tellFree a l = []
+unfoldable pub frontOf : Look → Answer → List ℕ → List ℕ
+frontOf (bytesAsked s f off buffer) a l = take (a .first) l
+frontOf (sizeAsked s f) a l = []
+frontOf noneAsked a l = []
 
--- what plain store and tally together say of a call: "the first count and bytes of a read"
-unfoldable pub plainBytes : Call → Plain → List ℕ
-plainBytes format pl = []
-plainBytes (create s f) pl = []
-plainBytes (write s f off bs) pl = []
-plainBytes (read s f off buffer) pl = drop off (bytesIn (pl .files f s))
-plainBytes (truncate s f n) pl = []
-plainBytes (delete s f) pl = []
-plainBytes (make s c w) pl = []
-plainBytes (remove s) pl = []
-plainBytes (tellSize s f) pl = []
-plainBytes tellFree pl = []
+abbrev pub front : Call → Answer → List ℕ → List ℕ
+front c a l = frontOf (lookOf c) a l
+
+-- what the plain store has for a call that looks: the bytes from the offset on; "the first count … of a read, and the first count of size"
+unfoldable pub plainBytes : Look → Plain → List ℕ
+plainBytes (bytesAsked s f off buffer) pl = drop off (bytesIn (pl .files f s))
+plainBytes (sizeAsked s f) pl = []
+plainBytes noneAsked pl = []
+
+unfoldable pub plainFirst : Look → Plain → ℕ → ℕ
+plainFirst (bytesAsked s f off buffer) pl n = min (length buffer) (length (bytesIn (pl .files f s)) - off)
+plainFirst (sizeAsked s f) pl n = length (bytesIn (pl .files f s))
+plainFirst noneAsked pl n = n
+
+-- the answer of plain store and tally together: the first counts of an accepted read and size are the plain store's, all else is the tally's
+unfoldable pub bothAnswer : ℕ → Call → Plain → Answer → Answer
+bothAnswer zero c pl a = record { number = a .number; first = plainFirst (lookOf c) pl (a .first); second = a .second; third = a .third }
+bothAnswer (suc n) c pl a = a
 
 abbrev pub bothGive : ℕ → Call → Plain → Tally → Given
-bothGive blocks c pl ta = let a : Answer = bothStep blocks c pl ta .answer in record { answer = a; bytes = front c a (plainBytes c pl) }
+bothGive blocks c pl ta =
+    let b : Answer = bothStep blocks c pl ta .answer in
+    let a : Answer = bothAnswer (b .number) c pl b in
+    record { answer = a; bytes = front c a (plainBytes (lookOf c) pl) }
 
 -- plain store and tally after a list of calls, and all that they gave
 unfoldable pub bothRun : ℕ → List Call → Plain → Tally → Both
@@ -82,18 +84,15 @@ unfoldable pub storeRun : ℕ → List Call → Store real → Store real
 storeRun blocks [] st = st
 storeRun blocks (c ∷ cs) st = storeRun blocks cs (step real (blankMemory blocks) c st .store)
 
-unfoldable pub bufferAfter : Call → ℕ → Store real → List ℕ
-bufferAfter format n st = []
-bufferAfter (create s f) n st = []
-bufferAfter (write s f off bs) n st = []
-bufferAfter (read s f off buffer) zero st = readInto st s f off buffer
-bufferAfter (read s f off buffer) (suc n) st = buffer
-bufferAfter (truncate s f z) n st = []
-bufferAfter (delete s f) n st = []
-bufferAfter (make s c w) n st = []
-bufferAfter (remove s) n st = []
-bufferAfter (tellSize s f) n st = []
-bufferAfter tellFree n st = []
+-- the buffer of a call after it, where it gave the number n
+unfoldable pub bufferOf : Look → ℕ → Store real → List ℕ
+bufferOf (bytesAsked s f off buffer) zero st = readInto st s f off buffer
+bufferOf (bytesAsked s f off buffer) (suc n) st = buffer
+bufferOf (sizeAsked s f) n st = []
+bufferOf noneAsked n st = []
+
+abbrev pub bufferAfter : Call → ℕ → Store real → List ℕ
+bufferAfter c n st = bufferOf (lookOf c) n st
 
 abbrev pub storeGive : ℕ → Call → Store real → Given
 storeGive blocks c st = let a : Answer = step real (blankMemory blocks) c st .answer in record { answer = a; bytes = front c a (bufferAfter c (a .number) st) }

@@ -5,11 +5,11 @@ use Prim.Native.Nat.{_%_, _+_, _-_, _/_, min, suc, zero, ℕ}
 use lib.ListN.{drop, length}
 use Rattle.base.specs.Tabulate.{tab}
 use Rattle.base.specs.Update.{upd}
-use Rattle.rules.specs.Numbers.{Answer, Call, View, create, delete, format, make, numberOf, read, refusal, remove, tellFree, tellSize, truncate, write}
+use Rattle.rules.specs.Numbers.{Answer, Call, View, create, delete, format, make, noCounts, numberOf, read, refusal, remove, tellFree, tellSize, truncate, write}
 use Rattle.rules.specs.Reading.{resolve, sizeByReading}
 use Rattle.rules.specs.Rules.{Work, deleteFile, each, freeMap, from, holes, ownNeed, pageOf, touched, truncateFile, truncateNeed, writeFile}
 use Rattle.rules.specs.Sets.{appendSet, childFile, rootAlone, unlinkSet}
-use Rattle.rules.specs.State.{File, Files, SetRecord, Tree, absentFile, fileCount, own, pageBytes, treeOf, unmapped}
+use Rattle.rules.specs.State.{File, Files, SetRecord, Tables, Tree, absentFile, fileCount, own, pageBytes, treeOf, unmapped}
 use Rattle.rules.specs.Storage.{Memory, Storage, real}
 
 pub record Store (S : Storage) : Type 0 where
@@ -64,7 +64,7 @@ module _ (S : Storage) where
 
   -- "Others: zeros."
   abbrev pub done : Store S → Result S
-  done st = record { answer = refusal 0; store = st }
+  done st = record { answer = noCounts; store = st }
 
   -- "Read: bytes, …", "Size and free: that number, 0, 0."
   abbrev pub told : ℕ → Store S → Result S
@@ -108,6 +108,10 @@ module _ (S : Storage) where
 -- the memory after a format of n blocks: "next start 0, every page zero"
 abbrev pub blankMemory : ℕ → Memory
 blankMemory n = record { blocks = n; next = 0; bits = λ b. false; pages = λ b i. 0 }
+
+-- the tables of a store
+abbrev pub tablesOf : Store real → Tables
+tablesOf st = record { blocks = st .memory .blocks; next = st .memory .next; bits = st .memory .bits; sets = st .sets; files = st .files }
 
 -- byte i of file f in set s by reading
 unfoldable pub byteByReading : Store real → ℕ → ℕ → ℕ → ℕ

@@ -29,6 +29,24 @@ pub data Call : Type 0 where
   -- "and the free blocks"
   tellFree : Call
 
+-- what a call asks for that only looks: the bytes of a read, a file's size
+pub data Look : Type 0 where
+  bytesAsked : ℕ → ℕ → ℕ → List ℕ → Look
+  sizeAsked : ℕ → ℕ → Look
+  noneAsked : Look
+
+abbrev pub lookOf : Call → Look
+lookOf format = noneAsked
+lookOf (create s f) = noneAsked
+lookOf (write s f off bs) = noneAsked
+lookOf (read s f off buffer) = bytesAsked s f off buffer
+lookOf (truncate s f n) = noneAsked
+lookOf (delete s f) = noneAsked
+lookOf (make s c w) = noneAsked
+lookOf (remove s) = noneAsked
+lookOf (tellSize s f) = sizeAsked s f
+lookOf tellFree = noneAsked
+
 -- "An accepted call gives 0 and three counts."
 pub record Answer : Type 0 where
   pub number : ℕ
@@ -36,9 +54,12 @@ pub record Answer : Type 0 where
   pub second : ℕ
   pub third : ℕ
 
--- a refusal: counts 0
+-- a refusal: counts 0; an accepted call without counts
 abbrev pub refusal : ℕ → Answer
 refusal n = record { number = n; first = 0; second = 0; third = 0 }
+
+abbrev pub noCounts : Answer
+noCounts = record { number = 0; first = 0; second = 0; third = 0 }
 
 -- What the table looks at. The same table is judged on the store's state and, in demand 3, on plain store and tally.
 pub record View : Type 0 where

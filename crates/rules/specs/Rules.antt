@@ -35,7 +35,7 @@ touched off (suc n) = from (off / pageBytes) (suc ((off + n) / pageBytes - off /
 unfoldable pub cutPages : ℕ → ℕ → List ℕ
 cutPages n z = from (n / pageBytes) (suc ((z - 1) / pageBytes - n / pageBytes))
 
--- the page that gets an own block, where it resolves to e: "if t is no multiple of 512 and its page resolves to stored"
+-- the page of n, where it stays stored; it resolves to e: "if t is no multiple of 512 and its page resolves to stored"
 unfoldable pub keptPages : {K : Type 0} → ℕ → Entry K → List ℕ
 keptPages n e = cond (not (eqb (n % pageBytes) 0) && isStored e) (n / pageBytes ∷ []) []
 
@@ -70,7 +70,7 @@ module _ {K : Type 0} where
   unfoldable pub holes : ℕ → Entry K
   holes p = cond (ltb p pageCount) hole unmapped
 
--- What a call works on: the memory, the files of its number, the blocks pending for pages of the writer until they enter its map (step 3), the counts.
+-- What a call works on: the memory, the files of its number, the blocks pending for pages of the writer from step 3 until they enter its map in step 5, the counts.
 pub record Work (S : Storage) : Type 0 where
   pub memory : S .Memory
   pub files : Files (S .Block)

@@ -3,7 +3,6 @@ use mathlib.Core.Bool.{Bool, cond, true}
 use mathlib.Core.List.{List, _∷_, []}
 use Prim.Native.Nat.{suc, ℕ}
 use lib.Dec.{eqb}
-use lib.Seq.{sets}
 use Rattle.base.specs.Update.{upd}
 use Rattle.rules.specs.State.{File, SetRecord, State, absent, childrenOf, marked, noSet, own, unmapped, unusedSet, virgin}
 

@@ -4,18 +4,15 @@ use mathlib.Core.List.{List}
 use mathlib.Core.Path.{_≡_}
 use Prim.Native.Nat.{_*_, ℕ}
 use Rattle.rules.specs.Agreement.{AgreesPlain, AgreesTally, bothGiven, bothRun, storeGiven, storeRun}
-use Rattle.rules.specs.Calls.{Store, blankMemory, formatted}
+use Rattle.rules.specs.Calls.{blankMemory, formatted, tablesOf}
 use Rattle.rules.specs.Numbers.{Call}
 use Rattle.rules.specs.Plain.{plainFormat}
-use Rattle.rules.specs.State.{Tables, pageBytes}
+use Rattle.rules.specs.State.{pageBytes}
 use Rattle.rules.specs.Storage.{real}
 use Rattle.rules.specs.Tally.{tallyFormat}
 use Rattle.rules.specs.WellFormed.{blocksFormed, setsFormed}
 
--- the rules of well formed, for what the store holds
-abbrev pub tablesOf : Store real → Tables
-tablesOf st = record { blocks = st .memory .blocks; next = st .memory .next; bits = st .memory .bits; sets = st .sets; files = st .files }
-
+-- the rules of well formed hold, and the store agrees with plain store and tally
 pub record StateTheorem (blocks : ℕ) (cs : List Call) : Type 0 where
   pub blocks-formed : blocksFormed (tablesOf (storeRun blocks cs (formatted real (blankMemory blocks)))) (blocks * pageBytes) ≡ true
   pub sets-formed : setsFormed (tablesOf (storeRun blocks cs (formatted real (blankMemory blocks)))) ≡ true

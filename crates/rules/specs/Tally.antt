@@ -7,9 +7,8 @@ use lib.Dec.{eqb, leb, ltb}
 use lib.ListN.{length}
 use Rattle.base.specs.Count.{count, sum}
 use Rattle.base.specs.Update.{upd}
-use Rattle.rules.specs.Numbers.{Answer, Call, View, create, delete, format, make, numberOf, read, refusal, remove, tellFree, tellSize, truncate, write}
+use Rattle.rules.specs.Numbers.{Answer, Call, View, create, delete, format, make, noCounts, numberOf, read, refusal, remove, tellFree, tellSize, truncate, write}
 use Rattle.rules.specs.Plain.{Plain, plainCall}
-use Rattle.rules.specs.Rules.{truncateNeed}
 use Rattle.rules.specs.State.{Entry, File, Tree, absent, fileCount, hole, isStored, isUnmapped, isVirgin, live, marked, own, pageBytes, pageCount, setCount, stored, unmapped, virgin}
 use Rattle.rules.specs.Trees.{addChild, rootTree, takeAway}
 
@@ -191,7 +190,7 @@ tallyGrow s f n ta =
 unfoldable pub tallyTruncate : ℕ → ℕ → ℕ → Tally → TallyResult
 tallyTruncate s f n ta =
     let z : ℕ = tallySize (ta .tree) (ta .files f) s in
-    cond (eqb n z) (record { answer = refusal 0; tally = ta }) (cond (ltb z n) (tallyGrow s f n ta) (tallyCut s f n z ta))
+    cond (eqb n z) (record { answer = noCounts; tally = ta }) (cond (ltb z n) (tallyGrow s f n ta) (tallyCut s f n z ta))
 
 -- the blocks of a file
 unfoldable pub storedPages : TallyFile → ℕ

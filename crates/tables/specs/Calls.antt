@@ -5,11 +5,11 @@ use Prim.Native.Nat.{_%_, _*_, _+_, _/_, suc, zero, ℕ}
 use lib.Dec.{eqb, leb, ltb}
 use lib.ListN.{getD, length}
 use Rattle.base.specs.Tabulate.{tab}
-use Rattle.rules.specs.Calls.{Result, Store, accepted, blankMemory, readInto, viewOf}
-use Rattle.rules.specs.Numbers.{Answer, Call, View, create, delete, format, make, numberOf, read, refusal, remove, tellFree, tellSize, truncate, write}
+use Rattle.packing.specs.Bitmap.{number}
+use Rattle.rules.specs.Calls.{Result, Store, accepted, blankMemory, readInto, tablesOf, viewOf}
+use Rattle.rules.specs.Numbers.{Answer, Call, Look, View, bytesAsked, create, delete, format, lookOf, make, noneAsked, numberOf, read, refusal, remove, sizeAsked, tellFree, tellSize, truncate, write}
 use Rattle.rules.specs.Rules.{countIn, touched}
 use Rattle.rules.specs.State.{Tables, largestBlocks, pageBytes}
-use Rattle.rules.specs.StateTheorem.{tablesOf}
 use Rattle.rules.specs.Storage.{Memory, PageData, real}
 use Rattle.tables.specs.Layout.{tableBytes}
 use Rattle.tables.specs.Packed.{pack, unpack, wellFormed}
@@ -56,17 +56,10 @@ abbrev pub lookedAt : Answer → List ℕ → List ℕ → List ℕ → Outcome
 lookedAt a t p buffer = record { answer = a; tables = t; pages = p; buffer = buffer }
 
 -- the buffer that a call is given
-abbrev pub bufferOf : Call → List ℕ
-bufferOf format = []
-bufferOf (create s f) = []
-bufferOf (write s f off bs) = []
-bufferOf (read s f off buffer) = buffer
-bufferOf (truncate s f n) = []
-bufferOf (delete s f) = []
-bufferOf (make s c w) = []
-bufferOf (remove s) = []
-bufferOf (tellSize s f) = []
-bufferOf tellFree = []
+abbrev pub bufferIn : Look → List ℕ
+bufferIn (bytesAsked s f off buffer) = buffer
+bufferIn (sizeAsked s f) = []
+bufferIn noneAsked = []
 
 -- the memory that a format of these pages makes
 abbrev pub freshOf : List ℕ → Memory
@@ -89,13 +82,17 @@ acceptedOn (remove s) t p = repacked (accepted real (freshOf p) (remove s) (stor
 -- "returned (counts 0, nothing changed)"
 unfoldable pub outcomeOf : ℕ → Call → List ℕ → List ℕ → Outcome
 outcomeOf zero c t p = acceptedOn c t p
-outcomeOf (suc n) c t p = lookedAt (refusal (suc n)) t p (bufferOf c)
+outcomeOf (suc n) c t p = lookedAt (refusal (suc n)) t p (bufferIn (lookOf c))
 
 -- A CALL ON BYTES, of any contents and lengths
 unfoldable pub callOn : Call → List ℕ → List ℕ → Outcome
 callOn c t p = outcomeOf (numberOf (viewOn t p) c) c t p
 
--- "It also gives the maps looked at, at most pages read × (level + 1)": this count of a read is left free, and is not in its outcome; 0 for a refused read
+-- "It also gives the maps looked at, at most pages read × (level + 1)": this count of a read is left free. `callOn` has 0 in its place; a contract of a read
+-- compares the answer without it, and bounds it. For a refused read the bound is 0.
+abbrev pub withoutLooks : Answer → Answer
+withoutLooks a = record { number = a .number; first = a .first; second = 0; third = a .third }
+
 unfoldable pub looksBound : ℕ → ℕ → ℕ → List ℕ → List ℕ → List ℕ → ℕ
 looksBound s f off buffer t p =
     let n : ℕ = callOn (read s f off buffer) t p .answer .first in

@@ -32,7 +32,7 @@ pub record Fits (tb : Tables) : Type 0 where
   pub size-out : (f s : ℕ) → isFile f s ≡ false → tb .files f s .size ≡ 0
   pub map-out : (f s p : ℕ) → isPage f s p ≡ false → tb .files f s .map p ≡ unmapped
 
--- "Well-formed tables are read to exactly one state, which packs to the same bytes."
+-- ONE READING: what tables hold packs to the same bytes, and no other state does
 pub record OneReading (t : List ℕ) : Type 0 where
   pub same : pack (unpack t) ≡ t
   pub fits : Fits (unpack t)

@@ -1,0 +1,3 @@
+pub mod OutOfRange
+pub mod Steps
+pub mod FourEntries

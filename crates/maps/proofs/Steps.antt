@@ -1,0 +1,149 @@
+-- The steps of the recursions that the code takes: going up the parents for a page, for a size and for what is marked, and the tests of a file.
+-- Assumes nothing.
+use mathlib.Core.Bool.{false, true, true≢false}
+use mathlib.Core.Path.{ap, refl, sym, _≡_}
+use Prim.Native.Nat.{_+_, _-_, suc, zero, ℕ, _≤_}
+use native.Mathlib.Numerals.{sub-one}
+use native.Mathlib.Omega.{arith}
+use lib.Dec.{eqb}
+use borrow.Author.Tests.{eq-eqb, ne-eqb}
+use Rattle.base.specs.Logic.{test?}
+use Rattle.maps.specs.Upward.{looksFrom, resolveFrom, sizeFrom}
+use Rattle.rules.specs.Reading.{dependent, dependsOn, needs, reaches, resolve, shownEntry, shownSize, sizeByReading, someUnmapped, walk}
+use Rattle.rules.specs.State.{File, Files, State, Tables, absent, hole, isUnmapped, isVirgin, live, marked, own, pageCount, stored, treeOf, unmapped, virgin}
+
+-- ---- a page
+
+-- from a set with its own level, it is what the page resolves to
+pub resolve-level : (tb : Tables) (f p s n : ℕ) → n ≡ tb .sets s .level → resolveFrom tb f p s n ≡ resolve (treeOf (tb .sets)) (tb .files f) s p
+unfolding resolveFrom resolve
+resolve-level tb f p s n e = ap (λ m. walk (λ x. tb .sets x .parent) (λ (x : File ℕ). shownEntry (x .map p)) hole m (tb .files f) s) e
+
+module _ (tb : Tables) (f p s : ℕ) where
+  pub resolve-low : (n : ℕ) → n ≡ 0 → tb .files f s .map p ≡ unmapped → resolveFrom tb f p s n ≡ hole
+  unfolding resolveFrom walk
+  resolve-low n e h = rw (e, h)
+
+  pub resolve-above : (n : ℕ) → (n ≡ 0 → ⊥) → tb .files f s .map p ≡ unmapped → resolveFrom tb f p s n ≡ resolveFrom tb f p (tb .sets s .parent) (n - 1)
+  unfolding resolveFrom walk
+  resolve-above zero e h = absurd (e refl)
+  resolve-above (suc n) e h = rw (h, sub-one)
+
+  pub resolve-hole : (n : ℕ) → tb .files f s .map p ≡ hole → resolveFrom tb f p s n ≡ hole
+  unfolding resolveFrom walk
+  resolve-hole zero h = rw h
+  resolve-hole (suc n) h = rw h
+
+  pub resolve-stored : (n b : ℕ) → tb .files f s .map p ≡ stored b → resolveFrom tb f p s n ≡ stored b
+  unfolding resolveFrom walk
+  resolve-stored zero b h = rw h
+  resolve-stored (suc n) b h = rw h
+
+-- ---- the maps looked at
+
+pub looks-some : (tb : Tables) (f p s n : ℕ) → 1 ≤ looksFrom tb f p s n
+unfolding looksFrom
+looks-some tb f p s zero = omega arith
+looks-some tb f p s (suc n) = test? (isUnmapped (tb .files f s .map p)) (λ e. rw e (omega arith)) (λ e. rw e (omega arith))
+
+-- LAW: at most one more than the parents
+pub looks-most : (tb : Tables) (f p s n : ℕ) → looksFrom tb f p s n ≤ n + 1
+unfolding looksFrom
+looks-most tb f p s zero = omega arith
+looks-most tb f p s (suc n) =
+    test? (isUnmapped (tb .files f s .map p)) (λ e. rw e (omega (arith, looks-most tb f p (tb .sets s .parent) n))) (λ e. rw e (omega arith))
+
+module _ (tb : Tables) (f p s : ℕ) where
+  pub looks-low : (n : ℕ) → n ≡ 0 → looksFrom tb f p s n ≡ 1
+  unfolding looksFrom
+  looks-low n e = rw e
+
+  pub looks-above : (n : ℕ) → (n ≡ 0 → ⊥) → tb .files f s .map p ≡ unmapped → looksFrom tb f p s n ≡ looksFrom tb f p (tb .sets s .parent) (n - 1) + 1
+  unfolding looksFrom
+  looks-above zero e h = absurd (e refl)
+  looks-above (suc n) e h = rw (h, sub-one) (omega arith)
+
+  pub looks-here : (n : ℕ) → isUnmapped (tb .files f s .map p) ≡ false → looksFrom tb f p s n ≡ 1
+  unfolding looksFrom
+  looks-here zero h = refl
+  looks-here (suc n) h = rw h
+
+-- ---- a size
+
+pub size-level : (tb : Tables) (f s n : ℕ) → n ≡ tb .sets s .level → sizeFrom tb f s n ≡ sizeByReading (treeOf (tb .sets)) (tb .files f) s
+unfolding sizeFrom sizeByReading
+size-level tb f s n e = ap (λ m. walk (λ x. tb .sets x .parent) (λ (x : File ℕ). shownSize (x .state) (x .size)) 0 m (tb .files f) s) e
+
+virgin-is : (l : State) → isVirgin l ≡ true → l ≡ virgin
+virgin-is absent h = absurd (true≢false (sym h))
+virgin-is own h = absurd (true≢false (sym h))
+virgin-is virgin h = refl
+virgin-is marked h = absurd (true≢false (sym h))
+
+module _ (tb : Tables) (f s : ℕ) where
+  size-shown : (l : State) (n : ℕ) → tb .files f s .state ≡ l → isVirgin l ≡ false → sizeFrom tb f s n ≡ tb .files f s .size
+  unfolding sizeFrom walk
+  size-shown absent zero e h = rw e
+  size-shown absent (suc n) e h = rw e
+  size-shown own zero e h = rw e
+  size-shown own (suc n) e h = rw e
+  size-shown virgin n e h = absurd (true≢false h)
+  size-shown marked zero e h = rw e
+  size-shown marked (suc n) e h = rw e
+
+  pub size-here : (n : ℕ) → isVirgin (tb .files f s .state) ≡ false → sizeFrom tb f s n ≡ tb .files f s .size
+  size-here n h = size-shown (tb .files f s .state) n refl h
+
+  pub size-low : (n : ℕ) → n ≡ 0 → isVirgin (tb .files f s .state) ≡ true → sizeFrom tb f s n ≡ 0
+  unfolding sizeFrom walk
+  size-low n e h = rw (e, virgin-is (tb .files f s .state) h)
+
+  pub size-above : (n : ℕ) → (n ≡ 0 → ⊥) → isVirgin (tb .files f s .state) ≡ true → sizeFrom tb f s n ≡ sizeFrom tb f (tb .sets s .parent) (n - 1)
+  unfolding sizeFrom walk
+  size-above zero e h = absurd (e refl)
+  size-above (suc n) e h = rw (virgin-is (tb .files f s .state) h, sub-one)
+
+-- ---- the tests of a file
+
+pub needs-not : (files : Files ℕ) (s p : ℕ) → live (files s .state) ≡ false → false ≡ needs files s p
+unfolding needs
+needs-not files s p h = rw h
+
+pub needs-live : (files : Files ℕ) (s p : ℕ) → live (files s .state) ≡ true → isUnmapped (files s .map p) ≡ needs files s p
+unfolding needs
+needs-live files s p h = rw h
+
+pub dependent-not : (x : File ℕ) → live (x .state) ≡ false → false ≡ dependent x
+unfolding dependent
+dependent-not x h = rw h
+
+pub dependent-live : (x : File ℕ) → live (x .state) ≡ true → someUnmapped pageCount (x .map) ≡ dependent x
+unfolding dependent
+dependent-live x h = rw h
+
+-- ---- who is marked
+
+pub reaches-level : (tb : Tables) (f c s n : ℕ) → n ≡ tb .sets s .level → dependsOn (treeOf (tb .sets)) (tb .files f) c n s ≡ reaches (treeOf (tb .sets)) (tb .files f) c s
+unfolding reaches
+reaches-level tb f c s n e = ap (λ m. dependsOn (treeOf (tb .sets)) (tb .files f) c m s) e
+
+module _ (tb : Tables) (f c s : ℕ) where
+  pub dep-here : (n : ℕ) → c ≡ s → dependsOn (treeOf (tb .sets)) (tb .files f) c n s ≡ true
+  unfolding dependsOn
+  dep-here zero e = eq-eqb c s e
+  dep-here (suc n) e = rw (eq-eqb c s e)
+
+  pub dep-stop : (n : ℕ) → (c ≡ s → ⊥) → dependent (tb .files f s) ≡ false → dependsOn (treeOf (tb .sets)) (tb .files f) c n s ≡ false
+  unfolding dependsOn
+  dep-stop zero e h = ne-eqb c s e
+  dep-stop (suc n) e h = rw (ne-eqb c s e, h)
+
+  pub dep-up : (n : ℕ) → (n ≡ 0 → ⊥) → (c ≡ s → ⊥) → dependent (tb .files f s) ≡ true
+      → dependsOn (treeOf (tb .sets)) (tb .files f) c n s ≡ dependsOn (treeOf (tb .sets)) (tb .files f) c (n - 1) (tb .sets s .parent)
+  unfolding dependsOn
+  dep-up zero q e h = absurd (q refl)
+  dep-up (suc n) q e h = rw (ne-eqb c s e, h, sub-one)
+
+  pub dep-last : (n : ℕ) → n ≡ 0 → dependsOn (treeOf (tb .sets)) (tb .files f) c n s ≡ eqb c s
+  unfolding dependsOn
+  dep-last n q = rw q

@@ -1,0 +1,3 @@
+pub mod Upward
+pub mod FourEntries
+pub mod Mask

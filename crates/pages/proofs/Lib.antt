@@ -1,0 +1,3 @@
+pub mod PageRuns
+pub mod Overlays
+pub mod Whole
