@@ -1,0 +1,113 @@
+-- How the rules on the header and on set records make up the rules of well formed tables, and what set records that pass them are.
+-- Assumes nothing.
+use mathlib.Core.Bool.{_&&_, Bool, false, not, true, _||_}
+use mathlib.Core.List.{List}
+use mathlib.Core.Path.{refl, sym, _∙_, _≡_}
+use Prim.Native.Nat.{_*_, _<_, ℕ}
+use lib.Dec.{eqb, leb, ltb}
+use lib.ListN.{length}
+use borrow.Author.Tests.{eqb-true, leb-true, ltb-true}
+use Rattle.base.specs.Logic.{and-false, and-left, and-right}
+use Rattle.packing.specs.Fields.{getField}
+use Rattle.rules.proofs.SetsFormed.{sets-formed}
+use Rattle.rules.proofs.SetsOk.{SetsOk}
+use Rattle.rules.proofs.Tests.{and-4, sets-at}
+use Rattle.rules.specs.State.{Tables, isAbsent, largestBlocks, pageBytes, setCount}
+use Rattle.rules.specs.WellFormed.{allFiles, allSets, bitsFormed, filesFormed, headerFormed, treeFormed, zeroFile, zeroSet, zerosFormed}
+use Rattle.setcheck.specs.Records.{fileRecordsFormed, headerZero, setRecordsFormed, setZero, unusedZero, zerosOfSets}
+use Rattle.tables.proofs.ReadParts.{set-default}
+use Rattle.tables.specs.Layout.{headWidths, headWord, setWidths, setWord, tableBytes}
+use Rattle.tables.specs.Packed.{blockRules, fieldsFormed, kindsFormed, setRules, unpack, wellFormed}
+use Rattle.tables.specs.Views.{HeaderIn}
+
+-- the parts of `setRules` in another order
+by-record : (a b c d e f g h : Bool) → (a && b && c && (d && e && f && g && h)) ≡ (a && (b && d && g) && (c && e && f && h))
+by-record false b c d e f g h = refl
+by-record true false c d e f g h = refl
+by-record true true false d e f g h = sym (and-false (d && g))
+by-record true true true false e f g h = refl
+by-record true true true true false f g h = sym (and-false g)
+by-record true true true true true false g h = sym (and-false g)
+by-record true true true true true true g h = refl
+
+-- the parts of `wellFormed` in another order
+header-first : (l k f b z s r : Bool) → (l && k && (f && b) && (z && s && r)) ≡ (l && f && z && s && (k && b && r))
+header-first false k f b z s r = refl
+header-first true false f b z s r = sym (and-false (f && z && s))
+header-first true true false b z s r = refl
+header-first true true true false z s r = sym (and-false (z && s))
+header-first true true true true z s r = refl
+
+-- a header that passes
+module _ (tb : Tables) (n : ℕ) (h : headerFormed tb n ≡ true) where
+  header-tests : (leb 1 (tb .blocks) ≡ true) × (leb (tb .blocks) largestBlocks ≡ true) × (ltb (tb .next) (tb .blocks) ≡ true) × (eqb n (tb .blocks * pageBytes) ≡ true)
+  unfolding headerFormed
+  header-tests = and-4 (leb 1 (tb .blocks)) (leb (tb .blocks) largestBlocks) (ltb (tb .next) (tb .blocks)) (eqb n (tb .blocks * pageBytes)) h
+
+  -- LAW: B is 1 to 4,096, next start is below B
+  pub header-in : HeaderIn tb
+  header-in = record {
+    at-least = leb-true 1 (tb .blocks) (header-tests .0);
+    most = leb-true (tb .blocks) largestBlocks (header-tests .1);
+    next-in = ltb-true (tb .next) (tb .blocks) (header-tests .2);
+  }
+
+  -- LAW: the pages buffer is B × 512 bytes
+  pub header-size : n ≡ tb .blocks * pageBytes
+  header-size = eqb-true n (tb .blocks * pageBytes) (header-tests .3)
+
+module _ (t : List ℕ) where
+  -- LAW: the zero rules on set records are those of `fieldsFormed` and `zerosFormed`
+  pub zeros-say : zerosOfSets t ≡ (allSets (λ s. eqb (getField setWidths (setWord t s) 6) 0) && allSets (λ s. unpack t .sets s .used || zeroSet (unpack t .sets s)))
+  unfolding zerosOfSets unusedZero
+  zeros-say = refl
+
+  -- LAW: all rules on set records, one after the other
+  pub set-records-say : setRecordsFormed t
+      ≡ (allSets (λ s. eqb (getField setWidths (setWord t s) 6) 0) && allSets (λ s. unpack t .sets s .used || zeroSet (unpack t .sets s)) && treeFormed (unpack t))
+  unfolding setRecordsFormed zerosOfSets unusedZero
+  set-records-say = refl
+
+  -- LAW: the rules on zero fields, sets and files are those on the header's zero field, on set records and on file records
+  pub set-rules-parts : setRules t ≡ (headerZero t && setRecordsFormed t && fileRecordsFormed t)
+  unfolding setRules fieldsFormed zerosFormed setRecordsFormed zerosOfSets unusedZero fileRecordsFormed
+  set-rules-parts =
+      by-record (headerZero t) (allSets (setZero t)) (allFiles (λ f s. eqb (getField headWidths (headWord t f s) 2) 0))
+      (allSets (λ s. unpack t .sets s .used || zeroSet (unpack t .sets s)))
+      (allFiles (λ f s. not (isAbsent (unpack t .files f s .state)) || zeroFile (unpack t .files f s)))
+      (allFiles (λ f s. unpack t .sets s .used || isAbsent (unpack t .files f s .state)))
+      (treeFormed (unpack t))
+      (filesFormed (unpack t))
+
+  -- LAW: well formed is what the check of header and set records says, and then the rules on entries, bits and file records
+  pub well-formed-parts : (n : ℕ) → wellFormed t n
+      ≡ (eqb (length t) tableBytes && headerFormed (unpack t) n && headerZero t && setRecordsFormed t
+      && (kindsFormed t && bitsFormed (unpack t) && fileRecordsFormed t))
+  unfolding wellFormed blockRules
+  well-formed-parts n =
+      rw set-rules-parts
+      (header-first (eqb (length t) tableBytes) (kindsFormed t) (headerFormed (unpack t) n) (bitsFormed (unpack t)) (headerZero t) (setRecordsFormed t)
+      (fileRecordsFormed t))
+
+  -- set records that pass
+  module _ (h : setRecordsFormed t ≡ true) where
+    pub records-zeros : zerosOfSets t ≡ true
+    unfolding setRecordsFormed
+    records-zeros = and-left (zerosOfSets t) (treeFormed (unpack t)) h
+
+    pub records-tree : treeFormed (unpack t) ≡ true
+    unfolding setRecordsFormed
+    records-tree = and-right (zerosOfSets t) (treeFormed (unpack t)) h
+
+    pub records-unused : allSets (λ s. unpack t .sets s .used || zeroSet (unpack t .sets s)) ≡ true
+    records-unused = and-right (allSets (setZero t)) (allSets (λ s. unpack t .sets s .used || zeroSet (unpack t .sets s))) (sym zeros-say ∙ records-zeros)
+
+    -- LAW: the zero field of each set record is zero
+    pub records-fields : (s : ℕ) → s < setCount → getField setWidths (setWord t s) 6 ≡ 0
+    records-fields s l =
+        eqb-true (getField setWidths (setWord t s) 6) 0
+        (sets-at (setZero t) (and-left (allSets (setZero t)) (allSets (λ s. unpack t .sets s .used || zeroSet (unpack t .sets s))) (sym zeros-say ∙ records-zeros)) s l)
+
+    -- LAW: the sets are a tree, as the rules take them to be
+    pub records-sets : SetsOk (unpack t .sets)
+    records-sets = sets-formed (unpack t) (set-default t) records-tree records-unused

@@ -1,0 +1,77 @@
+-- The zero rules on set records, in the order of the code's tests. Assumes nothing.
+use mathlib.Core.Bool.{Bool, false, not, true}
+use mathlib.Core.List.{List}
+use mathlib.Core.Path.{subst, sym, _∙_, _≡_}
+use Prim.Native.Nat.{_+_, _<_, ℕ}
+use native.Mathlib.Numerals.{add-one}
+use lib.Dec.{eqb}
+use borrow.Author.Tests.{eq-eqb, ne-eqb, not-false, not-true}
+use Rattle.base.specs.Count.{all, all-more, all-none, all-not}
+use Rattle.base.specs.Logic.{and-both, and-false}
+use Rattle.rules.specs.State.{SetRecord, Tables}
+use Rattle.rules.specs.WellFormed.{allSets, zeroSet}
+use Rattle.setcheck.specs.Records.{setZero, unusedZero, zerosOfSets}
+use Rattle.tables.specs.Packed.{unpack}
+
+-- the fields of a record
+module _ (r : SetRecord) where
+  pub zero-writeable : r .writeable ≡ true → false ≡ zeroSet r
+  zero-writeable h = rw h
+
+  pub zero-level : r .writeable ≡ false → (r .level ≡ 0 → ⊥) → false ≡ zeroSet r
+  zero-level h k = rw (h, ne-eqb (r .level) 0 k)
+
+  pub zero-parent : r .writeable ≡ false → r .level ≡ 0 → (r .parent ≡ 0 → ⊥) → false ≡ zeroSet r
+  zero-parent h k l = rw (h, eq-eqb (r .level) 0 k, ne-eqb (r .parent) 0 l)
+
+  pub zero-child : r .writeable ≡ false → r .level ≡ 0 → r .parent ≡ 0 → (r .firstChild ≡ 0 → ⊥) → false ≡ zeroSet r
+  zero-child h k l m = rw (h, eq-eqb (r .level) 0 k, eq-eqb (r .parent) 0 l, ne-eqb (r .firstChild) 0 m)
+
+  pub zero-sibling : r .writeable ≡ false → r .level ≡ 0 → r .parent ≡ 0 → r .firstChild ≡ 0 → eqb (r .nextSibling) 0 ≡ zeroSet r
+  zero-sibling h k l m = rw (h, eq-eqb (r .level) 0 k, eq-eqb (r .parent) 0 l, eq-eqb (r .firstChild) 0 m)
+
+-- a used set, an unused set
+module _ (tb : Tables) (s : ℕ) (r : SetRecord) (e : r ≡ tb .sets s) where
+  pub used-passes : r .used ≡ true → true ≡ unusedZero tb s
+  unfolding unusedZero
+  used-passes h = rw (← e, h)
+
+  pub unused-by-fields : (b : Bool) → r .used ≡ false → b ≡ zeroSet r → b ≡ unusedZero tb s
+  unfolding unusedZero
+  unused-by-fields b h k = k ∙ rw (← e, h)
+
+-- one number more has passed
+pub all-next : (f : ℕ → Bool) (n : ℕ) → all n f ≡ true → f n ≡ true → all (n + 1) f ≡ true
+all-next f n h k = rw (add-one, all-more) (and-both (f n) (all n f) k h)
+
+-- the sets one after the other
+module _ (t : List ℕ) where
+  -- the sets below s have passed
+  pub record ZerosTo (s : ℕ) : Type 0 where
+    pub fields : all s (setZero t) ≡ true
+    pub unused : all s (unusedZero (unpack t)) ≡ true
+
+  pub zeros-start : ZerosTo 0
+  zeros-start = record { fields = all-none (setZero t); unused = all-none (unusedZero (unpack t)) }
+
+  module _ (s : ℕ) where
+    pub zeros-field : (b : Bool) → s < 8 → b ≡ setZero t s → not b ≡ true → false ≡ zerosOfSets t
+    unfolding zerosOfSets allSets
+    zeros-field b l e h = rw (all-not 8 (setZero t) s l (sym e ∙ not-true b h))
+
+    pub zeros-unused : (b : Bool) → s < 8 → b ≡ unusedZero (unpack t) s → not b ≡ true → false ≡ zerosOfSets t
+    unfolding zerosOfSets allSets
+    zeros-unused b l e h = rw (all-not 8 (unusedZero (unpack t)) s l (sym e ∙ not-true b h), and-false)
+
+    pub zeros-next : (a b : Bool) → ZerosTo s → a ≡ setZero t s → not a ≡ false → b ≡ unusedZero (unpack t) s → not b ≡ false → ZerosTo (s + 1)
+    zeros-next a b z e h d k = record {
+      fields = all-next (setZero t) s (z .fields) (sym e ∙ not-false a h);
+      unused = all-next (unusedZero (unpack t)) s (z .unused) (sym d ∙ not-false b k);
+    }
+
+    pub zeros-all : ZerosTo s → s ≡ 8 → true ≡ zerosOfSets t
+    unfolding zerosOfSets allSets
+    zeros-all z e =
+        sym (and-both (all 8 (setZero t)) (all 8 (unusedZero (unpack t)))
+        (subst (λ n. all n (setZero t) ≡ true) e (z .fields))
+        (subst (λ n. all n (unusedZero (unpack t)) ≡ true) e (z .unused)))

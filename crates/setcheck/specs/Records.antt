@@ -1,0 +1,42 @@
+-- The rules of well formed tables that concern the header and the set records, set by set and together, and those that remain for
+-- the file records. Document 01, "Packed tables".
+use mathlib.Core.Bool.{_&&_, Bool, not, _||_}
+use mathlib.Core.List.{List}
+use Prim.Native.Nat.{ℕ}
+use lib.Dec.{eqb}
+use Rattle.packing.specs.Fields.{getField}
+use Rattle.rules.specs.State.{Tables, isAbsent}
+use Rattle.rules.specs.WellFormed.{allFiles, allSets, chainFormed, filesFormed, placeFormed, treeFormed, zeroFile, zeroSet}
+use Rattle.tables.specs.Layout.{headWidths, headWord, headerWidths, headerWord, setWidths, setWord}
+use Rattle.tables.specs.Packed.{unpack}
+
+-- "Zero fields are zero": that of the header, that of a set record
+abbrev pub headerZero : List ℕ → Bool
+headerZero t = eqb (getField headerWidths (headerWord t) 2) 0
+
+abbrev pub setZero : List ℕ → ℕ → Bool
+setZero t s = eqb (getField setWidths (setWord t s) 6) 0
+
+-- "Unused sets are all zero": one set
+unfoldable pub unusedZero : Tables → ℕ → Bool
+unusedZero tb s = tb .sets s .used || zeroSet (tb .sets s)
+
+-- the rules of the tree for one set
+unfoldable pub setInTree : Tables → ℕ → Bool
+setInTree tb s = not (tb .sets s .used) || (chainFormed tb s && (eqb s 0 || placeFormed tb s))
+
+-- the zero rules on set records
+unfoldable pub zerosOfSets : List ℕ → Bool
+zerosOfSets t = allSets (setZero t) && allSets (unusedZero (unpack t))
+
+-- ALL RULES on set records
+unfoldable pub setRecordsFormed : List ℕ → Bool
+setRecordsFormed t = zerosOfSets t && treeFormed (unpack t)
+
+-- what `setRules` says besides of the file records
+unfoldable pub fileRecordsFormed : List ℕ → Bool
+fileRecordsFormed t =
+    allFiles (λ f s. eqb (getField headWidths (headWord t f s) 2) 0)
+    && allFiles (λ f s. not (isAbsent (unpack t .files f s .state)) || zeroFile (unpack t .files f s))
+    && allFiles (λ f s. unpack t .sets s .used || isAbsent (unpack t .files f s .state))
+    && filesFormed (unpack t)

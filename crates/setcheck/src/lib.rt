@@ -1,0 +1,6 @@
+// The part of the check of well formed tables that concerns the header and the set records. Every function takes any bytes of the
+// tables' length, and its answer equals the Boolean definition that its contract names.
+pub mod chains;
+pub mod header;
+pub mod records;
+pub mod tree;
