@@ -1,0 +1,29 @@
+-- `copying::giving::give_block` meets its contract. Assumes nothing.
+use borrow.Author.Needs.{needs}
+use Rattle.copying.proofs.Given.{supply-copy, supply-mark}
+use Rattle.copying.proofs.Marks.{marked-step}
+use Rattle.copying.proofs.giving.give_block.Statement.{statement}
+use Rattle.copying.proofs.giving.give_block.Tie as tie
+
+returns : tie.Need-returns
+returns c =
+    let m = c .before .before .before in
+    let i = m .before .before in
+    let s = i .before .before .before .before in
+    let a = s .args in
+    supply-mark (a .c) (a .page .0) (a .b .0) (s .pre .0) (i .if1 .taken)
+    (marked-step (a .c) (m .mark-down .result) (s .pre .0) (s .pre .4) (m .mark-down .ensures .0) (m .mark-down .ensures .1))
+
+returns-2 : tie.Need-returns-2
+returns-2 c =
+    let m = c .before .before .before .before in
+    let i = m .before .before .before in
+    let s = i .before .before .before .before in
+    let a = s .args in
+    supply-copy (a .c) (a .page .0) (a .b .0) (s .pre .0) (i .if1 .left) (m .copy-to .ensures)
+
+pub give-block-spec : {M : Type 1} → statement M
+give-block-spec =
+    tie.close
+    (tie.spec
+    (λ c κs. search needs) (λ c. search needs) (λ c. search needs) returns (λ c κs. search needs) (λ c. search needs) (λ c. search needs) returns-2)

@@ -1,0 +1,82 @@
+-- For the contracts of the code, not for a reader of document 01: the rules' work on the files of one number, read off tables, pages and the counts of the code; what every step of a call needs and keeps; what a step must show.
+use mathlib.Core.Bool.{not}
+use mathlib.Core.List.{List}
+use mathlib.Core.Path.{_≡_}
+use Prim.Native.Nat.{_*_, _+_, _<_, ℕ, _≤_}
+use lib.ListN.{length}
+use Rattle.base.specs.Count.{count}
+use Rattle.base.specs.Update.{upd}
+use Rattle.rules.specs.Rules.{Work, each, give, settle}
+use Rattle.rules.specs.State.{Entry, Files, SetRecord, Tables, absentFile, live, stored, treeOf}
+use Rattle.rules.specs.Storage.{Memory, PageData, real}
+use Rattle.tables.specs.Calls.{pagesOf}
+use Rattle.tables.specs.Packed.{unpack}
+use Rattle.tables.specs.Views.{HeaderIn, PackedTables}
+use Rattle.copying.specs.declared.giving.Counts.{Counts}
+
+-- the memory of tables and pages
+abbrev pub memoryOf : Tables → (ℕ → PageData) → Memory
+memoryOf tb pg = record { blocks = tb .blocks; next = tb .next; bits = tb .bits; pages = pg }
+
+-- the work on files x of one number, with the blocks pending h
+abbrev pub workOf : Memory → Files ℕ → (ℕ → Entry ℕ) → Counts → Work real
+workOf m x h k = record { memory = m; files = x; pending = h; taken = k .taken; copies = k .copies; marks = k .marks }
+
+-- the work on the files of number f
+abbrev pub work : Tables → (ℕ → PageData) → ℕ → (ℕ → Entry ℕ) → Counts → Work real
+work tb pg f h k = workOf (memoryOf tb pg) (tb .files f) h k
+
+-- what no step on the files of number f changes: the block count, the sets, the files of other numbers
+pub record Rest : Type 0 where
+  pub blocks : ℕ
+  pub sets : ℕ → SetRecord
+  pub others : ℕ → Files ℕ
+
+abbrev pub rest : Tables → ℕ → Rest
+rest tb f = record { blocks = tb .blocks; sets = tb .sets; others = upd (tb .files) f (λ s. absentFile) }
+
+-- What a step needs of the state: header and blocks in range, the count of free blocks right, and no count that can grow too large.
+pub record Sound (tb : Tables) (f : ℕ) (k : Counts) : Type 0 where
+  pub header : HeaderIn tb
+  pub named : (s p b : ℕ) → tb .files f s .map p ≡ stored b → b < tb .blocks
+  pub left-is : k .left ≡ count (tb .blocks) (λ b. not (tb .bits b))
+  pub room : k .taken + k .copies + k .left ≤ 4096
+  pub alive : k .marks + count 8 (λ s. live (tb .files f s .state)) ≤ 8
+
+-- and of tables and pages
+pub record Ready (t p : List ℕ) (f : ℕ) (k : Counts) : Type 0 where
+  pub packed : PackedTables t
+  pub sound : Sound (unpack t) f k
+  pub size : length p ≡ unpack t .blocks * 512
+  pub file : f < 16
+
+-- from one state to the next by op, whatever is pending
+pub record Does (tb : Tables) (pg : ℕ → PageData) (tb′ : Tables) (pg′ : ℕ → PageData) (f : ℕ) (k k′ : Counts) (op : Work real → Work real) : Type 0 where
+  pub same : rest tb′ f ≡ rest tb f
+  pub does : (h : ℕ → Entry ℕ) → work tb′ pg′ f h k′ ≡ op (work tb pg f h k)
+
+-- tables t and pages p become t′ and p′ by op, and the next step can be taken
+pub record Step (t p t′ p′ : List ℕ) (f : ℕ) (k k′ : Counts) (op : Work real → Work real) : Type 0 where
+  pub step : Does (unpack t) (pagesOf p) (unpack t′) (pagesOf p′) f k k′ op
+  pub ready : Ready t′ p′ f k′
+
+-- in a loop: op of the whole is what is done, which made t and p of t₀ and p₀, and then todo
+pub record Going (t₀ p₀ t p : List ℕ) (f : ℕ) (k₀ k : Counts) (op todo : Work real → Work real) : Type 0 where
+  pub same : rest (unpack t) f ≡ rest (unpack t₀) f
+  pub ready : Ready t p f k
+  pub whole : (h : ℕ → Entry ℕ) → op (work (unpack t₀) (pagesOf p₀) f h k₀) ≡ todo (work (unpack t) (pagesOf p) f h k)
+
+-- a step that changes the tables alone: whatever the pages and the counts
+abbrev pub Alone : List ℕ → List ℕ → ℕ → (Work real → Work real) → Type 0
+Alone t t′ f op = (p : List ℕ) (k : Counts) → Ready t p f k → Step t p t′ p f k k op
+
+-- a change of the files alone, as a change of the work
+abbrev pub onFiles : (Files ℕ → Files ℕ) → Work real → Work real
+onFiles g w = record { memory = w .memory; files = g (w .files); pending = w .pending; taken = w .taken; copies = w .copies; marks = w .marks }
+
+-- steps 2 and 4, for the children of set s: each settled, each given page q
+abbrev pub settleChildren : (ℕ → SetRecord) → ℕ → Work real → Work real
+settleChildren sets s = each (settle real (treeOf sets)) (treeOf sets .children s)
+
+abbrev pub giveChildren : (ℕ → SetRecord) → ℕ → ℕ → Work real → Work real
+giveChildren sets s q = each (give real (treeOf sets) s q) (treeOf sets .children s)

@@ -1,0 +1,11 @@
+pub mod Turning
+pub mod ZeroWords
+pub mod Holes
+pub mod Freeing
+pub mod BlankTables
+pub mod Linking
+pub mod ChildFiles
+pub mod Clearing
+pub mod Unlinking
+pub mod OnStores
+pub mod Formed

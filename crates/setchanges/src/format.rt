@@ -1,0 +1,43 @@
+// Format.
+ghost use mathlib.Core.Path.{_≡_};
+ghost use Prim.Native.Nat.{_<_, _≤_};
+ghost use lib.ListN.{length};
+ghost use Rattle.rules.specs.Calls.{blankMemory, formatted, tablesOf};
+ghost use Rattle.rules.specs.Storage.{real};
+ghost use Rattle.tables.specs.Layout.{tableBytes};
+ghost use Rattle.tables.specs.Packed.{pack};
+ghost use Rattle.tables.specs.Views.{PackedTables, Turns};
+ghost use Rattle.setchanges.specs.Changes.{putHeaderIn};
+use crate::zero;
+use packing::words;
+use tables::sets;
+use tables::sets::SetRecord;
+
+// The header: B, and next start 0.
+fn put_blocks(t: &mut [u8], blocks: usize)
+    requires { ⌜ PackedTables (now t) × (blocks < 8192) ⌝ }
+    ensures { λ _. ⌜ Turns (now (t .entry)) (now (t .exit)) (putHeaderIn blocks 0) ⌝ }
+{
+    words::write32(t, 0, (blocks * 524288) as u32);
+}
+
+// "Format makes set 0 alone": every other byte is zero.
+pub fn format_tables(t: &mut [u8], blocks: usize)
+    requires { ⌜ (length (now t) ≡ tableBytes) × (blocks ≤ 4096) ⌝ }
+    ensures { λ _. ⌜ now (t .exit) ≡ pack (tablesOf (formatted real (blankMemory blocks))) ⌝ }
+{
+    zero::zero_bytes(t, 0, 17436);
+    put_blocks(t, blocks);
+    sets::put_set(
+        t,
+        0,
+        SetRecord {
+            used: true,
+            writeable: true,
+            level: 0,
+            parent: 8,
+            first_child: 8,
+            next_sibling: 8,
+        },
+    );
+}
