@@ -4,4 +4,4 @@ pub mod create;
 pub mod format;
 pub mod make;
 pub mod remove;
-mod zero;
+pub mod zero;

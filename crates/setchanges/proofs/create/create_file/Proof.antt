@@ -1,4 +1,4 @@
--- `sets::create::create_file` meets its contract. Assumes nothing.
+-- `setchanges::create::create_file` meets its contract. Assumes nothing.
 use mathlib.Core.Path.{refl}
 use borrow.Author.Needs.{needs}
 use Rattle.tables.specs.Meaning.{stateMeant}

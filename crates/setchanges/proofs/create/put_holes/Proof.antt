@@ -1,4 +1,4 @@
--- `sets::create::put_holes` meets its contract. The loop's invariant: the first p entries are holes. Assumes nothing.
+-- `setchanges::create::put_holes` meets its contract. The loop's invariant: the first p entries are holes. Assumes nothing.
 use mathlib.Core.Path.{refl, sym, _∙_}
 use Prim.Native.Nat.{_≤_, _-_}
 use native.Mathlib.Omega.{arith}

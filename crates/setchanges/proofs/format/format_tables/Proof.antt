@@ -1,4 +1,4 @@
--- `sets::format::format_tables` meets its contract. Assumes nothing.
+-- `setchanges::format::format_tables` meets its contract. Assumes nothing.
 use Prim.Native.Nat.{ℕ}
 use native.Mathlib.Omega.{arith}
 use borrow.Author.Needs.{needs}

@@ -1,4 +1,4 @@
--- `sets::format::put_blocks` meets its contract. Assumes nothing.
+-- `setchanges::format::put_blocks` meets its contract. Assumes nothing.
 use borrow.Author.Needs.{needs}
 use Rattle.setchanges.proofs.BlankTables.{blocks-put}
 use Rattle.setchanges.proofs.format.put_blocks.Statement.{statement}

@@ -1,4 +1,4 @@
--- `sets::make::append_set` meets its contract. Assumes nothing.
+-- `setchanges::make::append_set` meets its contract. Assumes nothing.
 use native.Mathlib.Omega.{arith}
 use borrow.Author.Needs.{needs}
 use Rattle.setchanges.proofs.Linking.{append-first, append-behind}

@@ -1,4 +1,4 @@
--- `sets::make::child_files` meets its contract. The loop's invariant: the first f files are done. Assumes nothing.
+-- `setchanges::make::child_files` meets its contract. The loop's invariant: the first f files are done. Assumes nothing.
 use mathlib.Core.Path.{sym, _∙_}
 use Prim.Native.Nat.{_≤_, _-_}
 use native.Mathlib.Omega.{arith}

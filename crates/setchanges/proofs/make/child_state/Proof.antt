@@ -1,4 +1,4 @@
--- `sets::make::child_state` meets its contract. Assumes nothing.
+-- `setchanges::make::child_state` meets its contract. Assumes nothing.
 use borrow.Author.Needs.{needs}
 use Rattle.tables.specs.Meaning.{stateMeant}
 use Rattle.setchanges.proofs.make.child_state.Statement.{statement}

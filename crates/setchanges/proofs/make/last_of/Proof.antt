@@ -1,4 +1,4 @@
--- `sets::make::last_of` meets its contract. The loop's invariant: the last of what is left is the last of the chain. Assumes nothing.
+-- `setchanges::make::last_of` meets its contract. The loop's invariant: the last of what is left is the last of the chain. Assumes nothing.
 use mathlib.Core.Path.{_≡_, refl, sym, _∙_}
 use Prim.Native.Nat.{_≤_, _<_}
 use native.Mathlib.Omega.{arith}

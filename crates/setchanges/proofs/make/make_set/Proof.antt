@@ -1,4 +1,4 @@
--- `sets::make::make_set` meets its contract. Assumes nothing.
+-- `setchanges::make::make_set` meets its contract. Assumes nothing.
 use borrow.Author.Needs.{needs}
 use Rattle.setchanges.proofs.ChildFiles.{appended-files, make-turns}
 use Rattle.setchanges.proofs.make.make_set.Statement.{statement}

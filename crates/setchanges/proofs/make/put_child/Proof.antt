@@ -1,4 +1,4 @@
--- `sets::make::put_child` meets its contract. Assumes nothing.
+-- `setchanges::make::put_child` meets its contract. Assumes nothing.
 use borrow.Author.Needs.{needs}
 use Rattle.setchanges.proofs.Linking.{child-put}
 use Rattle.setchanges.proofs.make.put_child.Statement.{statement}

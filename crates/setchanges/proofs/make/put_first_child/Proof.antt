@@ -1,4 +1,4 @@
--- `sets::make::put_first_child` meets its contract. Assumes nothing.
+-- `setchanges::make::put_first_child` meets its contract. Assumes nothing.
 use borrow.Author.Needs.{needs}
 use Rattle.setchanges.proofs.Linking.{first-child-put}
 use Rattle.setchanges.proofs.make.put_first_child.Statement.{statement}

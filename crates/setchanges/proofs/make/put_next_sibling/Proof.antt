@@ -1,4 +1,4 @@
--- `sets::make::put_next_sibling` meets its contract. Assumes nothing.
+-- `setchanges::make::put_next_sibling` meets its contract. Assumes nothing.
 use borrow.Author.Needs.{needs}
 use Rattle.setchanges.proofs.Linking.{next-sibling-put}
 use Rattle.setchanges.proofs.make.put_next_sibling.Statement.{statement}

@@ -1,4 +1,4 @@
--- `sets::remove::clear_files` meets its contract. The loop's invariant: the first f files are erased, their blocks free. Assumes nothing.
+-- `setchanges::remove::clear_files` meets its contract. The loop's invariant: the first f files are erased, their blocks free. Assumes nothing.
 use mathlib.Core.Path.{sym, _∙_}
 use Prim.Native.Nat.{_≤_, _-_}
 use native.Mathlib.Omega.{arith}

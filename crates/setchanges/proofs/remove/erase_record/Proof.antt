@@ -1,4 +1,4 @@
--- `sets::remove::erase_record` meets its contract. Assumes nothing.
+-- `setchanges::remove::erase_record` meets its contract. Assumes nothing.
 use borrow.Author.Needs.{needs}
 use Rattle.setchanges.proofs.ZeroWords.{record-erased}
 use Rattle.setchanges.proofs.remove.erase_record.Statement.{statement}

@@ -1,4 +1,4 @@
--- `sets::remove::free_entry` meets its contract. Assumes nothing.
+-- `setchanges::remove::free_entry` meets its contract. Assumes nothing.
 use mathlib.Core.Path.{ap}
 use borrow.Author.Needs.{needs}
 use Rattle.tables.specs.Meaning.{entryMeant}

@@ -1,4 +1,4 @@
--- `sets::remove::free_map` meets its contract. The loop's invariant: the blocks of the first p entries are free. Assumes nothing.
+-- `setchanges::remove::free_map` meets its contract. The loop's invariant: the blocks of the first p entries are free. Assumes nothing.
 use mathlib.Core.Path.{sym, _∙_}
 use Prim.Native.Nat.{_≤_, _-_}
 use native.Mathlib.Omega.{arith}

@@ -1,4 +1,4 @@
--- `sets::remove::link_past` meets its contract. Assumes nothing.
+-- `setchanges::remove::link_past` meets its contract. Assumes nothing.
 use borrow.Author.Needs.{needs}
 use Rattle.setchanges.proofs.Unlinking.{past-put}
 use Rattle.setchanges.proofs.remove.link_past.Statement.{statement}

@@ -1,4 +1,4 @@
--- `sets::remove::past` meets its contract. Assumes nothing.
+-- `setchanges::remove::past` meets its contract. Assumes nothing.
 use native.Mathlib.Omega.{arith}
 use borrow.Author.Tests.{eq-eqb, ne-eqb}
 use Rattle.setchanges.proofs.remove.past.Statement.{statement}

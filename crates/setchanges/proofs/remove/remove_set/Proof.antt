@@ -1,4 +1,4 @@
--- `sets::remove::remove_set` meets its contract. Assumes nothing.
+-- `setchanges::remove::remove_set` meets its contract. Assumes nothing.
 use borrow.Author.Needs.{needs}
 use Rattle.setchanges.proofs.Unlinking.{remove-turns}
 use Rattle.setchanges.proofs.remove.remove_set.Statement.{statement}

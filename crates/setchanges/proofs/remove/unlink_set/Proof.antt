@@ -1,4 +1,4 @@
--- `sets::remove::unlink_set` meets its contract. The loop's invariant: the links of the first x sets are past set c. Assumes nothing.
+-- `setchanges::remove::unlink_set` meets its contract. The loop's invariant: the links of the first x sets are past set c. Assumes nothing.
 use mathlib.Core.Path.{sym, _∙_}
 use Prim.Native.Nat.{_≤_, _-_}
 use native.Mathlib.Omega.{arith}

@@ -1,4 +1,4 @@
--- `sets::zero::zero_bytes` meets its contract. The loop's invariant: the first i bytes are zero. Assumes nothing.
+-- `setchanges::zero::zero_bytes` meets its contract. The loop's invariant: the first i bytes are zero. Assumes nothing.
 use mathlib.Core.Path.{_≡_, refl, sym}
 use Prim.Native.Nat.{_≤_, _-_}
 use native.Mathlib.Omega.{arith}

@@ -1,0 +1,13 @@
+pub mod Through
+pub mod OneEntry
+pub mod WordPass
+pub mod Digits
+pub mod FourEntries
+pub mod FilePass
+pub mod FileWords
+pub mod MapsEqual
+pub mod NoBits
+pub mod PageMasks
+pub mod Counts
+pub mod EntriesFormed
+pub mod AllFiles

@@ -1,0 +1,124 @@
+-- The entries of the tables, one after the other, against the blocks seen so far: an entry passes where its kind is not 3, its block is 0 unless stored,
+-- and the block of a stored one is below the limit and not seen yet. Assumes nothing.
+use mathlib.Core.Bool.{Bool, Bool·beq, _&&_, cond, false, not, true}
+use mathlib.Core.List.{List, []}
+use mathlib.Core.Option.{Option, none, some}
+use mathlib.Core.Path.{refl, sym, _≡_}
+use Prim.Native.Nat.{_<_, suc, zero, ℕ}
+use lib.Dec.{ltb}
+use lib.ListN.{length}
+use Rattle.base.specs.Count.{all, all-at, all-of}
+use Rattle.base.specs.Update.{upd}
+use Rattle.packing.specs.Bitmap.{bitAt, number}
+use Rattle.rules.specs.State.{Entry, fileCount, hole, isStored, isUnmapped, largestBlocks, pageCount, setCount, stored, unmapped}
+use Rattle.tables.specs.Layout.{entryWord, readEntry}
+use Rattle.tables.specs.Packed.{entryFormed, unpack}
+use Rattle.entrycheck.specs.declared.Masks.{Masks}
+
+-- which blocks are seen
+abbrev pub Seen : Type 0
+Seen = ℕ → Bool
+
+-- the blocks seen after a part of the entries, or none where an entry does not pass
+abbrev pub Pass : Type 0
+Pass = Seen → Option Seen
+
+abbrev pub noneSeen : Seen
+noneSeen b = false
+
+-- one part after another
+abbrev pub andThen : Option Seen → Pass → Option Seen
+andThen none pass = none
+andThen (some seen) pass = pass seen
+
+-- the parts 0, .., n - 1 in order
+pub through : ℕ → (ℕ → Pass) → Pass
+through zero pass seen = some seen
+through (suc n) pass seen = andThen (through n pass seen) (pass n)
+
+pub through-none : (pass : ℕ → Pass) (seen : Seen) → through 0 pass seen ≡ some seen
+unfolding through
+through-none pass seen = refl
+
+pub through-more : (n : ℕ) (pass : ℕ → Pass) (seen : Seen) → through (suc n) pass seen ≡ andThen (through n pass seen) (pass n)
+unfolding through
+through-more n pass seen = refl
+
+-- an entry that names a block makes it seen
+abbrev pub markNamed : ℕ → Entry ℕ → Pass
+markNamed limit unmapped seen = some seen
+markNamed limit hole seen = some seen
+markNamed limit (stored b) seen = cond (ltb b limit && not (seen b)) (some (upd seen b true)) none
+
+-- one entry, by its word
+unfoldable pub markEntry : ℕ → ℕ → Pass
+markEntry limit w seen = cond (entryFormed [] w) (markNamed limit (readEntry w) seen) none
+
+module _ (limit : ℕ) (t : List ℕ) where
+  -- the entries of file f in set s
+  unfoldable pub markFile : ℕ → ℕ → Pass
+  markFile f s = through pageCount (λ p. markEntry limit (entryWord t f s p))
+
+  -- the files of number f
+  unfoldable pub markNumber : ℕ → Pass
+  markNumber f = through setCount (λ s. markFile f s)
+
+  -- all files
+  unfoldable pub markAll : Pass
+  markAll = through fileCount (λ f. markNumber f)
+
+  -- the files before file f in set s: those of lower numbers, and of number f those of lower sets
+  unfoldable pub markTo : ℕ → ℕ → Pass
+  markTo f s seen = andThen (through f (λ f. markNumber f) seen) (through s (λ s. markFile f s))
+
+beq-is : (a b : Bool) → Bool·beq a b ≡ true → a ≡ b
+beq-is true true h = refl
+beq-is true false h = sym h
+beq-is false true h = h
+beq-is false false h = refl
+
+is-beq : (a b : Bool) → a ≡ b → Bool·beq a b ≡ true
+is-beq true true h = refl
+is-beq true false h = sym h
+is-beq false true h = h
+is-beq false false h = refl
+
+-- are the blocks seen those whose bits are 1
+pub sameBits : List ℕ → Seen → Bool
+sameBits t seen = all largestBlocks (λ b. Bool·beq (seen b) (unpack t .bits b))
+
+module _ (t : List ℕ) (seen : Seen) where
+  pub same-bits-at : sameBits t seen ≡ true → (b : ℕ) → b < 4096 → seen b ≡ unpack t .bits b
+  unfolding sameBits
+  same-bits-at h b k = beq-is (seen b) (unpack t .bits b) (all-at 4096 _ h b k)
+
+  pub same-bits-of : ((b : ℕ) → b < 4096 → seen b ≡ unpack t .bits b) → sameBits t seen ≡ true
+  unfolding sameBits
+  same-bits-of h = all-of 4096 _ (λ b k. is-beq (seen b) (unpack t .bits b) (h b k))
+
+abbrev pub formedBy : List ℕ → Option Seen → Bool
+formedBy t none = false
+formedBy t (some seen) = sameBits t seen
+
+-- every entry passes, and the blocks seen at the end are those whose bits are 1
+unfoldable pub entriesFormed : List ℕ → Bool
+entriesFormed t = formedBy t (markAll (unpack t .blocks) t noneSeen)
+
+-- what a pass gives, where ok says whether every entry passes
+abbrev pub outcome : Bool → Seen → Option Seen
+outcome ok seen = cond ok (some seen) none
+
+-- the map of the blocks seen becomes seen′ by the pass
+pub record Marks (pass : Pass) (seen seen′ : List ℕ) (ok : Bool) : Type 0 where
+  pub marks : pass (bitAt seen 0) ≡ outcome ok (bitAt seen′ 0)
+  pub len : length seen′ ≡ 512
+
+-- which pages of a map pass a test, as 64 binary digits: page 0 is the most significant
+abbrev pub pageMask : (Entry ℕ → Bool) → (ℕ → Entry ℕ) → ℕ
+pageMask test map = number (λ p. test (map p)) 0 pageCount
+
+-- the entries of file f in set s: what is seen, and which pages are stored and which unmapped
+pub record FileMarked (limit : ℕ) (t : List ℕ) (f s : ℕ) (seen seen′ : List ℕ) (r : Masks) : Type 0 where
+  pub marked : Marks (markFile limit t f s) seen seen′ (r .ok)
+  pub stored-is : r .ok ≡ true → r .stored ≡ pageMask isStored (unpack t .files f s .map)
+  pub unmapped-is : r .ok ≡ true → r .unmapped ≡ pageMask isUnmapped (unpack t .files f s .map)
