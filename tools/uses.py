@@ -70,21 +70,13 @@ def public_names(path):
     return [n for n in dict.fromkeys(types + names) if n not in fields or n in types]
 
 
-def below(crate):
-    """a crate and all that it rests on"""
-    rests = {}
+def near(crate):
+    """a crate and those that it rests on: only these can be named"""
     for line in text(ROOT + "/crates.txt").split("\n"):
-        line = line.split("#")[0]
-        if ":" in line:
-            name, on = line.split(":", 1)
-            rests[name.strip()] = on.split()
-    seen, todo = set(), [crate]
-    while todo:
-        x = todo.pop()
-        if x not in seen:
-            seen.add(x)
-            todo += rests.get(x, [])
-    return seen
+        name, _, on = line.split("#")[0].partition(":")
+        if name.strip() == crate:
+            return {crate, *on.split()}
+    return {crate}
 
 
 def order_in(crate, kind):
@@ -95,10 +87,10 @@ def order_in(crate, kind):
 def repository_names(mine):
     """name -> module, for every name that the module `mine` may import"""
     crate, kind, place = PLACE.match(mine).groups()
-    known, near = {}, below(crate)
+    known, crates = {}, near(crate)
     for path in modules():
         c, k, p = PLACE.match(path).groups()
-        if p == "Lib" or p.endswith("/Proof") or c not in near or path == mine:
+        if p == "Lib" or p.endswith("/Proof") or c not in crates or path == mine:
             continue
         if c == crate:
             if k == "proofs" and kind == "specs":

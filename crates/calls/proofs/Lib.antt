@@ -1,0 +1,4 @@
+pub mod CallCases
+pub mod Formatting
+pub mod ChangedRecords
+pub mod Told

@@ -1,0 +1,5 @@
+// The calls on lent tables and pages. Each tests for itself what it was given: the tables, then the table of numbers.
+pub mod answer;
+pub mod format;
+pub mod looks;
+pub mod records;

@@ -1,0 +1,6 @@
+pub mod AloneRules
+pub mod Resolved
+pub mod Past
+pub mod LinkedRules
+pub mod Passes
+pub mod Whole

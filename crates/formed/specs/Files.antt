@@ -1,0 +1,56 @@
+-- The rules of well formed tables that concern file records, file by file. Document 01, "Packed tables".
+use mathlib.Core.Bool.{_&&_, Bool, not, _||_}
+use mathlib.Core.List.{List}
+use mathlib.Core.Path.{_≡_}
+use Prim.Native.Nat.{_/_, _<_, suc, ℕ}
+use lib.Dec.{eqb, leb}
+use lib.ListN.{getD, length}
+use Rattle.base.specs.Count.{all}
+use Rattle.entrycheck.specs.Marking.{pageMask}
+use Rattle.packing.specs.Fields.{getField}
+use Rattle.rules.specs.State.{File, Files, SetRecord, State, isAbsent, isMarked, isStored, isUnmapped, isVirgin, largestSize, setCount}
+use Rattle.rules.specs.WellFormed.{aboveFormed, pastFormed, rootFileFormed, sizeFormed, virginFormed, zeroFile}
+use Rattle.tables.specs.Layout.{headWidths, headWord, readSize, stateOf}
+use Rattle.tables.specs.Packed.{unpack}
+
+-- "A virgin file has size 0 and only unmapped entries. Set 0 has no virgin or marked file and no unmapped entry outside absent files": of a file that is
+-- not absent, by its state and size, whether all its entries are unmapped, whether some are, and whether it is one of set 0
+unfoldable pub stateFormed : State → ℕ → Bool → Bool → Bool → Bool
+stateFormed state size every any root =
+    (not (isVirgin state) || (eqb size 0 && every)) && (not root || (isAbsent state || (not (isVirgin state) && not (isMarked state) && not any)))
+
+-- the rules on one file that concern no other: besides, by the zero field of its head, and whether its set is used
+unfoldable pub aloneFormed : ℕ → State → ℕ → Bool → Bool → Bool → Bool → Bool
+aloneFormed zeros state size every any used root =
+    eqb zeros 0 && (not (isAbsent state) || (eqb size 0 && every)) && (used || isAbsent state) && leb size largestSize && stateFormed state size every any root
+
+-- the same by the word w of its head and the mask u of its unmapped pages
+unfoldable pub headFormed : ℕ → ℕ → Bool → Bool → Bool
+headFormed w u used root = aloneFormed (getField headWidths w 2) (stateOf (w / 1073741824)) (readSize w) (eqb u 18446744073709551615) (not (eqb u 0)) used root
+
+module _ (t : List ℕ) where
+  -- the rules on file f of set s that concern no other file
+  unfoldable pub fileAlone : ℕ → ℕ → Bool
+  fileAlone f s =
+      let x : File ℕ = unpack t .files f s in
+      eqb (getField headWidths (headWord t f s) 2) 0 && (not (isAbsent (x .state)) || zeroFile x) && (unpack t .sets s .used || isAbsent (x .state))
+      && sizeFormed x && (virginFormed x && (not (eqb s 0) || rootFileFormed x))
+
+  -- those that concern the files of the sets above it too
+  unfoldable pub fileLinked : ℕ → ℕ → Bool
+  fileLinked f s = aboveFormed (unpack t) f s && pastFormed (unpack t) f s
+
+  -- all rules on the files of number f
+  unfoldable pub numberFormed : ℕ → Bool
+  numberFormed f = all setCount (fileLinked f) && all setCount (fileAlone f)
+
+-- which pages are stored and which are unmapped, of the files of the first n sets
+pub record MasksTo (files : Files ℕ) (n : ℕ) (stored unmapped : List ℕ) : Type 0 where
+  pub stored-len : length stored ≡ setCount
+  pub unmapped-len : length unmapped ≡ setCount
+  pub stored-are : (s : ℕ) → s < n → getD stored s 0 ≡ pageMask isStored (files s .map)
+  pub unmapped-are : (s : ℕ) → s < n → getD unmapped s 0 ≡ pageMask isUnmapped (files s .map)
+
+-- levels fall by one from a set to its parent, down to 0
+abbrev pub Falling : (ℕ → SetRecord) → Type 0
+Falling sets = (s n : ℕ) → s < setCount → sets s .level ≡ suc n → (sets s .parent < setCount) × (sets (sets s .parent) .level ≡ n)

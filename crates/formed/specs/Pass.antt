@@ -1,0 +1,40 @@
+-- The pass over all files that checks entries and rules at once: the file numbers outside, the sets inside. Assumes nothing.
+use mathlib.Core.Bool.{Bool, cond, true}
+use mathlib.Core.List.{List}
+use mathlib.Core.Option.{none}
+use mathlib.Core.Path.{_≡_}
+use Prim.Native.Nat.{ℕ}
+use lib.ListN.{set}
+use Rattle.base.specs.Count.{all}
+use Rattle.entrycheck.specs.Marking.{Marks, Pass, markFile, pageMask, through}
+use Rattle.formed.specs.Files.{MasksTo, fileAlone, fileLinked}
+use Rattle.rules.specs.State.{isStored, isUnmapped, setCount}
+use Rattle.tables.specs.Packed.{unpack}
+
+-- a pass that needs a test passed besides
+unfoldable pub onlyIf : Bool → Pass → Pass
+onlyIf b pass seen = cond b (pass seen) none
+
+module _ (limit : ℕ) (t : List ℕ) where
+  -- file f of set s: its entries, and the rules that concern no other file
+  unfoldable pub passFile : ℕ → ℕ → Pass
+  passFile f s = onlyIf (fileAlone t f s) (markFile limit t f s)
+
+  -- the files of number f in the sets before set s
+  unfoldable pub passSets : ℕ → ℕ → Pass
+  passSets f s = through s (λ s. passFile f s)
+
+  -- the files of number f
+  unfoldable pub passNumber : ℕ → Pass
+  passNumber f = onlyIf (all setCount (fileLinked t f)) (passSets f setCount)
+
+-- file f of set s has been looked at: what is seen, and its masks are kept
+pub record FilePassed (limit : ℕ) (t : List ℕ) (f s : ℕ) (seen seen′ stored stored′ unmapped unmapped′ : List ℕ) (ok : Bool) : Type 0 where
+  pub marked : Marks (passFile limit t f s) seen seen′ ok
+  pub stored-is : ok ≡ true → stored′ ≡ set stored s (pageMask isStored (unpack t .files f s .map))
+  pub unmapped-is : ok ≡ true → unmapped′ ≡ set unmapped s (pageMask isUnmapped (unpack t .files f s .map))
+
+-- the files of number f have been looked at
+pub record NumberPassed (limit : ℕ) (t : List ℕ) (f : ℕ) (seen seen′ stored unmapped : List ℕ) (ok : Bool) : Type 0 where
+  pub marked : Marks (passSets limit t f setCount) seen seen′ ok
+  pub masks : ok ≡ true → MasksTo (unpack t .files f) setCount stored unmapped

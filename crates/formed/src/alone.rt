@@ -1,0 +1,77 @@
+// The rules on a file that concern no other file: by the head of its record and the mask of its unmapped pages.
+ghost use mathlib.Core.Path.{_≡_};
+ghost use mathlib.Core.Bool.{_&&_, not};
+ghost use Prim.Native.Nat.{_<_};
+ghost use lib.Dec.{eqb};
+ghost use lib.ListN.{length};
+ghost use Rattle.rules.specs.State.{isUnmapped};
+ghost use Rattle.tables.specs.Layout.{stateOf, tableBytes};
+ghost use Rattle.tables.specs.Packed.{unpack};
+ghost use Rattle.entrycheck.specs.Marking.{pageMask};
+ghost use Rattle.formed.specs.Files.{fileAlone, headFormed, stateFormed};
+use packing::words;
+use tables::sets::set_at;
+
+// Size 0 and only unmapped entries.
+fn zero_file(n: u32, u: u64) -> bool
+    ensures { λ r. ⌜ r ≡ (eqb n 0 && eqb u 18446744073709551615) ⌝ }
+{
+    if n != 0 {
+        return false;
+    }
+    u == 0xFFFF_FFFF_FFFF_FFFF
+}
+
+// A file that is not absent, of state k and size n.
+fn state_formed(k: u32, n: u32, u: u64, root: bool) -> bool
+    requires { ⌜ (0 < k) × (k < 4) ⌝ }
+    ensures { λ r. ⌜ r ≡ stateFormed (stateOf k) n (eqb u 18446744073709551615) (not (eqb u 0)) root ⌝ }
+{
+    if k == 2 {
+        if root {
+            return false;
+        }
+        return zero_file(n, u);
+    }
+    if !root {
+        return true;
+    }
+    if k == 3 {
+        return false;
+    }
+    u == 0
+}
+
+// A file by the word w of its head and the mask u of its unmapped pages.
+fn head_formed(w: u32, u: u64, used: bool, root: bool) -> bool
+    ensures { λ r. ⌜ r ≡ headFormed w u used root ⌝ }
+{
+    if w % 16384 != 0 {
+        return false;
+    }
+    let k = w / 1073741824;
+    let n = w / 16384 % 65536;
+    if k == 0 {
+        return zero_file(n, u);
+    }
+    if !used {
+        return false;
+    }
+    if n > 32768 {
+        return false;
+    }
+    state_formed(k, n, u, root)
+}
+
+// File f of set s, with the mask u of its unmapped pages. A head that is 0 is that of an absent file.
+pub fn file_alone(t: &[u8], f: usize, s: usize, u: u64) -> bool
+    requires { ⌜ (length (now t) ≡ tableBytes) × (f < 16) × (s < 8) × (u ≡ pageMask isUnmapped (unpack (now t) .files f s .map)) ⌝ }
+    ensures { λ r. ⌜ r ≡ fileAlone (now (t .entry)) f s ⌝ }
+{
+    let w = words::read32(t, 540 + (s * 16 + f) * 132);
+    if w == 0 {
+        return u == 0xFFFF_FFFF_FFFF_FFFF;
+    }
+    let r = set_at(t, s);
+    head_formed(w, u, r.used, s == 0)
+}
