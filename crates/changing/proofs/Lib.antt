@@ -1,0 +1,4 @@
+pub mod OnTables
+pub mod Pending
+pub mod Whole
+pub mod Cutting
