@@ -26,7 +26,7 @@ use Rattle.tables.specs.Views.{PackedTables, Turns, putFiles}
 use Rattle.calls.specs.declared.answer.Answer as declared
 
 -- the store of tables tb and the same pages
-done-as : (t p t′ : List ℕ) (tb : Tables) (st : Store real) → FormedStore t p → tb .blocks ≡ unpack t .blocks → storeWith tb (pagesOf p) ≡ st → t′ ≡ pack tb
+pub done-as : (t p t′ : List ℕ) (tb : Tables) (st : Store real) → FormedStore t p → tb .blocks ≡ unpack t .blocks → storeWith tb (pagesOf p) ≡ st → t′ ≡ pack tb
     → repacked (done real st) ≡ lookedAt noCounts t′ p []
 done-as t p t′ tb st fs b e w =
     ap (λ (x : Store real). repacked (done real x)) (sym e)
@@ -34,7 +34,7 @@ done-as t p t′ tb st fs b e w =
 
 module _ (r : declared.Answer) (t p t′ : List ℕ) (formed : wellFormed t (length p) ≡ true) (a : answerMeant r ≡ refusal 0) (bs : Bytes t′) where
   -- from an accepted call to the outcome
-  finished : (c : Call) → onStore c ≡ true → 0 ≡ numberIn t p c → acceptedOn c t p ≡ lookedAt noCounts t′ p [] → outcome r t′ p [] ≡ callOn c t p
+  pub finished : (c : Call) → onStore c ≡ true → 0 ≡ numberIn t p c → acceptedOn c t p ≡ lookedAt noCounts t′ p [] → outcome r t′ p [] ≡ callOn c t p
   finished c o n e = ap (λ (x : Answer). lookedAt x t′ p []) a ∙ sym (call-accepted t p c o formed n ∙ e)
 
   -- CREATE

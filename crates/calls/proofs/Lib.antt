@@ -2,3 +2,4 @@ pub mod CallCases
 pub mod Formatting
 pub mod ChangedRecords
 pub mod Told
+pub mod WorkedOn
