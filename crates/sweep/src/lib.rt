@@ -1,0 +1,109 @@
+// The exported calls, as include/sweep.h declares them. C sees a slice as a pointer and a length. None asks anything of its
+// arguments; each contract is one equation for the number, the counts and every byte of tables, pages and read buffer.
+ghost use mathlib.Core.Bool.{not};
+ghost use mathlib.Core.List.{[]};
+ghost use mathlib.Core.Path.{_≡_};
+ghost use lib.Dec.{eqb};
+ghost use Prim.Native.Nat.{_≤_};
+ghost use Rattle.rules.specs.Numbers;
+ghost use Rattle.tables.specs.Calls.{callOn, looksBound};
+ghost use Rattle.calls.specs.Outcomes.{outcome, readOutcome};
+use calls::answer::Answer;
+
+#[no_mangle]
+pub extern "C" fn sweep_format(tables: &mut [u8], pages: &mut [u8]) -> Answer
+    ensures { λ r. ⌜ outcome r (now (tables .exit)) (now (pages .exit)) [] ≡ callOn Numbers.format (now (tables .entry)) (now (pages .entry)) ⌝ }
+{
+    calls::format::format(tables, pages)
+}
+
+#[no_mangle]
+pub extern "C" fn sweep_create(tables: &mut [u8], pages: &mut [u8], set: u32, file: u32) -> Answer
+    ensures { λ r. ⌜ outcome r (now (tables .exit)) (now (pages .exit)) [] ≡ callOn (Numbers.create set file) (now (tables .entry)) (now (pages .entry)) ⌝ }
+{
+    calls::records::create(tables, &*pages, set, file)
+}
+
+#[no_mangle]
+pub extern "C" fn sweep_write(
+    tables: &mut [u8],
+    pages: &mut [u8],
+    set: u32,
+    file: u32,
+    offset: u32,
+    data: &[u8],
+) -> Answer
+    ensures { λ r. ⌜ outcome r (now (tables .exit)) (now (pages .exit)) [] ≡ callOn (Numbers.write set file offset (now («data» .entry))) (now (tables .entry)) (now (pages .entry)) ⌝ }
+{
+    calls::changes::write(tables, pages, set, file, offset, data)
+}
+
+// The second count, the maps looked at, is bounded: at most pages read x (level + 1).
+#[no_mangle]
+pub extern "C" fn sweep_read(
+    tables: &[u8],
+    pages: &[u8],
+    set: u32,
+    file: u32,
+    offset: u32,
+    buffer: &mut [u8],
+) -> Answer
+    ensures { λ r. ⌜ (readOutcome r (now (tables .entry)) (now (pages .entry)) (now (buffer .exit)) ≡ callOn (Numbers.read set file offset (now (buffer .entry))) (now (tables .entry)) (now (pages .entry))) × (r .second ≤ looksBound set file offset (now (buffer .entry)) (now (tables .entry)) (now (pages .entry))) ⌝ }
+{
+    calls::looks::read(tables, pages, set, file, offset, buffer)
+}
+
+#[no_mangle]
+pub extern "C" fn sweep_truncate(
+    tables: &mut [u8],
+    pages: &mut [u8],
+    set: u32,
+    file: u32,
+    size: u32,
+) -> Answer
+    ensures { λ r. ⌜ outcome r (now (tables .exit)) (now (pages .exit)) [] ≡ callOn (Numbers.truncate set file size) (now (tables .entry)) (now (pages .entry)) ⌝ }
+{
+    calls::changes::truncate(tables, pages, set, file, size)
+}
+
+#[no_mangle]
+pub extern "C" fn sweep_delete(tables: &mut [u8], pages: &mut [u8], set: u32, file: u32) -> Answer
+    ensures { λ r. ⌜ outcome r (now (tables .exit)) (now (pages .exit)) [] ≡ callOn (Numbers.delete set file) (now (tables .entry)) (now (pages .entry)) ⌝ }
+{
+    calls::changes::delete(tables, pages, set, file)
+}
+
+// `writeable` 0 asks for a read-only set, any other value for a writeable one.
+#[no_mangle]
+pub extern "C" fn sweep_make(
+    tables: &mut [u8],
+    pages: &mut [u8],
+    parent: u32,
+    set: u32,
+    writeable: u32,
+) -> Answer
+    ensures { λ r. ⌜ outcome r (now (tables .exit)) (now (pages .exit)) [] ≡ callOn (Numbers.make parent set (not (eqb writeable 0))) (now (tables .entry)) (now (pages .entry)) ⌝ }
+{
+    calls::records::make(tables, &*pages, parent, set, writeable != 0)
+}
+
+#[no_mangle]
+pub extern "C" fn sweep_remove(tables: &mut [u8], pages: &mut [u8], set: u32) -> Answer
+    ensures { λ r. ⌜ outcome r (now (tables .exit)) (now (pages .exit)) [] ≡ callOn (Numbers.remove set) (now (tables .entry)) (now (pages .entry)) ⌝ }
+{
+    calls::records::remove(tables, &*pages, set)
+}
+
+#[no_mangle]
+pub extern "C" fn sweep_size(tables: &[u8], pages: &[u8], set: u32, file: u32) -> Answer
+    ensures { λ r. ⌜ outcome r (now (tables .entry)) (now (pages .entry)) [] ≡ callOn (Numbers.tellSize set file) (now (tables .entry)) (now (pages .entry)) ⌝ }
+{
+    calls::looks::size(tables, pages, set, file)
+}
+
+#[no_mangle]
+pub extern "C" fn sweep_free(tables: &[u8], pages: &[u8]) -> Answer
+    ensures { λ r. ⌜ outcome r (now (tables .entry)) (now (pages .entry)) [] ≡ callOn Numbers.tellFree (now (tables .entry)) (now (pages .entry)) ⌝ }
+{
+    calls::looks::free(tables, pages)
+}

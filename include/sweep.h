@@ -1,0 +1,107 @@
+/*
+ * The sweep store: sets of files in a small block store, copied by sharing blocks (copy on write).
+ *
+ * The caller lends two buffers to each call, and the store keeps nothing between calls:
+ *   tables  SWEEP_TABLES_BYTES bytes: header, bitmap, set records, file records;
+ *   pages   the blocks, SWEEP_PAGE_BYTES bytes each, at least one and at most SWEEP_BLOCKS_MAX.
+ * sweep_format makes a store of as many blocks as the pages buffer holds; every later call wants the same length.
+ *
+ * Rules for callers
+ *   - A slice is a pointer and its length in bytes; that many bytes must be there. A pointer must not be null, also where
+ *     the length is 0.
+ *   - The buffers of one call (tables, pages, data or read buffer) do not overlap.
+ *   - While a call runs nobody else writes to its buffers, and nobody else reads those that it may change (the ones
+ *     without const).
+ *   - Nothing else is asked: the buffers may hold any bytes and the numbers may be any. Each call tests for itself what it
+ *     was given. A call that is refused gives one of the numbers 1 to 12 and zero counts, and every byte stays as it was.
+ */
+#ifndef SWEEP_H
+#define SWEEP_H
+
+#include <stddef.h>
+#include <stdint.h>
+
+#ifdef __cplusplus
+extern "C" {
+#endif
+
+/* Sizes */
+#define SWEEP_TABLES_BYTES 17436u   /* the tables */
+#define SWEEP_PAGE_BYTES 512u       /* a page, and a block */
+#define SWEEP_BLOCKS_MAX 4096u      /* blocks of a store */
+#define SWEEP_PAGES_BYTES_MAX 2097152u /* the pages buffer: SWEEP_BLOCKS_MAX blocks */
+#define SWEEP_SETS 8u               /* sets, numbered 0 to 7; 0 is the root */
+#define SWEEP_FILES 16u             /* files of a set, numbered 0 to 15 */
+#define SWEEP_FILE_PAGES 64u        /* pages of a file */
+#define SWEEP_FILE_BYTES_MAX 32768u /* bytes of a file */
+#define SWEEP_LEVEL_MAX 5u          /* level of a set: the root has 0, a copy its parent's plus one */
+
+/* The number that a call gives: the lowest that applies */
+enum sweep_number {
+    SWEEP_OK = 0,           /* accepted */
+    SWEEP_BAD_TABLES = 1,   /* tables not well formed or of wrong length; format: a length that does not fit */
+    SWEEP_NO_SET = 2,       /* a set number over 7, or a set that must be used is not */
+    SWEEP_BAD_FILE = 3,     /* a file number over 15 */
+    SWEEP_READ_ONLY = 4,    /* create, write, truncate, delete in a read-only set */
+    SWEEP_ABSENT = 5,       /* the file is absent */
+    SWEEP_MARKED = 6,       /* read, size, write, truncate of a file marked out of sync */
+    SWEEP_TOO_LONG = 7,     /* the write's end or the new size is over SWEEP_FILE_BYTES_MAX */
+    SWEEP_FULL = 8,         /* the call needs more own blocks than are free */
+    SWEEP_PRESENT = 9,      /* create of a present file; make under a used number */
+    SWEEP_TOO_DEEP = 10,    /* make from a set of level SWEEP_LEVEL_MAX */
+    SWEEP_HAS_CHILDREN = 11, /* remove of a set with children */
+    SWEEP_ROOT = 12         /* remove of set 0 */
+};
+
+/* What every call gives: a number of enum sweep_number, and three counts, all 0 unless the call says otherwise */
+typedef struct sweep_answer {
+    uint32_t number;
+    uint32_t first;
+    uint32_t second;
+    uint32_t third;
+} sweep_answer;
+
+/* Makes set 0 alone, without files, all blocks free, every page zero. What the buffers held does not matter. */
+sweep_answer sweep_format(uint8_t *tables, size_t tables_length, uint8_t *pages, size_t pages_length);
+
+/* Makes an empty file. */
+sweep_answer sweep_create(uint8_t *tables, size_t tables_length, uint8_t *pages, size_t pages_length,
+                          uint32_t set, uint32_t file);
+
+/* Writes data at offset; a gap before it reads as zeros. Counts: own blocks taken, copies, files newly marked. */
+sweep_answer sweep_write(uint8_t *tables, size_t tables_length, uint8_t *pages, size_t pages_length,
+                         uint32_t set, uint32_t file, uint32_t offset, const uint8_t *data, size_t data_length);
+
+/* Reads from offset as many bytes as the buffer and the file have, into the buffer's front; touches no others.
+ * Counts: bytes read, maps looked at (at most pages read x (level + 1)), 0. */
+sweep_answer sweep_read(const uint8_t *tables, size_t tables_length, const uint8_t *pages, size_t pages_length,
+                        uint32_t set, uint32_t file, uint32_t offset, uint8_t *buffer, size_t buffer_length);
+
+/* Cuts the file to size bytes, or fills it up with zeros. Counts: own blocks taken, copies, files newly marked. */
+sweep_answer sweep_truncate(uint8_t *tables, size_t tables_length, uint8_t *pages, size_t pages_length,
+                            uint32_t set, uint32_t file, uint32_t size);
+
+/* Deletes the file. Counts: 0, copies, files newly marked. */
+sweep_answer sweep_delete(uint8_t *tables, size_t tables_length, uint8_t *pages, size_t pages_length,
+                          uint32_t set, uint32_t file);
+
+/* Makes set a copy of parent; writeable 0 makes it read-only, any other value writeable. */
+sweep_answer sweep_make(uint8_t *tables, size_t tables_length, uint8_t *pages, size_t pages_length,
+                        uint32_t parent, uint32_t set, uint32_t writeable);
+
+/* Removes a set that has no children, and frees its blocks. */
+sweep_answer sweep_remove(uint8_t *tables, size_t tables_length, uint8_t *pages, size_t pages_length,
+                          uint32_t set);
+
+/* Counts: the file's size, 0, 0. */
+sweep_answer sweep_size(const uint8_t *tables, size_t tables_length, const uint8_t *pages, size_t pages_length,
+                        uint32_t set, uint32_t file);
+
+/* Counts: the free blocks, 0, 0. */
+sweep_answer sweep_free(const uint8_t *tables, size_t tables_length, const uint8_t *pages, size_t pages_length);
+
+#ifdef __cplusplus
+}
+#endif
+
+#endif
