@@ -4,10 +4,9 @@ ghost use Rattle.rules.specs.Rules as Rules;
 ghost use Rattle.rules.specs.State.{treeOf};
 ghost use Rattle.rules.specs.Storage.{real};
 ghost use Rattle.tables.specs.Packed.{unpack};
-ghost use Rattle.tables.specs.Meaning.{entryMeant};
-ghost use Rattle.tables.specs.Views.{PackedTables, Turns};
-ghost use Rattle.setchanges.specs.Changes.{blockIn, freedEntryIn};
+ghost use Rattle.tables.specs.Views.{PackedTables};
 ghost use Rattle.changing.specs.Tables.{AnyBlockIn, OnTables};
+use setchanges::remove::free_entry;
 use tables::entries;
 use tables::entries::Entry;
 use tables::entries::Page;
@@ -20,18 +19,6 @@ pub fn resize(t: &mut [u8], f: usize, s: usize, n: usize)
     ensures { λ _. ⌜ OnTables (now (t .entry)) (now (t .exit)) f (Rules.resize real (treeOf (unpack (now (t .entry)) .sets)) s n) ⌝ }
 {
     files::put_head(t, f, s, State::Own, n);
-}
-
-// The block of an entry is free again.
-fn free_entry(t: &mut [u8], e: Entry)
-    requires { ⌜ PackedTables (now t) × blockIn (entryMeant e) ⌝ }
-    ensures { λ _. ⌜ Turns (now (t .entry)) (now (t .exit)) (freedEntryIn (entryMeant e)) ⌝ }
-{
-    match e {
-        Entry::Unmapped => {}
-        Entry::Hole => {}
-        Entry::Stored(b) => entries::release_block(t, b),
-    }
 }
 
 // A page of set s: "become holes in this map, their blocks free".

@@ -23,7 +23,7 @@ pub fn erase_record(t: &mut [u8], f: usize, s: usize)
 }
 
 // The block of an entry is free again.
-fn free_entry(t: &mut [u8], e: Entry)
+pub fn free_entry(t: &mut [u8], e: Entry)
     requires { ⌜ PackedTables (now t) × blockIn (entryMeant e) ⌝ }
     ensures { λ _. ⌜ Turns (now (t .entry)) (now (t .exit)) (freedEntryIn (entryMeant e)) ⌝ }
 {
