@@ -2,16 +2,13 @@
 use mathlib.Core.Bool.{Bool, false, not, true, true≢false}
 use mathlib.Core.List.{List}
 use mathlib.Core.Path.{ap, refl, sym, _∙_, _≡_}
-use Prim.Native.Nat.{_%_, _*_, _+_, _/_, _<_, suc, zero, ℕ}
-use native.Mathlib.Omega.{arith}
-use lib.ListN.{getD, length}
-use borrow.Author.Tests.{lt-ltb}
-use Rattle.base.specs.Tabulate.{tab-of}
+use Prim.Native.Nat.{suc, zero, ℕ}
+use lib.ListN.{length}
 use Rattle.calls.specs.Outcomes.{answerMeant, outcome}
 use Rattle.rules.specs.Calls.{Store, viewOf}
 use Rattle.rules.specs.Numbers.{Answer, Call, View, conditions, create, delete, format, lookOf, lowest, make, numberOf, read, refusal, remove, tellFree, tellSize, truncate, write}
 use Rattle.rules.specs.Storage.{real}
-use Rattle.tables.specs.Calls.{acceptedOn, bufferIn, callOn, lookedAt, outcomeOf, packPages, pagesOf, storeOf, viewOn}
+use Rattle.tables.specs.Calls.{acceptedOn, bufferIn, callOn, lookedAt, outcomeOf, storeOf, viewOn}
 use Rattle.tables.specs.Packed.{wellFormed}
 use Rattle.calls.specs.declared.answer.Answer as declared
 
@@ -81,15 +78,6 @@ module _ (t p : List ℕ) (c : Call) (o : onStore c ≡ true) where
     pub call-accepted : 0 ≡ numberIn t p c → callOn c t p ≡ acceptedOn c t p
     unfolding outcomeOf
     call-accepted e = call-number ∙ ap (λ x. outcomeOf x c t p) (sym e)
-
--- LAW: the pages buffer is the packing of what it is read to
-pub pages-packed : (n : ℕ) (p : List ℕ) → length p ≡ n * 512 → packPages n (pagesOf p) ≡ p
-unfolding packPages pagesOf
-pages-packed n p h =
-    tab-of 0 (n * 512) (λ i. pagesOf p (i / 512) (i % 512)) p h
-    (λ i k. let e : i ≡ i / 512 * 512 + i % 512 = omega arith in
-    let l : i % 512 < 512 = omega arith in
-    rw (lt-ltb (i % 512) 512 l) (ap (λ j. getD p j 0) e))
 
 -- the outcome after a refusal; b is what the check of the tables gave
 module _ (r : declared.Answer) (t p : List ℕ) (c : Call) (o : onStore c ≡ true) where

@@ -7,7 +7,8 @@ use native.Mathlib.Omega.{arith}
 use lib.ListN.{length}
 use lib.Pow.{low}
 use Rattle.base.specs.Logic.{and-right}
-use Rattle.calls.proofs.CallCases.{call-accepted, numberIn, onStore, pages-packed}
+use Rattle.calls.proofs.CallCases.{call-accepted, numberIn, onStore}
+use Rattle.pages.proofs.Whole.{pages-packed}
 use Rattle.calls.specs.Outcomes.{answerMeant, outcome}
 use Rattle.packing.specs.Words.{Bytes}
 use Rattle.rules.proofs.Accepted.{passed-create, passed-make, passed-remove}

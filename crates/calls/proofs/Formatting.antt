@@ -10,10 +10,10 @@ use borrow.Author.Tests.{eq-eqb, eqb-true, le-leb, leb-true, lt-leb, ne-eqb}
 use Rattle.base.specs.Logic.{and-left, and-right}
 use Rattle.base.specs.Tabulate.{tab-of}
 use Rattle.calls.specs.Outcomes.{answerMeant, outcome}
+use Rattle.pages.specs.Run.{length-zeroed, zeroed, zeroed-in}
 use Rattle.rules.specs.Calls.{accepted, blankMemory, formatted, tablesOf}
 use Rattle.rules.specs.Numbers.{Answer, conditions, format, lowest, noCounts, numberOf, refusal}
 use Rattle.rules.specs.Storage.{real}
-use Rattle.setchanges.specs.Zero.{length-zeroed, zeroed, zeroed-in}
 use Rattle.tables.specs.Calls.{acceptedOn, callOn, formatLengths, lookedAt, outcomeOf, packPages}
 use Rattle.tables.specs.Packed.{pack}
 use Rattle.calls.specs.declared.answer.Answer as declared
@@ -28,7 +28,7 @@ pub zero-pages : (p : List ℕ) (n : ℕ) → length p ≡ n * 512 → packPages
 unfolding packPages
 zero-pages p n h =
     tab-of 0 (n * 512) (λ i. 0) (zeroed p 0 (length p)) (length-zeroed p 0 (length p) ∙ h)
-    (λ i k. zeroed-in p 0 (length p) i (omega arith) (omega (arith, h)))
+    (λ i k. zeroed-in p 0 (length p) i (omega arith) (omega (arith, h)) (omega arith))
 
 -- the pages of lengths that fit are whole
 pub lengths-whole : (n m : ℕ) → formatLengths n m ≡ true → m ≡ m / 512 * 512

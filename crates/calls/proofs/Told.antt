@@ -10,17 +10,21 @@ use Rattle.calls.proofs.CallCases.{number-on, numberIn}
 use Rattle.calls.specs.Outcomes.{answerMeant, outcome, readOutcome}
 use Rattle.looking.proofs.Outcome.{free-outcome, read-looks, read-outcome, size-outcome, tells}
 use Rattle.looking.specs.Read.{ReadDone}
-use Rattle.numbers.proofs.Formed.{free-number}
 use Rattle.packing.specs.Bitmap.{number}
 use Rattle.rules.proofs.Accepted.{passed-size}
-use Rattle.rules.specs.Calls.{viewOf}
-use Rattle.rules.specs.Numbers.{Answer, read, refusal, tellFree, tellSize}
+use Rattle.rules.specs.Calls.{Store, viewOf}
+use Rattle.rules.specs.Numbers.{Answer, conditions, lowest, numberOf, read, refusal, tellFree, tellSize}
 use Rattle.rules.specs.Reading.{sizeByReading}
 use Rattle.rules.specs.State.{treeOf}
 use Rattle.rules.specs.Storage.{real}
 use Rattle.tables.specs.Calls.{callOn, lookedAt, looksBound, storeOf}
 use Rattle.tables.specs.Packed.{unpack, wellFormed}
 use Rattle.calls.specs.declared.answer.Answer as declared
+
+-- telling the free blocks is never refused on well-formed tables
+free-number : (st : Store real) → 0 ≡ numberOf (viewOf real true true st) tellFree
+unfolding numberOf conditions lowest
+free-number st = refl
 
 module _ (r : declared.Answer) (t p : List ℕ) (formed : wellFormed t (length p) ≡ true) where
   -- SIZE

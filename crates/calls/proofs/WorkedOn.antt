@@ -7,7 +7,8 @@ use native.Mathlib.Omega.{arith}
 use lib.ListN.{length}
 use Rattle.base.specs.Count.{count}
 use Rattle.base.specs.Update.{upd, upd-self, upd-upd}
-use Rattle.calls.proofs.CallCases.{call-accepted, numberIn, onStore, pages-packed}
+use Rattle.calls.proofs.CallCases.{call-accepted, numberIn, onStore}
+use Rattle.pages.proofs.Whole.{pages-packed}
 use Rattle.calls.proofs.ChangedRecords.{done-as, finished}
 use Rattle.calls.specs.Outcomes.{answerMeant, outcome}
 use Rattle.changing.specs.Whole.{Changed}
@@ -26,7 +27,7 @@ use Rattle.tables.proofs.PackUnpack.{pack-unpack}
 use Rattle.tables.specs.Calls.{acceptedOn, callOn, lookedAt, pagesOf, repacked, storeOf}
 use Rattle.tables.specs.Packed.{pack, unpack, wellFormed}
 use Rattle.calls.specs.declared.answer.Answer as declared
-use Rattle.changing.specs.Whole.{noCounts as startCounts}
+use Rattle.changing.specs.Whole.{startCounts}
 use Rattle.copying.specs.declared.giving.Counts.{Counts}
 
 -- the files of the other numbers stay

@@ -6,8 +6,8 @@ ghost use Rattle.tables.specs.Calls.{callOn, formatLengths};
 ghost use Rattle.calls.specs.Outcomes.{outcome};
 use crate::answer::Answer;
 use crate::answer::counts_0;
+use pages::zero_bytes;
 use setchanges::format::format_tables;
-use setchanges::zero::zero_bytes;
 
 // "tables of wrong length or pages no multiple of 512 from 512 to 2,097,152 bytes" do not fit.
 fn lengths_fit(tables: usize, pages: usize) -> bool

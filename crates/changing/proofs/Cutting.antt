@@ -12,7 +12,7 @@ use Rattle.base.specs.Count.{count}
 use Rattle.changing.proofs.Whole.{Did, begun, both-did, did-step, did-tables, did-then, reserves-did, settleBoth}
 use Rattle.changing.specs.Pending.{Reserves, StepAt}
 use Rattle.changing.specs.Tables.{OnTables}
-use Rattle.changing.specs.Whole.{Changed, ChangedAlone, noCounts}
+use Rattle.changing.specs.Whole.{Changed, ChangedAlone, startCounts}
 use Rattle.copying.specs.Changes.{settled}
 use Rattle.copying.specs.Work.{Alone, Ready, Rest, Step, settleChildren, work}
 use Rattle.copying.specs.declared.giving.Counts.{Counts}
@@ -175,24 +175,24 @@ module _ {t p t′ p′ : List ℕ} {f : ℕ} {k k′ : Counts} (s n z : ℕ) (e
 -- ---- the rule of truncate
 
 module _ (t p : List ℕ) (f s n z left : ℕ) (ez : z ≡ sizeByReading (treeOf (unpack t .sets)) (unpack t .files f) s) where
-  as-size : truncateAs real (treeOf (unpack t .sets)) (eqb n z) (ltb z n) s n z (work (unpack t) (pagesOf p) f (λ q. unmapped) noCounts) ≡ truncateFile real (treeOf (unpack t .sets)) s n (work (unpack t) (pagesOf p) f (λ q. unmapped) noCounts)
+  as-size : truncateAs real (treeOf (unpack t .sets)) (eqb n z) (ltb z n) s n z (work (unpack t) (pagesOf p) f (λ q. unmapped) startCounts) ≡ truncateFile real (treeOf (unpack t .sets)) s n (work (unpack t) (pagesOf p) f (λ q. unmapped) startCounts)
   unfolding truncateFile
-  as-size = ap (λ y. truncateAs real (treeOf (unpack t .sets)) (eqb n y) (ltb y n) s n y (work (unpack t) (pagesOf p) f (λ q. unmapped) noCounts)) ez
+  as-size = ap (λ y. truncateAs real (treeOf (unpack t .sets)) (eqb n y) (ltb y n) s n y (work (unpack t) (pagesOf p) f (λ q. unmapped) startCounts)) ez
 
   -- LAW: at the size
-  pub truncate-same : PackedTables t → n ≡ z → Changed t p t p f noCounts (begun left) (truncateFile real (treeOf (unpack t .sets)) s n)
+  pub truncate-same : PackedTables t → n ≡ z → Changed t p t p f startCounts (begun left) (truncateFile real (treeOf (unpack t .sets)) s n)
   unfolding truncateAs
   truncate-same pk h = record { pending = λ q. unmapped; same = refl; does = (rw (eq-eqb n z h)) ∙ as-size; packed = pk }
 
   -- LAW: above it
-  pub truncate-above : {t′ : List ℕ} → (n ≡ z → ⊥) → z < n → Changed t p t′ p f (begun left) (begun left) (change real (treeOf (unpack t .sets)) s [] [] [] (λ q v. v) (λ m. n)) → Changed t p t′ p f noCounts (begun left) (truncateFile real (treeOf (unpack t .sets)) s n)
+  pub truncate-above : {t′ : List ℕ} → (n ≡ z → ⊥) → z < n → Changed t p t′ p f (begun left) (begun left) (change real (treeOf (unpack t .sets)) s [] [] [] (λ q v. v) (λ m. n)) → Changed t p t′ p f startCounts (begun left) (truncateFile real (treeOf (unpack t .sets)) s n)
   unfolding truncateAs
   truncate-above h l c = record { pending = c .pending; same = c .same; does = c .does ∙ (rw (ne-eqb n z h, lt-ltb z n l)) ∙ as-size; packed = c .packed }
 
   -- LAW: below it
   pub truncate-below : {t′ p′ : List ℕ} {k′ : Counts} → (n ≡ z → ⊥) → n ≤ z
       → Changed t p t′ p′ f (begun left) k′ (change real (treeOf (unpack t .sets)) s (cutPages n z) (keptPages n (resolve (treeOf (unpack t .sets)) (unpack t .files f) s (n / 512))) (droppedPages n z) (λ q. zeroFrom (n % 512)) (λ i. n))
-      → Changed t p t′ p′ f noCounts k′ (truncateFile real (treeOf (unpack t .sets)) s n)
+      → Changed t p t′ p′ f startCounts k′ (truncateFile real (treeOf (unpack t .sets)) s n)
   unfolding truncateAs
   truncate-below h l c = record { pending = c .pending; same = c .same; does = c .does ∙ (rw (ne-eqb n z h, le-ltb z n l)) ∙ as-size; packed = c .packed }
 

@@ -9,7 +9,7 @@ use Rattle.base.specs.Count.{count}
 use Rattle.base.specs.Update.{upd}
 use Rattle.changing.specs.Pending.{PendingIn, Reserves, StepAt}
 use Rattle.changing.specs.Tables.{AnyBlockIn, OnTables}
-use Rattle.changing.specs.Whole.{Changed, noCounts}
+use Rattle.changing.specs.Whole.{Changed, startCounts}
 use Rattle.copying.proofs.Begin.{formed-header, formed-named}
 use Rattle.copying.proofs.Kept.{changed-does}
 use Rattle.copying.proofs.Settled.{settled-sets, settled-step}
@@ -172,11 +172,11 @@ begun n = record { taken = 0; copies = 0; marks = 0; left = n }
 -- LAW: the whole write by its rule
 pub wrote : {t p t′ p′ : List ℕ} {f : ℕ} {k′ : Counts} (s off first m left : ℕ) (bs : List ℕ) → touched off (length bs) ≡ from first m
     → Changed t p t′ p′ f (begun left) k′ (change real (treeOf (unpack t .sets)) s (from first m) (from first m) [] (overlay off bs) (λ i. max i (off + length bs)))
-    → Changed t p t′ p′ f noCounts k′ (writeFile real (treeOf (unpack t .sets)) s off bs)
+    → Changed t p t′ p′ f startCounts k′ (writeFile real (treeOf (unpack t .sets)) s off bs)
 wrote {t} {p} {t′} {p′} {f} s off first m left bs e c = record {
   pending = c .pending;
   same = c .same;
-  does = c .does ∙ is-write (treeOf (unpack t .sets)) s off first m bs e (work (unpack t) (pagesOf p) f (λ q. unmapped) noCounts);
+  does = c .does ∙ is-write (treeOf (unpack t .sets)) s off first m bs e (work (unpack t) (pagesOf p) f (λ q. unmapped) startCounts);
   packed = c .packed;
 }
 
@@ -221,25 +221,25 @@ module _ {t p t₁ t₂ p₂ t₃ : List ℕ} {f : ℕ} {k k₁ : Counts} (s : �
 
 -- LAW: the whole delete by its rule
 pub deleted-so : {t p t′ p′ : List ℕ} {f : ℕ} {k′ : Counts} (s left : ℕ) → live (unpack t .files f s .state) ≡ true → Changed t p t′ p′ f (begun left) k′ (deleteAs real (treeOf (unpack t .sets)) true s)
-    → Changed t p t′ p′ f noCounts k′ (deleteFile real (treeOf (unpack t .sets)) s)
+    → Changed t p t′ p′ f startCounts k′ (deleteFile real (treeOf (unpack t .sets)) s)
 unfolding deleteFile
 deleted-so {t} {p} {t′} {p′} {f} s left l c = record {
   pending = c .pending;
   same = c .same;
-  does = c .does ∙ ap (λ (b : Bool). deleteAs real (treeOf (unpack t .sets)) b s (work (unpack t) (pagesOf p) f (λ q. unmapped) noCounts)) (sym l);
+  does = c .does ∙ ap (λ (b : Bool). deleteAs real (treeOf (unpack t .sets)) b s (work (unpack t) (pagesOf p) f (λ q. unmapped) startCounts)) (sym l);
   packed = c .packed;
 }
 
 pub deleted-not : {t t′ : List ℕ} {f : ℕ} (p : List ℕ) (s left : ℕ) → live (unpack t .files f s .state) ≡ false → OnTables t t′ f (eraseFile real (treeOf (unpack t .sets)) s)
-    → Changed t p t′ p f noCounts (begun left) (deleteFile real (treeOf (unpack t .sets)) s)
+    → Changed t p t′ p f startCounts (begun left) (deleteFile real (treeOf (unpack t .sets)) s)
 unfolding deleteFile deleteAs
 deleted-not {t} {t′} {f} p s left l e =
     let h : ℕ → Entry ℕ = λ q. unmapped in
-    let x = did-tables p h noCounts e in
+    let x = did-tables p h startCounts e in
     record {
       pending = h;
       same = x .same;
-      does = x .does ∙ ap (λ (b : Bool). deleteAs real (treeOf (unpack t .sets)) b s (work (unpack t) (pagesOf p) f h noCounts)) (sym l);
+      does = x .does ∙ ap (λ (b : Bool). deleteAs real (treeOf (unpack t .sets)) b s (work (unpack t) (pagesOf p) f h startCounts)) (sym l);
       packed = e .packed;
     }
 

@@ -12,8 +12,8 @@ use Rattle.copying.specs.Work.{Ready, rest, work}
 use Rattle.copying.specs.declared.giving.Counts.{Counts}
 
 -- the counts that a call begins with; the free blocks are no part of the work
-abbrev pub noCounts : Counts
-noCounts = record { taken = 0; copies = 0; marks = 0; left = 0 }
+abbrev pub startCounts : Counts
+startCounts = record { taken = 0; copies = 0; marks = 0; left = 0 }
 
 -- tables t and pages p become t′ and p′, and the counts k become k′, by op; nothing is pending at first
 pub record Changed (t p t′ p′ : List ℕ) (f : ℕ) (k k′ : Counts) (op : Work real → Work real) : Type 0 where

@@ -10,7 +10,7 @@ ghost use Rattle.tables.specs.Packed.{unpack, wellFormed};
 ghost use Rattle.tables.specs.Views.{PackedTables};
 ghost use Rattle.copying.specs.Work.{Ready};
 ghost use Rattle.changing.specs.Tables.{AnyBlockIn, OnTables};
-ghost use Rattle.changing.specs.Whole.{Changed, noCounts};
+ghost use Rattle.changing.specs.Whole.{Changed, startCounts};
 use copying::giving;
 use copying::giving::Counts;
 use copying::settling;
@@ -41,7 +41,7 @@ fn delete_live(t: &mut [u8], p: &mut [u8], f: usize, s: usize, k: Counts) -> Cou
 // DELETE: file f of set s. "A marked file is only freed and made absent."
 pub fn delete_file(t: &mut [u8], p: &mut [u8], f: usize, s: usize) -> Counts
     requires { ⌜ (wellFormed (now t) (length (now p)) ≡ true) × (f < 16) × (s < 8) × (unpack (now t) .sets s .used ≡ true) ⌝ }
-    ensures { λ r. ⌜ Changed (now (t .entry)) (now (p .entry)) (now (t .exit)) (now (p .exit)) f noCounts r (Rules.deleteFile real (treeOf (unpack (now (t .entry)) .sets)) s) ⌝ }
+    ensures { λ r. ⌜ Changed (now (t .entry)) (now (p .entry)) (now (t .exit)) (now (p .exit)) f startCounts r (Rules.deleteFile real (treeOf (unpack (now (t .entry)) .sets)) s) ⌝ }
 {
     let left = header::free_blocks(&*t);
     let k = Counts {

@@ -14,7 +14,7 @@ ghost use Rattle.tables.specs.Packed.{unpack, wellFormed};
 ghost use Rattle.tables.specs.Views.{PackedTables, pendingOf};
 ghost use Rattle.copying.specs.Work.{Ready, Step};
 ghost use Rattle.changing.specs.Pending.{PendingIn, StepAt, entersAs};
-ghost use Rattle.changing.specs.Whole.{Changed, ChangedAlone, noCounts};
+ghost use Rattle.changing.specs.Whole.{Changed, ChangedAlone, startCounts};
 use crate::dropping;
 use crate::entering;
 use crate::reserving;
@@ -154,7 +154,7 @@ fn cut(t: &mut [u8], p: &mut [u8], f: usize, s: usize, n: usize, z: usize, k: Co
 // TRUNCATE file f of set s to n bytes. "At t equal to the size, nothing changes."
 pub fn truncate_file(t: &mut [u8], p: &mut [u8], f: usize, s: usize, n: usize) -> Counts
     requires { ⌜ (wellFormed (now t) (length (now p)) ≡ true) × (f < 16) × (s < 8) × (unpack (now t) .sets s .used ≡ true) × (n ≤ 32768) × (Rules.truncateNeed real (treeOf (unpack (now t) .sets)) s n (unpack (now t) .files f) ≤ count (unpack (now t) .blocks) (λ b. not (unpack (now t) .bits b))) ⌝ }
-    ensures { λ r. ⌜ Changed (now (t .entry)) (now (p .entry)) (now (t .exit)) (now (p .exit)) f noCounts r (Rules.truncateFile real (treeOf (unpack (now (t .entry)) .sets)) s n) ⌝ }
+    ensures { λ r. ⌜ Changed (now (t .entry)) (now (p .entry)) (now (t .exit)) (now (p .exit)) f startCounts r (Rules.truncateFile real (treeOf (unpack (now (t .entry)) .sets)) s n) ⌝ }
 {
     let left = header::free_blocks(&*t);
     let k = Counts {

@@ -10,7 +10,7 @@ ghost use Rattle.rules.specs.State.{treeOf};
 ghost use Rattle.rules.specs.Storage.{overlay, real};
 ghost use Rattle.tables.specs.Packed.{unpack, wellFormed};
 ghost use Rattle.copying.specs.Work.{Ready};
-ghost use Rattle.changing.specs.Whole.{Changed, noCounts};
+ghost use Rattle.changing.specs.Whole.{Changed, startCounts};
 use crate::dropping;
 use crate::entering;
 use crate::reserving;
@@ -60,7 +60,7 @@ fn write_pages(
 // WRITE: the bytes of data, one or more, from byte `off` of file f of set s on.
 pub fn write_file(t: &mut [u8], p: &mut [u8], f: usize, s: usize, off: usize, data: &[u8]) -> Counts
     requires { ⌜ (wellFormed (now t) (length (now p)) ≡ true) × (f < 16) × (s < 8) × (unpack (now t) .sets s .used ≡ true) × (0 < length (now «data»)) × (off + length (now «data») ≤ 32768) × (Rules.ownNeed real s (Rules.touched off (length (now «data»))) (unpack (now t) .files f) ≤ count (unpack (now t) .blocks) (λ b. not (unpack (now t) .bits b))) ⌝ }
-    ensures { λ r. ⌜ Changed (now (t .entry)) (now (p .entry)) (now (t .exit)) (now (p .exit)) f noCounts r (Rules.writeFile real (treeOf (unpack (now (t .entry)) .sets)) s off (now («data» .entry))) ⌝ }
+    ensures { λ r. ⌜ Changed (now (t .entry)) (now (p .entry)) (now (t .exit)) (now (p .exit)) f startCounts r (Rules.writeFile real (treeOf (unpack (now (t .entry)) .sets)) s off (now («data» .entry))) ⌝ }
 {
     let left = header::free_blocks(&*t);
     let first = off / 512;

@@ -10,4 +10,3 @@ pub mod NoBits
 pub mod PageMasks
 pub mod Counts
 pub mod EntriesFormed
-pub mod AllFiles

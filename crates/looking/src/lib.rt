@@ -57,11 +57,11 @@ fn read_part(
     let e = r.entry;
     match e {
         Entry::Unmapped => {
-            pages::read_zeros(buffer, at, n);
+            pages::zero_bytes(buffer, at, n);
             r.looks
         }
         Entry::Hole => {
-            pages::read_zeros(buffer, at, n);
+            pages::zero_bytes(buffer, at, n);
             r.looks
         }
         Entry::Stored(b) => {

@@ -74,8 +74,8 @@ copy-more l a b i f h e =
 pub copied : (l : List ℕ) (a b : ℕ) → b * 512 + 512 ≤ length l → pagesOf (run l (b * 512) (λ i. getD l (a * 512 + i) 0) 512) ≡ upd (pagesOf l) b (pagesOf l a)
 copied l a b h = page-whole l b (λ i. getD l (a * 512 + i) 0) (pagesOf l a) h (λ i k. sym (pages-in l a i k)) (pages-out l a)
 
-pub zeroed : (l : List ℕ) (b : ℕ) → b * 512 + 512 ≤ length l → pagesOf (run l (b * 512) (λ i. 0) 512) ≡ upd (pagesOf l) b (λ i. 0)
-zeroed l b h = page-whole l b (λ i. 0) (λ i. 0) h (λ i k. refl) (λ i k. refl)
+pub page-zeroed : (l : List ℕ) (b : ℕ) → b * 512 + 512 ≤ length l → pagesOf (run l (b * 512) (λ i. 0) 512) ≡ upd (pagesOf l) b (λ i. 0)
+page-zeroed l b h = page-whole l b (λ i. 0) (λ i. 0) h (λ i k. refl) (λ i k. refl)
 
 pub tail-zeroed : (l : List ℕ) (b n : ℕ) → b * 512 + 512 ≤ length l → n ≤ 512
     → pagesOf (run l (b * 512 + n) (λ i. 0) (512 - n)) ≡ upd (pagesOf l) b (zeroFrom n (pagesOf l b))

@@ -76,3 +76,20 @@ run-front l f n h =
     let y : n + (i - n) ≡ i = omega arith in
     run-out l 0 f n i (λ j m q. omega arith)
     ∙ sym (ap (λ x. getD (tab n f ++ drop n l) x 0) z ∙ getD-append-add (tab n f) (drop n l) (i - n) 0 ∙ getD-drop n l (i - n) 0 ∙ ap (λ x. getD l x 0) y)))
+
+-- n bytes from `at` on are zero
+abbrev pub zeroed : List ℕ → ℕ → ℕ → List ℕ
+zeroed l at n = run l at (λ i. 0) n
+
+pub length-zeroed : (l : List ℕ) (at n : ℕ) → length (zeroed l at n) ≡ length l
+length-zeroed l at n = length-run l at (λ i. 0) n
+
+-- a byte elsewhere
+pub zeroed-out : (l : List ℕ) (at n i : ℕ) → (at ≤ i → i < at + n → ⊥) → getD (zeroed l at n) i 0 ≡ getD l i 0
+zeroed-out l at n i h = run-out l at (λ j. 0) n i (λ j b q. h (omega arith) (omega arith))
+
+-- one of them
+pub zeroed-in : (l : List ℕ) (at n i : ℕ) → at ≤ i → i < at + n → at + n ≤ length l → getD (zeroed l at n) i 0 ≡ 0
+zeroed-in l at n i a b fits =
+    let e : at + (i - at) ≡ i = omega arith in
+    ap (λ x. getD (zeroed l at n) x 0) (sym e) ∙ run-in l at (λ j. 0) n (i - at) (omega arith) fits

@@ -1,11 +1,11 @@
-// Moves of pages of 512 bytes inside the lent pages buffer, by Block, and filling the buffer of a read.
+// Moves of bytes in the lent buffers: of pages of 512 bytes, by Block, into the buffer of a read, and runs of zeros.
 ghost use mathlib.Core.Path.{_≡_};
 ghost use Prim.Native.Nat.{_+_, _*_, _≤_, _<_, max, min};
-ghost use lib.ListN.{length, getD, replicate};
+ghost use lib.ListN.{length, getD};
 ghost use Rattle.base.specs.Update.{upd};
 ghost use Rattle.rules.specs.Storage.{overlay, zeroFrom};
 ghost use Rattle.tables.specs.Calls.{pagesOf};
-ghost use Rattle.pages.specs.Run.{run};
+ghost use Rattle.pages.specs.Run.{run, zeroed};
 use tables::entries::Block;
 use tables::entries::Page;
 
@@ -22,9 +22,9 @@ fn copy_bytes(target: &mut [u8], at: usize, source: &[u8], start: usize, n: usiz
 }
 
 // Zeroes the n bytes of `target` from `at` on.
-fn zero_bytes(target: &mut [u8], at: usize, n: usize)
+pub fn zero_bytes(target: &mut [u8], at: usize, n: usize)
     requires { ⌜ at + n ≤ length (now target) ⌝ }
-    ensures { λ _. ⌜ now (target .exit) ≡ run (now (target .entry)) at (λ i. 0) n ⌝ }
+    ensures { λ _. ⌜ now (target .exit) ≡ zeroed (now (target .entry)) at n ⌝ }
 {
     let mut i = 0;
     while i < n {
@@ -61,13 +61,6 @@ pub fn zero_tail(pages: &mut [u8], b: Block, n: usize)
     ensures { λ _. ⌜ pagesOf (now (pages .exit)) ≡ upd (pagesOf (now (pages .entry))) (b .0) (zeroFrom n (pagesOf (now (pages .entry)) (b .0))) ⌝ }
 {
     zero_bytes(pages, b.number() * 512 + n, 512 - n);
-}
-
-// Zeroes every page, for format.
-pub fn zero_pages(pages: &mut [u8])
-    ensures { λ _. ⌜ now (pages .exit) ≡ replicate (length (now (pages .entry))) 0 ⌝ }
-{
-    zero_bytes(pages, 0, pages.len());
 }
 
 fn larger(a: usize, b: usize) -> usize
@@ -110,12 +103,4 @@ pub fn read_page(pages: &[u8], b: Block, from: usize, buffer: &mut [u8], at: usi
     ensures { λ _. ⌜ now (buffer .exit) ≡ run (now (buffer .entry)) at (λ i. pagesOf (now (pages .entry)) (b .0) (from + i)) n ⌝ }
 {
     copy_bytes(buffer, at, pages, b.number() * 512 + from, n);
-}
-
-// The same for a hole: n zeros.
-pub fn read_zeros(buffer: &mut [u8], at: usize, n: usize)
-    requires { ⌜ at + n ≤ length (now buffer) ⌝ }
-    ensures { λ _. ⌜ now (buffer .exit) ≡ run (now (buffer .entry)) at (λ i. 0) n ⌝ }
-{
-    zero_bytes(buffer, at, n);
 }

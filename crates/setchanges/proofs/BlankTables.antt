@@ -13,6 +13,7 @@ use Rattle.base.specs.Update.{upd}
 use Rattle.packing.specs.Bitmap.{bitAt, isOne}
 use Rattle.packing.specs.Bits.{bit}
 use Rattle.packing.specs.Words.{Bytes, get-put-same, getWord, length-put, put-same, putWord}
+use Rattle.pages.specs.Run.{length-zeroed, zeroed, zeroed-in}
 use Rattle.rules.specs.Calls.{blankMemory, formatted, tablesOf}
 use Rattle.rules.specs.Sets.{rootAlone}
 use Rattle.rules.specs.State.{SetRecord, Tables, absentFile, largestBlocks, noSet, setCount, unusedSet}
@@ -20,7 +21,6 @@ use Rattle.rules.specs.Storage.{real}
 use Rattle.setchanges.proofs.Turning.{file-default}
 use Rattle.setchanges.proofs.ZeroWords.{file-zero, word-zero, zero-entry, zero-head, zero-header, zero-set}
 use Rattle.setchanges.specs.Changes.{putHeaderIn}
-use Rattle.setchanges.specs.Zero.{length-zeroed, zeroed, zeroed-in}
 use Rattle.tables.proofs.Codes.{header-word}
 use Rattle.tables.proofs.Fits.{file-in}
 use Rattle.tables.proofs.Kept.{bits-kept, files-kept, packed-kept, sets-kept}
@@ -76,7 +76,7 @@ module _ (t : List ℕ) (len : length t ≡ tableBytes) (zeros : (i : ℕ) → g
 module _ (t : List ℕ) (len : length t ≡ tableBytes) where
   all-zero : (i : ℕ) → getD (zeroed t 0 tableBytes) i 0 ≡ 0
   all-zero i = test? (ltb i tableBytes)
-      (λ e. let l = ltb-true i tableBytes e in zeroed-in t 0 tableBytes i (omega arith) (omega arith))
+      (λ e. let l = ltb-true i tableBytes e in zeroed-in t 0 tableBytes i (omega arith) (omega arith) (omega (arith, len)))
       (λ e. let l = ltb-false i tableBytes e in List·getD-eq-default (zeroed t 0 tableBytes) 0 (omega (arith, length-zeroed t 0 tableBytes)))
 
   -- LAW: tables set to zero

@@ -3,9 +3,9 @@ use mathlib.Core.Bool.{Bool}
 use mathlib.Core.List.{List}
 use mathlib.Core.Path.{_≡_, ap, refl, sym, _∙_}
 use Prim.Native.Nat.{ℕ}
-use Rattle.base.specs.Update.{upd, upd-same, upd-upd}
+use Rattle.base.specs.Update.{upd, upd-same}
 use Rattle.packing.specs.Words.{Bytes}
-use Rattle.rules.specs.Calls.{Store, created, made, removed, tablesOf}
+use Rattle.rules.specs.Calls.{Store, created, made, removed}
 use Rattle.rules.specs.Rules.{Work, each, eraseFile, freeMap, from}
 use Rattle.rules.specs.Sets.{unlinkSet}
 use Rattle.rules.specs.State.{Entry, Files, Tables, Tree, absentFile, fileCount}
@@ -32,16 +32,10 @@ module _ (t p : List ℕ) where
   unfolding createdIn putFiles created
   created-store f s = refl
 
-  pub created-tables : (f s : ℕ) → createdIn f s (unpack t) ≡ tablesOf (created real s f (storeOf t p))
-  created-tables f s = ap tablesOf (created-store f s)
-
   -- MAKE
   pub made-store : (s c : ℕ) (w : Bool) → storeWith (madeIn s c w (unpack t)) (pagesOf p) ≡ made real s c w (storeOf t p)
   unfolding madeIn made
   made-store s c w = refl
-
-  pub made-tables : (s c : ℕ) (w : Bool) → madeIn s c w (unpack t) ≡ tablesOf (made real s c w (storeOf t p))
-  made-tables s c w = ap tablesOf (made-store s c w)
 
   -- REMOVE
   pub removed-store : (c : ℕ) → storeWith (removedIn c (unpack t)) (pagesOf p) ≡ removed real c (storeOf t p)
@@ -52,9 +46,6 @@ module _ (t p : List ℕ) where
       let m : memoryOf (removedIn c (unpack t)) (pagesOf p) ≡ each (λ f. freeMap real (unpack t .files f c .map)) (from 0 fileCount) (memoryOf (unpack t) (pagesOf p)) =
       ap (memoryWith (memoryOf (unpack t) (pagesOf p))) (ap (λ (x : Memory). x .bits) a) ∙ sym b in
       λ i. record { memory = m i; sets = unlinkSet c (unpack t .sets); files = λ f. upd (unpack t .files f) c absentFile }
-
-  pub removed-tables : (c : ℕ) → removedIn c (unpack t) ≡ tablesOf (removed real c (storeOf t p))
-  removed-tables c = ap tablesOf (removed-store c)
 
 -- FREED AND ERASED, on what a call works on: the rules' `eraseFile`, in any tree
 module _ (tree : Tree) (f s : ℕ) (tb : Tables) (pages : ℕ → PageData) (pending : ℕ → Entry ℕ) (taken copies marks : ℕ) where
@@ -74,12 +65,3 @@ module _ (tree : Tree) (f s : ℕ) (tb : Tables) (pages : ℕ → PageData) (pen
       let m = sym (freed-memory f s tb pages) in
       let x = upd-same (freedIn f s tb .files) f (upd (freedIn f s tb .files f) s absentFile) ∙ ap (λ (y : ℕ → Files ℕ). upd (y f) s absentFile) (freed-keeps f s tb .1) in
       λ i. record { memory = m i; files = x i; pending = pending; taken = taken; copies = copies; marks = marks }
-
--- the sets and the files of the other numbers stay
-pub erased-sets : (f s : ℕ) (tb : Tables) → erasedIn f s (freedIn f s tb) .sets ≡ tb .sets
-unfolding erasedIn putFiles freedIn
-erased-sets f s tb = refl
-
-pub erased-others : (f s : ℕ) (tb : Tables) (x : Files ℕ) → upd (erasedIn f s (freedIn f s tb) .files) f x ≡ upd (tb .files) f x
-unfolding erasedIn putFiles freedIn
-erased-others f s tb x = upd-upd (tb .files) f (upd (tb .files f) s absentFile) x

@@ -4,14 +4,13 @@ use mathlib.Core.List.{List}
 use mathlib.Core.Path.{ap, refl, subst, sym, _∙_, _≡_}
 use Prim.Native.Nat.{_*_, _+_, _<_, suc, zero, ℕ, _≤_}
 use native.Mathlib.Nat.{add-zero}
-use native.Mathlib.Numerals.{add-one}
 use native.Mathlib.Omega.{arith}
-use lib.ListN.{getD, set}
+use lib.ListN.{getD, length}
 use Rattle.base.specs.Logic.{test?}
 use Rattle.packing.specs.Fields.{getField}
 use Rattle.packing.specs.Words.{Same, getWord}
+use Rattle.pages.specs.Run.{length-zeroed, zeroed, zeroed-in, zeroed-out}
 use Rattle.rules.specs.State.{absent, absentFile, fileCount, pageCount, setCount, unmapped, unusedSet}
-use Rattle.setchanges.specs.Zero.{length-zeroed, zeroed, zeroed-in, zeroed-more, zeroed-out}
 use Rattle.setchanges.specs.Changes.{erasedIn}
 use Rattle.tables.proofs.Fits.{page-in}
 use Rattle.tables.proofs.Kept.{file-put, packed-kept}
@@ -68,24 +67,18 @@ module _ (t : List ℕ) (h : PackedTables t) (f s : ℕ) (hf : f < fileCount) (h
   erased-turns =
       let lo = fileAt f s in
       let t′ = zeroed t lo 132 in
+      let fits : lo + 132 ≤ length t = omega (arith, h .len) in
       let same : Same lo (lo + 132) t t′ = zeroed-out t lo 132 in
-      let zeros : (j : ℕ) → j < 132 → getD t′ (lo + j) 0 ≡ 0 = λ j k. zeroed-in t lo 132 (lo + j) (omega arith) (omega arith) in
+      let zeros : (j : ℕ) → j < 132 → getD t′ (lo + j) 0 ≡ 0 = λ j k. zeroed-in t lo 132 (lo + j) (omega arith) (omega arith) fits in
       record {
         view = file-put lo (lo + 132) t t′ same f s absentFile hf hs (omega arith) (omega arith) (file-zero t′ f s hf hs zeros);
         packed = packed-kept lo (lo + 132) t t′ same h (length-zeroed t lo 132)
             (omega arith) (omega arith)
             (λ x y hx hy k l. let q : y * fileCount + x ≡ s * fileCount + f = omega arith in
-            rw (word-zero 3 t′ (fileAt x y) (λ j m. zeroed-in t lo 132 (fileAt x y + j) (omega arith) (omega arith))) (zero-head .0))
+            rw (word-zero 3 t′ (fileAt x y) (λ j m. zeroed-in t lo 132 (fileAt x y + j) (omega arith) (omega arith) fits)) (zero-head .0))
             (λ x y z hx hy hz k l. let q : y * fileCount + x ≡ s * fileCount + f = omega arith in
-            rw (word-zero 1 t′ (entryAt x y z) (λ j m. zeroed-in t lo 132 (entryAt x y z + j) (omega arith) (omega arith))) (zero-entry t .0));
+            rw (word-zero 1 t′ (entryAt x y z) (λ j m. zeroed-in t lo 132 (entryAt x y z + j) (omega arith) (omega arith) fits)) (zero-entry t .0));
       }
-
--- LAWS of the loop that sets bytes to zero
-pub zeroed-turn : (t₀ t : List ℕ) (start i : ℕ) → t ≡ zeroed t₀ start i → set t (start + i) 0 ≡ zeroed t₀ start (i + 1)
-zeroed-turn t₀ t start i e = ap (λ (x : List ℕ). set x (start + i) 0) e ∙ sym (zeroed-more t₀ start i) ∙ ap (zeroed t₀ start) (sym (add-one i))
-
-pub zeroed-end : (t₀ t : List ℕ) (start i n : ℕ) → i ≡ n → t ≡ zeroed t₀ start i → t ≡ zeroed t₀ start n
-zeroed-end t₀ t start i n q e = e ∙ ap (zeroed t₀ start) q
 
 -- LAW: the record of a file set to zero by the code
 pub record-erased : (t t′ : List ℕ) (f s : ℕ) → PackedTables t × (f < fileCount) × (s < setCount) → t′ ≡ zeroed t (fileAt f s) 132 → Turns t t′ (erasedIn f s)

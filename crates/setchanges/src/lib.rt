@@ -4,4 +4,3 @@ pub mod create;
 pub mod format;
 pub mod make;
 pub mod remove;
-pub mod zero;

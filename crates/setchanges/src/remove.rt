@@ -7,7 +7,6 @@ ghost use Rattle.tables.specs.Packed.{unpack};
 ghost use Rattle.tables.specs.Views.{PackedTables, Turns};
 ghost use Rattle.tables.specs.Meaning.{entryMeant};
 ghost use Rattle.setchanges.specs.Changes.{BlocksIn, blockIn, clearedIn, erasedIn, freedEntryIn, freedIn, pastIn, removedIn, unlinkedIn};
-use crate::zero;
 use tables::entries;
 use tables::entries::Entry;
 use tables::entries::Page;
@@ -19,7 +18,7 @@ pub fn erase_record(t: &mut [u8], f: usize, s: usize)
     requires { ⌜ PackedTables (now t) × (f < 16) × (s < 8) ⌝ }
     ensures { λ _. ⌜ Turns (now (t .entry)) (now (t .exit)) (erasedIn f s) ⌝ }
 {
-    zero::zero_bytes(t, 540 + (s * 16 + f) * 132, 132);
+    pages::zero_bytes(t, 540 + (s * 16 + f) * 132, 132);
 }
 
 // The block of an entry is free again.

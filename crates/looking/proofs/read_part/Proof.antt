@@ -35,7 +35,7 @@ returns c =
     let r = k .before .before in
     let s = r .before .before .before .before .before in
     let a = s .args in (
-      z .read-zeros .ensures
+      z .zero-bytes .ensures
           ∙ part-unmapped (a .t .now) (a .p .now) (a .s) (a .f) (a .from) (a .n) (s .pre .4) _ (resolved r) (a .buffer .now) (a .at) (ap entryMeant (k .enum-told .given .1)),
       r .resolve-in .ensures .2,
       r .resolve-in .ensures .3,
@@ -49,7 +49,7 @@ returns-2 c =
     let r = k .before .before in
     let s = r .before .before .before .before .before in
     let a = s .args in (
-      z .read-zeros2 .ensures
+      z .zero-bytes2 .ensures
           ∙ part-hole (a .t .now) (a .p .now) (a .s) (a .f) (a .from) (a .n) (s .pre .4) _ (resolved r) (a .buffer .now) (a .at) (ap entryMeant (k .enum-told2 .given .1)),
       r .resolve-in .ensures .2,
       r .resolve-in .ensures .3,

@@ -3,7 +3,7 @@ use mathlib.Core.Path.{ap, _∙_}
 use Prim.Native.Nat.{_*_}
 use Rattle.tables.specs.Calls.{pagesOf}
 use Rattle.pages.specs.Run.{run}
-use Rattle.pages.proofs.PageRuns.{zeroed}
+use Rattle.pages.proofs.PageRuns.{page-zeroed}
 use borrow.Author.Needs.{needs}
 use Rattle.pages.proofs.zero_page.Statement.{statement}
 use Rattle.pages.proofs.zero_page.Tie as tie
@@ -14,7 +14,7 @@ returns c =
     let n = z .before in
     let s = n .before .before .before in
     let P = s .args .pages .now in
-    ap pagesOf (z .zero-bytes .ensures) ∙ ap (λ x. pagesOf (run P (x * 512) (λ i. 0) 512)) (n .number .ensures) ∙ zeroed P (s .args .b .0) (s .pre)
+    ap pagesOf (z .zero-bytes .ensures) ∙ ap (λ x. pagesOf (run P (x * 512) (λ i. 0) 512)) (n .number .ensures) ∙ page-zeroed P (s .args .b .0) (s .pre)
 
 pub zero-page-spec : {M : Type 1} → statement M
 zero-page-spec =
