@@ -1,8 +1,9 @@
 // Big-endian words of 16, 24, 32 and 64 bits at a byte offset of a slice.
 ghost use mathlib.Core.Path.{_≡_};
-ghost use Prim.Native.Nat.{_+_, _<_};
+ghost use Prim.Native.Nat.{_+_, _<_, _≤_};
 ghost use lib.ListN.{length};
 ghost use Rattle.packing.specs.Words.{getWord, putWord};
+ghost use Rattle.packing.specs.Zeros.{zeroBytes};
 
 // A byte as a wider number: the bound in the contract spares each caller a proof.
 fn wide16(x: u8) -> u16
@@ -54,6 +55,20 @@ pub fn read64(t: &[u8], at: usize) -> u64
         + wide64(t[at + 3]);
     (((a * 256 + wide64(t[at + 4])) * 256 + wide64(t[at + 5])) * 256 + wide64(t[at + 6])) * 256
         + wide64(t[at + 7])
+}
+
+// Are the n bytes from `at` on all zero? None is tested alone, so that many are looked at at once.
+pub fn all_zero(t: &[u8], at: usize, n: usize) -> bool
+    requires { ⌜ at + n ≤ length (now t) ⌝ }
+    ensures { λ r. ⌜ r ≡ zeroBytes (now (t .entry)) at n ⌝ }
+{
+    let mut x: u8 = 0;
+    let mut i: usize = 0;
+    while i < n {
+        x = x | t[at + i];
+        i += 1;
+    }
+    x == 0
 }
 
 pub fn write16(t: &mut [u8], at: usize, v: u16)
