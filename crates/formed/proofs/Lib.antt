@@ -2,5 +2,6 @@ pub mod AloneRules
 pub mod Resolved
 pub mod Past
 pub mod LinkedRules
+pub mod Blank
 pub mod Passes
 pub mod Whole

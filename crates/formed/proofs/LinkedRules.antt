@@ -3,6 +3,7 @@ use mathlib.Core.Bool.{Bool, false, not, true, _||_}
 use mathlib.Core.List.{List}
 use mathlib.Core.Path.{ap, refl, subst, sym, _∙_, _≡_}
 use Prim.Native.Nat.{_%_, _*_, _+_, _/_, _<_, _^_, ℕ, _≤_}
+use native.Mathlib.Omega.{arith}
 use lib.Dec.{eqb, ltb}
 use borrow.Author.Tests.{eq-eqb, ne-eqb, not-false, not-true}
 use Rattle.base.specs.Count.{all, all-not}
@@ -10,7 +11,9 @@ use Rattle.base.specs.Logic.{and-both, and-false}
 use Rattle.entrycheck.specs.Marking.{pageMask}
 use Rattle.formed.proofs.AloneRules.{some-unmapped}
 use Rattle.formed.proofs.Past.{past-none, past-shift}
+use Rattle.formed.proofs.Blank.{blank-links}
 use Rattle.formed.specs.Files.{fileLinked}
+use Rattle.formed.specs.Pass.{BlankFrom}
 use Rattle.maps.proofs.OutOfRange.{state-out}
 use Rattle.rules.specs.Reading.{dependent, resolve, someUnmapped}
 use Rattle.rules.specs.State.{State, isOwn, isStored, isUnmapped, live, treeOf}
@@ -79,5 +82,5 @@ module _ (t : List ℕ) (f s : ℕ) where
   linked-next a b z e h d k =
       all-next (fileLinked t f) s z (and-both (aboveFormed (unpack t) f s) (pastFormed (unpack t) f s) (sym e ∙ not-false a h) (sym d ∙ not-false b k))
 
-  pub linked-all : s ≡ 8 → all s (fileLinked t f) ≡ true → true ≡ all 8 (fileLinked t f)
-  linked-all e z = sym (subst (λ n. all n (fileLinked t f) ≡ true) e z)
+  pub linked-all : (n : ℕ) → BlankFrom t n → f < 16 → s ≡ n → all s (fileLinked t f) ≡ true → true ≡ all 8 (fileLinked t f)
+  linked-all n b lf e z = sym (blank-links t n b f lf 8 (b .most) (omega arith) (subst (λ n. all n (fileLinked t f) ≡ true) e z))

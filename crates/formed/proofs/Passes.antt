@@ -3,18 +3,20 @@ use mathlib.Core.Bool.{_&&_, Bool, cond, false, not, true, true≢false}
 use mathlib.Core.List.{List}
 use mathlib.Core.Option.{Option, none, some}
 use mathlib.Core.Path.{ap, fun-ext, refl, subst, sym, _∙_, _≡_}
-use Prim.Native.Nat.{_+_, _<_, suc, zero, ℕ}
+use Prim.Native.Nat.{_+_, _<_, suc, zero, ℕ, _≤_}
 use native.Mathlib.Omega.{arith}
 use lib.ListN.{getD, length, length-set, set}
 use lib.Seq.{getD-set-other, getD-set-same}
-use borrow.Author.Tests.{not-false, not-true}
+use lib.Dec.{ltb}
+use borrow.Author.Tests.{ltb-false, ltb-true, not-false, not-true}
 use Rattle.base.specs.Count.{all, all-more, all-none}
-use Rattle.base.specs.Logic.{same?}
+use Rattle.base.specs.Logic.{same?, test?}
 use Rattle.entrycheck.proofs.Through.{through-next, through-refused}
 use Rattle.entrycheck.specs.declared.Masks.{Masks}
 use Rattle.entrycheck.specs.Marking.{FileMarked, Marks, Pass, Seen, andThen, markAll, markFile, markNumber, outcome, pageMask, through, through-more, through-none}
 use Rattle.formed.specs.Files.{MasksTo, fileAlone, fileLinked, numberFormed}
-use Rattle.formed.specs.Pass.{FilePassed, NumberPassed, onlyIf, passFile, passNumber, passSets}
+use Rattle.formed.proofs.Blank.{blank-sets, blank-stored, blank-unmapped}
+use Rattle.formed.specs.Pass.{BlankFrom, EachIs, FilePassed, NumberPassed, onlyIf, passFile, passNumber, passSets}
 use Rattle.packing.specs.Bitmap.{bitAt}
 use Rattle.rules.specs.State.{isStored, isUnmapped}
 use Rattle.tables.specs.Packed.{unpack}
@@ -74,14 +76,19 @@ pub record SetsPassed (limit : ℕ) (t : List ℕ) (f : ℕ) (seen₀ seen store
   pub passed : passSets limit t f s (bitAt seen₀ 0) ≡ some (bitAt seen 0)
   pub len : length seen ≡ 512
   pub masks : MasksTo (unpack t .files f) s stored unmapped
+  -- the masks of the other sets are as they were
+  pub rest-stored : (x : ℕ) → s ≤ x → x < 8 → getD stored x 0 ≡ 0
+  pub rest-unmapped : (x : ℕ) → s ≤ x → x < 8 → getD unmapped x 0 ≡ 18446744073709551615
 
 module _ (limit : ℕ) (t : List ℕ) (f : ℕ) (seen₀ : List ℕ) where
-  pub sets-start : (stored unmapped : List ℕ) → length seen₀ ≡ 512 → length stored ≡ 8 → length unmapped ≡ 8 → SetsPassed limit t f seen₀ seen₀ stored unmapped 0
+  pub sets-start : (stored unmapped : List ℕ) → length seen₀ ≡ 512 → EachIs stored 0 → EachIs unmapped 18446744073709551615 → SetsPassed limit t f seen₀ seen₀ stored unmapped 0
   unfolding passSets
   sets-start stored unmapped len a b = record {
     passed = through-none (λ s. passFile limit t f s) (bitAt seen₀ 0);
     len = len;
-    masks = record { stored-len = a; unmapped-len = b; stored-are = λ s l. absurd (omega arith); unmapped-are = λ s l. absurd (omega arith) };
+    masks = record { stored-len = a .0; unmapped-len = b .0; stored-are = λ s l. absurd (omega arith); unmapped-are = λ s l. absurd (omega arith) };
+    rest-stored = λ x l m. a .1 x m;
+    rest-unmapped = λ x l m. b .1 x m;
   }
 
   module _ (seen stored unmapped : List ℕ) (s : ℕ) (k : SetsPassed limit t f seen₀ seen stored unmapped s) (ls : s < 8)
@@ -104,6 +111,8 @@ module _ (limit : ℕ) (t : List ℕ) (f : ℕ) (seen₀ : List ℕ) where
             unmapped-are = λ y l. ap (λ z. getD z y 0) b
                 ∙ put-mask unmapped s (pageMask isUnmapped (unpack t .files f s .map)) (λ z. pageMask isUnmapped (unpack t .files f z .map)) (k .masks .unmapped-len) ls (k .masks .unmapped-are) refl y l;
           };
+          rest-stored = λ y l m. ap (λ z. getD z y 0) a ∙ getD-set-other stored s y _ 0 (λ q. omega arith) ∙ k .rest-stored y (omega arith) m;
+          rest-unmapped = λ y l m. ap (λ z. getD z y 0) b ∙ getD-set-other unmapped s y _ 0 (λ q. omega arith) ∙ k .rest-unmapped y (omega arith) m;
         }
 
     -- LAW: a file that does not
@@ -117,11 +126,28 @@ module _ (limit : ℕ) (t : List ℕ) (f : ℕ) (seen₀ : List ℕ) where
       masks = λ q. absurd (true≢false (sym q));
     }
 
-  -- LAW: 8 sets
-  pub sets-done : (seen stored unmapped : List ℕ) (s : ℕ) → SetsPassed limit t f seen₀ seen stored unmapped s → s ≡ 8 → NumberPassed limit t f seen₀ seen stored unmapped true
-  sets-done seen stored unmapped s k e =
-      let q : SetsPassed limit t f seen₀ seen stored unmapped 8 = subst (λ x. SetsPassed limit t f seen₀ seen stored unmapped x) e k in
-      record { marked = record { marks = q .passed; len = q .len }; masks = λ h. q .masks }
+  -- LAW: the sets before set n, and the others are blank
+  module _ (n : ℕ) (b : BlankFrom t n) (lf : f < 16) (seen stored unmapped : List ℕ) (k : SetsPassed limit t f seen₀ seen stored unmapped n) where
+    all-masks : MasksTo (unpack t .files f) 8 stored unmapped
+    all-masks = record {
+      stored-len = k .masks .stored-len;
+      unmapped-len = k .masks .unmapped-len;
+      stored-are = λ x l. test? (ltb x n)
+          (λ e. k .masks .stored-are x (ltb-true x n e))
+          (λ e. let m = ltb-false x n e in k .rest-stored x m l ∙ sym (blank-stored t n b f x lf m l));
+      unmapped-are = λ x l. test? (ltb x n)
+          (λ e. k .masks .unmapped-are x (ltb-true x n e))
+          (λ e. let m = ltb-false x n e in k .rest-unmapped x m l ∙ sym (blank-unmapped t n b f x lf m l));
+    }
+
+    all-passed : NumberPassed limit t f seen₀ seen stored unmapped true
+    all-passed = record {
+      marked = record { marks = blank-sets t n b f lf limit 8 (bitAt seen₀ 0) (b .most) (omega arith) ∙ k .passed; len = k .len };
+      masks = λ h. all-masks;
+    }
+
+  pub sets-done : (n s : ℕ) (seen stored unmapped : List ℕ) → BlankFrom t n → f < 16 → SetsPassed limit t f seen₀ seen stored unmapped s → s ≡ n → NumberPassed limit t f seen₀ seen stored unmapped true
+  sets-done n s seen stored unmapped b lf k e = all-passed n b lf seen stored unmapped (subst (λ x. SetsPassed limit t f seen₀ seen stored unmapped x) e k)
 
 module _ (limit : ℕ) (t : List ℕ) (f : ℕ) (seen seen′ stored unmapped : List ℕ) (ok : Bool) (k : NumberPassed limit t f seen seen′ stored unmapped ok) where
   -- LAW: a file of the number does not pass

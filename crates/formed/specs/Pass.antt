@@ -1,14 +1,15 @@
 -- The pass over all files that checks entries and rules at once: the file numbers outside, the sets inside. Assumes nothing.
-use mathlib.Core.Bool.{Bool, cond, true}
+use mathlib.Core.Bool.{Bool, cond, false, true}
 use mathlib.Core.List.{List}
 use mathlib.Core.Option.{none}
 use mathlib.Core.Path.{_≡_}
-use Prim.Native.Nat.{ℕ}
-use lib.ListN.{set}
+use Prim.Native.Nat.{_+_, _<_, ℕ, _≤_}
+use lib.ListN.{getD, length, set}
 use Rattle.base.specs.Count.{all}
 use Rattle.entrycheck.specs.Marking.{Marks, Pass, markFile, pageMask, through}
 use Rattle.formed.specs.Files.{MasksTo, fileAlone, fileLinked}
-use Rattle.rules.specs.State.{isStored, isUnmapped, setCount}
+use Rattle.rules.specs.State.{SetRecord, fileCount, isStored, isUnmapped, setCount}
+use Rattle.tables.specs.Layout.{fileAt}
 use Rattle.tables.specs.Packed.{unpack}
 
 -- a pass that needs a test passed besides
@@ -27,6 +28,19 @@ module _ (limit : ℕ) (t : List ℕ) where
   -- the files of number f
   unfoldable pub passNumber : ℕ → Pass
   passNumber f = onlyIf (all setCount (fileLinked t f)) (passSets f setCount)
+
+-- sets from n on are unused
+abbrev pub UnusedFrom : (ℕ → SetRecord) → ℕ → Type 0
+UnusedFrom sets n = (s : ℕ) → n ≤ s → s < setCount → sets s .used ≡ false
+
+-- every byte of the file records of the sets from n on is zero
+pub record BlankFrom (t : List ℕ) (n : ℕ) : Type 0 where
+  pub most : n ≤ setCount
+  pub zero : (f s j : ℕ) → f < fileCount → n ≤ s → s < setCount → j < 132 → getD t (fileAt f s + j) 0 ≡ 0
+
+-- a list of eight masks that are all v
+abbrev pub EachIs : List ℕ → ℕ → Type 0
+EachIs l v = (length l ≡ setCount) × ((s : ℕ) → s < setCount → getD l s 0 ≡ v)
 
 -- file f of set s has been looked at: what is seen, and its masks are kept
 pub record FilePassed (limit : ℕ) (t : List ℕ) (f s : ℕ) (seen seen′ stored stored′ unmapped unmapped′ : List ℕ) (ok : Bool) : Type 0 where

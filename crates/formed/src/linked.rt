@@ -12,6 +12,7 @@ ghost use Rattle.tables.specs.Meaning.{stateMeant};
 ghost use Rattle.tables.specs.Packed.{unpack};
 ghost use Rattle.entrycheck.specs.Marking.{pageMask};
 ghost use Rattle.formed.specs.Files.{Falling, MasksTo, fileLinked};
+ghost use Rattle.formed.specs.Pass.{BlankFrom};
 use tables::files;
 use tables::files::State;
 use tables::sets;
@@ -80,12 +81,12 @@ pub fn file_past(t: &[u8], stored: &[u64; 8], unmapped: &[u64; 8], f: usize, s: 
     resolved_mask(t, stored, unmapped, s) << k == 0
 }
 
-// Both rules for the files of number f.
-pub fn files_linked(t: &[u8], stored: &[u64; 8], unmapped: &[u64; 8], f: usize) -> bool
-    requires { ⌜ (length (now t) ≡ tableBytes) × Falling (unpack (now t) .sets) × (f < 16) × MasksTo (unpack (now t) .files f) 8 (now stored) (now unmapped) ⌝ }
+// Both rules for the files of number f: those from set n on are blank.
+pub fn files_linked(t: &[u8], stored: &[u64; 8], unmapped: &[u64; 8], f: usize, n: usize) -> bool
+    requires { ⌜ (length (now t) ≡ tableBytes) × Falling (unpack (now t) .sets) × (f < 16) × MasksTo (unpack (now t) .files f) 8 (now stored) (now unmapped) × BlankFrom (now t) n ⌝ }
     ensures { λ r. ⌜ r ≡ all 8 (fileLinked (now (t .entry)) f) ⌝ }
 {
-    for s in 0..8 {
+    for s in 0..n {
         if !file_above(t, f, s, unmapped[s]) {
             return false;
         }

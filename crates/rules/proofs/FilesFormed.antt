@@ -26,7 +26,7 @@ pub record Ranged (tb : Tables) : Type 0 where
   pub no-files : (f s : ℕ) → 8 ≤ s → tb .files f s ≡ absentFile
   pub no-pages : (f s p : ℕ) → 64 ≤ p → tb .files f s .map p ≡ unmapped
 
-unmapped-is : (e : Entry ℕ) → isUnmapped e ≡ true → e ≡ unmapped
+pub unmapped-is : (e : Entry ℕ) → isUnmapped e ≡ true → e ≡ unmapped
 unmapped-is unmapped h = refl
 unmapped-is hole h = absurd (true≢false (sym h))
 unmapped-is (stored b) h = absurd (true≢false (sym h))

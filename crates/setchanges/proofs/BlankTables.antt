@@ -19,13 +19,13 @@ use Rattle.rules.specs.Sets.{rootAlone}
 use Rattle.rules.specs.State.{SetRecord, Tables, absentFile, largestBlocks, noSet, setCount, unusedSet}
 use Rattle.rules.specs.Storage.{real}
 use Rattle.setchanges.proofs.Turning.{file-default}
-use Rattle.setchanges.proofs.ZeroWords.{file-zero, word-zero, zero-entry, zero-head, zero-header, zero-set}
 use Rattle.setchanges.specs.Changes.{putHeaderIn}
 use Rattle.tables.proofs.Codes.{header-word}
 use Rattle.tables.proofs.Fits.{file-in}
 use Rattle.tables.proofs.Kept.{bits-kept, files-kept, packed-kept, sets-kept}
 use Rattle.tables.proofs.Layouts.{header-zero, read-write-blocks, read-write-next, write-header-lt}
 use Rattle.tables.proofs.PackUnpack.{pack-unpack}
+use Rattle.tables.proofs.ZeroFiles.{file-zero, word-zero, zero-entry, zero-head, zero-header, zero-set}
 use Rattle.tables.proofs.ReadParts.{bit-default, read-bit, read-blocks, read-next, read-set, set-default}
 use Rattle.tables.specs.Layout.{bitmapAt, entryAt, fileAt, headerAt, readBlocks, readNext, readSet, setAt, tableBytes, writeHeader}
 use Rattle.tables.specs.Packed.{isFile, pack, unpack}

@@ -9,6 +9,7 @@ use lib.Pow.{low}
 use borrow.Author.Tests.{eqb-true, leb-true, ltb-false, ltb-true}
 use Rattle.base.specs.Count.{all}
 use Rattle.base.specs.Logic.{and-left, and-right, digit, test?}
+use Rattle.rules.proofs.FilesFormed.{unmapped-is}
 use Rattle.rules.proofs.Shape.{absent-is}
 use Rattle.rules.proofs.Tests.{and-3, and-4, files-at, not-then, or-then, pages-at}
 use Rattle.rules.specs.State.{Entry, File, absentFile, fileCount, hole, isAbsent, isUnmapped, largestBlocks, pageBytes, pageCount, setCount, stored, unmapped}
@@ -17,11 +18,6 @@ use Rattle.setchanges.proofs.Turning.{no-page}
 use Rattle.setchanges.specs.Changes.{BlocksIn}
 use Rattle.tables.proofs.ReadParts.{map-default}
 use Rattle.tables.specs.Packed.{unpack}
-
-unmapped-is : (e : Entry ℕ) → isUnmapped e ≡ true → e ≡ unmapped
-unmapped-is unmapped h = refl
-unmapped-is hole h = absurd (true≢false (sym h))
-unmapped-is (stored b) h = absurd (true≢false (sym h))
 
 -- a file that is absent and all zero
 zero-absent : (x : File ℕ) → isAbsent (x .state) ≡ true → zeroFile x ≡ true → ((p : ℕ) → pageCount ≤ p → x .map p ≡ unmapped) → x ≡ absentFile

@@ -9,6 +9,7 @@ pub mod Operations
 pub mod Kept
 pub mod Stores
 pub mod Codes
+pub mod ZeroFiles
 pub mod Written
 pub mod FreeBlocks
 pub mod Pending

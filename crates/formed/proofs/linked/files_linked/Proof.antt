@@ -10,10 +10,10 @@ use Rattle.formed.proofs.linked.files_linked.Statement.{statement}
 use Rattle.formed.proofs.linked.files_linked.Tie as tie
 
 abbrev Inv-loop : tie.InvT-loop
-Inv-loop t stored unmapped f s₀ s = (s ≤ 8) × (all s (fileLinked t f) ≡ true)
+Inv-loop t stored unmapped f n s₀ s = (s ≤ n) × (all s (fileLinked t f) ≡ true)
 
 abbrev μ-loop : tie.MeasureT-loop
-μ-loop t stored unmapped f s₀ s = 8 - s
+μ-loop t stored unmapped f n s₀ s = n - s
 
 loop-holds : tie.Need-loop-holds Inv-loop μ-loop
 loop-holds c = (omega arith, all-none _)
@@ -45,7 +45,7 @@ loop-again c =
     (omega arith, linked-next _ _ _ _ _ (l .loop .inv .1) (a .file-above .ensures) (i .if1 .left) (b .file-past .ensures) (c .if2 .left))
 
 returns-3 : tie.Need-returns-3 Inv-loop μ-loop
-returns-3 c = linked-all _ _ _ (omega arith) (c .before .loop .inv .1)
+returns-3 c = let p = c .before .before .before .pre in linked-all _ _ _ _ (p .4) (p .2) (omega arith) (c .before .loop .inv .1)
 
 pub files-linked-spec : {M : Type 1} → statement M
 files-linked-spec =
