@@ -24,7 +24,7 @@ use Rattle.rules.specs.Reading.{dependent}
 use Rattle.rules.specs.State.{Entry, File, SetRecord, absentFile, hole, isAbsent, isStored, isUnmapped, stored, unmapped}
 use Rattle.rules.specs.WellFormed.{aboveFormed, allFiles, allPages, bitsFormed, filesFormed, pastFormed, zeroFile}
 use Rattle.setcheck.specs.Records.{fileRecordsFormed}
-use Rattle.tables.proofs.ZeroFiles.{absent-bytes, entry-zero, file-zero, head-zero, zero-entry}
+use Rattle.tables.proofs.ZeroFiles.{absent-bytes, entries-zero, entry-zero, file-zero, head-zero, zero-entry}
 use Rattle.packing.specs.Fields.{getField}
 use Rattle.tables.specs.Layout.{entryWord, fileAt, headWidths, headWord}
 use Rattle.tables.specs.Packed.{entryFormed, kindsFormed, unpack}
@@ -87,7 +87,7 @@ module _ (t : List ℕ) (n : ℕ) (b : BlankFrom t n) (f s : ℕ) (lf : f < 16) 
   blank-entries limit (suc m) seen l =
       through-more m (λ p. markEntry limit (entryWord t f s p)) seen
       ∙ ap (λ o. andThen o (markEntry limit (entryWord t f s m))) (blank-entries limit m seen (omega arith))
-      ∙ ap (λ w. markEntry limit w seen) (entry-zero t f s lf ls zeros m (omega arith))
+      ∙ ap (λ w. markEntry limit w seen) (entry-zero t f s (entries-zero t f s lf ls zeros) m (omega arith))
       ∙ zero-marks limit seen
 
   blank-pass : (limit : ℕ) (seen : Seen) → passFile limit t f s seen ≡ some seen

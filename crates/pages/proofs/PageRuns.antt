@@ -9,7 +9,7 @@ use lib.Dec.{leb, ltb}
 use lib.ListN.{getD, length, set}
 use borrow.Author.Tests.{le-leb, le-ltb, leb-true, lt-leb, lt-ltb, ltb-false, ltb-true}
 use Rattle.base.specs.Logic.{and-left, and-right, same?, test?}
-use Rattle.base.specs.Update.{upd, upd-other, upd-same}
+use Rattle.base.specs.Update.{upd, upd-other, upd-same, upd-self}
 use Rattle.pages.specs.Run.{run, run-in, run-more, run-out, run-same}
 use Rattle.rules.specs.Storage.{zeroFrom}
 use Rattle.tables.specs.Calls.{pagesOf}
@@ -93,3 +93,9 @@ page-read l p at b x n h =
     run-same l at (λ i. getD p (b * 512 + x + i) 0) (λ i. pagesOf p b (x + i)) n
     (λ i k. let z : b * 512 + x + i ≡ b * 512 + (x + i) = omega arith in
     ap (λ y. getD p y 0) z ∙ sym (pages-in p b (x + i) (omega arith)))
+
+-- a page copied to its own block, by the numbers x and y of the blocks
+pub copy-self : (l : List ℕ) (a b x y : ℕ) → x ≡ a → y ≡ b → x * 512 ≡ y * 512 → pagesOf l ≡ upd (pagesOf l) b (pagesOf l a)
+copy-self l a b x y p q e =
+    let k : a ≡ b = omega (arith, p, q, e) in
+    sym (ap (λ z. upd (pagesOf l) b (pagesOf l z)) k ∙ upd-self (pagesOf l) b)

@@ -40,6 +40,9 @@ pub fn copy_page(pages: &mut [u8], from: Block, to: Block)
 {
     let a = from.number() * 512;
     let b = to.number() * 512;
+    if a == b {
+        return;
+    }
     let mut i = 0;
     while i < 512 {
         pages[b + i] = pages[a + i];

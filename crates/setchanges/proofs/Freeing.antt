@@ -1,18 +1,20 @@
 -- Freeing the blocks of a file: its entries in turn, on the bits alone. Assumes nothing.
-use mathlib.Core.Bool.{Bool, false}
+use mathlib.Core.Bool.{Bool, false, true}
 use mathlib.Core.List.{List, _∷_, []}
-use mathlib.Core.Path.{ap, refl, subst, sym, _∙_, _≡_}
-use Prim.Native.Nat.{_+_, _<_, suc, zero, ℕ}
+use mathlib.Core.Path.{ap, fun-ext, refl, subst, sym, _∙_, _≡_}
+use Prim.Native.Nat.{_*_, _+_, _<_, suc, zero, ℕ}
 use native.Mathlib.Nat.{zero-add}
 use native.Mathlib.Numerals.{add-one}
 use native.Mathlib.Omega.{arith}
 use lib.Pow.{low}
 use Rattle.base.specs.Update.{upd}
+use Rattle.packing.specs.Zeros.{zero-at, zeroBytes}
 use Rattle.rules.specs.Rules.{each, freeEntry, freeMap, from}
 use Rattle.rules.specs.State.{Entry, Files, Tables, hole, largestBlocks, pageCount, stored, unmapped}
 use Rattle.rules.specs.Storage.{Memory, PageData, real}
 use Rattle.setchanges.proofs.Turning.{turns-as, turns-more, turns-start}
 use Rattle.setchanges.specs.Changes.{BlocksIn, blockIn, freedEntryIn, freedIn, memoryOf, noPages, withBits}
+use Rattle.tables.proofs.ZeroFiles.{map-zero}
 use Rattle.tables.specs.Packed.{unpack}
 use Rattle.tables.specs.Views.{PackedTables, Turns, putBitIn}
 
@@ -149,3 +151,24 @@ free-hole t e q h = turns-start t (freedEntryIn e) h (rw q)
 pub free-stored : (t t′ : List ℕ) (e : Entry ℕ) (b : ℕ) → e ≡ stored b → Turns t t′ (putBitIn b false) → Turns t t′ (freedEntryIn e)
 unfolding freedEntryIn
 free-stored t t′ e b q a = turns-as (putBitIn b false) (freedEntryIn e) a (rw q)
+
+-- ---- a file whose pages are all unmapped
+
+each-same : (n a : ℕ) (bits : ℕ → Bool) → each (λ p. freeBit unmapped) (from a n) bits ≡ bits
+unfolding each from
+each-same zero a bits = refl
+each-same (suc n) a bits = each-same n (suc a) bits
+
+none-freed : (map : ℕ → Entry ℕ) (bits : ℕ → Bool) → ((p : ℕ) → map p ≡ unmapped) → freedBits map bits ≡ bits
+unfolding freedBits
+none-freed map bits u = ap (λ (m : ℕ → Entry ℕ). each (λ p. freeBit (m p)) (from 0 pageCount) bits) (fun-ext u) ∙ each-same pageCount 0 bits
+
+-- LAW: nothing is freed; r is the test of the code
+pub freed-blank : (t : List ℕ) (f s : ℕ) (r : Bool) → PackedTables t → f < 16 → s < 8 → r ≡ zeroBytes t (544 + (s * 16 + f) * 132) 128 → r ≡ true → Turns t t (freedIn f s)
+unfolding freedIn withBits
+freed-blank t f s r h hf hs e k =
+    let tb = unpack t in
+    let u = map-zero t f s (zero-at t (544 + (s * 16 + f) * 132) 128 (sym e ∙ k)) hf hs in
+    let b : freeMap real (tb .files f s .map) (memoryOf tb noPages) .bits ≡ tb .bits =
+    ap (λ (m : Memory). m .bits) (free-map-bits (tb .files f s .map) (memoryOf tb noPages) (tb .bits)) ∙ none-freed (tb .files f s .map) (tb .bits) u in
+    record { view = λ i. record { blocks = tb .blocks; next = tb .next; bits = sym b i; sets = tb .sets; files = tb .files }; packed = h }

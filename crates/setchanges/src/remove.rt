@@ -7,6 +7,7 @@ ghost use Rattle.tables.specs.Packed.{unpack};
 ghost use Rattle.tables.specs.Views.{PackedTables, Turns};
 ghost use Rattle.tables.specs.Meaning.{entryMeant};
 ghost use Rattle.setchanges.specs.Changes.{BlocksIn, blockIn, clearedIn, erasedIn, freedEntryIn, freedIn, pastIn, removedIn, unlinkedIn};
+use packing::words;
 use tables::entries;
 use tables::entries::Entry;
 use tables::entries::Page;
@@ -33,11 +34,14 @@ pub fn free_entry(t: &mut [u8], e: Entry)
     }
 }
 
-// "frees the file's blocks"
+// "frees the file's blocks". A file whose pages are all unmapped has none.
 pub fn free_map(t: &mut [u8], f: usize, s: usize)
     requires { ⌜ PackedTables (now t) × (f < 16) × (s < 8) × BlocksIn f s (unpack (now t)) ⌝ }
     ensures { λ _. ⌜ Turns (now (t .entry)) (now (t .exit)) (freedIn f s) ⌝ }
 {
+    if words::all_zero(&*t, 544 + (s * 16 + f) * 132, 128) {
+        return;
+    }
     let mut p: usize = 0;
     while p < 64 {
         let e = entries::entry_at(&*t, f, s, Page::new(p));

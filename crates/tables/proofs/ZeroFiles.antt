@@ -42,22 +42,29 @@ pub zero-entry : (t : List ℕ) → (entryFormed t 0 ≡ true) × (readEntry 0 �
 unfolding readEntry
 zero-entry t = (refl, refl)
 
+-- a file whose entries are zero
+module _ (t : List ℕ) (f s : ℕ) (zeros : (j : ℕ) → j < 128 → getD t (544 + (s * 16 + f) * 132 + j) 0 ≡ 0) where
+  pub entry-zero : (p : ℕ) → p < pageCount → entryWord t f s p ≡ 0
+  entry-zero p hp = word-zero 1 t (entryAt f s p) (λ j k. let e : 544 + (s * 16 + f) * 132 + (p * 2 + j) ≡ entryAt f s p + j = omega arith in ap (λ i. getD t i 0) (sym e) ∙ zeros (p * 2 + j) (omega arith))
+
+  pub map-zero : f < fileCount → s < setCount → (p : ℕ) → unpack t .files f s .map p ≡ unmapped
+  map-zero hf hs p = test? (isPage f s p)
+      (λ e. let l = page-in f s p e in read-map t f s p hf hs (l .2) ∙ ap readEntry (entry-zero p (l .2)) ∙ zero-entry t .1)
+      (λ e. map-default t f s p e)
+
 -- a file whose bytes are zero
 module _ (t : List ℕ) (f s : ℕ) (hf : f < fileCount) (hs : s < setCount) (zeros : (j : ℕ) → j < 132 → getD t (fileAt f s + j) 0 ≡ 0) where
+  pub entries-zero : (j : ℕ) → j < 128 → getD t (544 + (s * 16 + f) * 132 + j) 0 ≡ 0
+  entries-zero j l = let e : 544 + (s * 16 + f) * 132 + j ≡ fileAt f s + (4 + j) = omega arith in ap (λ i. getD t i 0) e ∙ zeros (4 + j) (omega arith)
+
   pub head-zero : headWord t f s ≡ 0
   head-zero = word-zero 3 t (fileAt f s) (λ j k. zeros j (omega arith))
-
-  pub entry-zero : (p : ℕ) → p < pageCount → entryWord t f s p ≡ 0
-  entry-zero p hp = word-zero 1 t (entryAt f s p) (λ j k. let e : fileAt f s + (4 + p * 2 + j) ≡ entryAt f s p + j = omega arith in ap (λ i. getD t i 0) (sym e) ∙ zeros (4 + p * 2 + j) (omega arith))
 
   pub file-zero : unpack t .files f s ≡ absentFile
   file-zero =
       let a = read-state t f s hf hs ∙ ap readState head-zero ∙ zero-head .1 in
       let b = read-size t f s hf hs ∙ ap readSize head-zero ∙ zero-head .2 in
-      let c : (p : ℕ) → unpack t .files f s .map p ≡ unmapped = λ p. test? (isPage f s p)
-      (λ e. let l = page-in f s p e in read-map t f s p hf hs (l .2) ∙ ap readEntry (entry-zero p (l .2)) ∙ zero-entry t .1)
-      (λ e. map-default t f s p e) in
-      λ i. record { state = a i; size = b i; map = λ p. c p i }
+      λ i. record { state = a i; size = b i; map = λ p. map-zero t f s entries-zero hf hs p i }
 
 -- ---- the other way
 

@@ -8,7 +8,7 @@ use lib.ListN.{length, getD, set, length-set}
 use borrow.Author.Needs.{needs}
 use Rattle.tables.specs.Calls.{pagesOf}
 use Rattle.pages.specs.Run.{run, run-none}
-use Rattle.pages.proofs.PageRuns.{copy-more, copied}
+use Rattle.pages.proofs.PageRuns.{copied, copy-more, copy-self}
 use Rattle.pages.proofs.copy_page.Statement.{statement}
 use Rattle.pages.proofs.copy_page.Tie as tie
 
@@ -18,13 +18,20 @@ Inv-loop pages₀ a b i₀ pages i = (i ≤ 512) × (length pages ≡ length pag
 abbrev μ-loop : tie.MeasureT-loop
 μ-loop pages₀ a b i₀ pages i = 512 - i
 
+returns : tie.Need-returns Inv-loop μ-loop
+returns c =
+    let to = c .before in
+    let from = to .before in
+    let s = from .before .before in
+    copy-self (s .args .pages .now) (s .args .from .0) (s .args .to .0) (from .number .result) (to .number2 .result) (from .number .ensures) (to .number2 .ensures) (c .if1 .taken)
+
 loop-holds : tie.Need-loop-holds Inv-loop μ-loop
 loop-holds c = (search needs, refl, sym (run-none _ _ _))
 
 loop-again : tie.Need-loop-again Inv-loop μ-loop
 loop-again c =
     let L = c .before .before .loop in
-    let to = c .before .before .before in
+    let to = c .before .before .before .before in
     let from = to .before in
     let P = from .before .before .args .pages .now in
     let a = from .number .result in
@@ -35,10 +42,10 @@ loop-again c =
           ∙ copy-more P a b (L .i) (λ k. getD P (a * 512 + k) 0) (omega arith) refl,
     )
 
-returns : tie.Need-returns Inv-loop μ-loop
-returns c =
+returns-2 : tie.Need-returns-2 Inv-loop μ-loop
+returns-2 c =
     let L = c .before .loop in
-    let to = c .before .before in
+    let to = c .before .before .before in
     let from = to .before in
     let s = from .before .before in
     let P = s .args .pages .now in
@@ -53,5 +60,5 @@ pub copy-page-spec : {M : Type 1} → statement M
 copy-page-spec =
     tie.close
     (tie.spec
-    Inv-loop μ-loop (λ c κs. search needs) (λ c. search needs) (λ c κs. search needs) (λ c. search needs) loop-holds (λ c. search needs)
-    (λ c. search needs) (λ c. search needs) (λ c. search needs) (λ c. search needs) (λ c. search needs) loop-again (λ c. search needs) returns)
+    Inv-loop μ-loop (λ c κs. search needs) (λ c. search needs) (λ c κs. search needs) (λ c. search needs) returns loop-holds (λ c. search needs)
+    (λ c. search needs) (λ c. search needs) (λ c. search needs) (λ c. search needs) (λ c. search needs) loop-again (λ c. search needs) returns-2)
