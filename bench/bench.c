@@ -1,0 +1,606 @@
+/*
+ * Times the exported calls of the sweep store beside their hand-written twin (twin.c), in one run.
+ *
+ *   bench                     the table of times, then the stack that each call uses
+ *   bench stack               the stack alone
+ *   bench only CALL           the times of one call alone
+ *   bench list                the cases, numbered
+ *   bench loop N store|twin COUNT   runs case N so often and prints nothing: for a profiler
+ *
+ * Method. All cases are gone through several times. Each time a case is run in short batches, store and twin in turn, the copy
+ * of the tables (memcpy of 17,436 bytes) among them; the best batch of each counts. A call that changes nothing is repeated in a row under one reading of the clock. A call
+ * that changes the tables is timed by itself: the tables are put back before it, outside the time, and the cost of reading
+ * the clock is taken off. Pages are not put back: what they hold decides nothing. Before the timing each case is done once by
+ * both, and answer, tables, pages and read buffer must be the same.
+ */
+#define _GNU_SOURCE
+#include "twin.h"
+
+#include <stdbool.h>
+#include <stdio.h>
+#include <stdlib.h>
+#include <string.h>
+#include <time.h>
+#include <ucontext.h>
+#include <x86intrin.h>
+
+enum { TABLES = SWEEP_TABLES_BYTES, PAGE = SWEEP_PAGE_BYTES, MAX_BLOCKS = SWEEP_BLOCKS_MAX, FILE_BYTES = SWEEP_FILE_BYTES_MAX };
+enum { PASSES = 5, ROUNDS = 300 };
+
+/* ---- the two implementations ---- */
+
+struct calls {
+    const char *name;
+    sweep_answer (*format)(uint8_t *, size_t, uint8_t *, size_t);
+    sweep_answer (*create)(uint8_t *, size_t, uint8_t *, size_t, uint32_t, uint32_t);
+    sweep_answer (*write)(uint8_t *, size_t, uint8_t *, size_t, uint32_t, uint32_t, uint32_t, const uint8_t *, size_t);
+    sweep_answer (*read)(const uint8_t *, size_t, const uint8_t *, size_t, uint32_t, uint32_t, uint32_t, uint8_t *, size_t);
+    sweep_answer (*truncate)(uint8_t *, size_t, uint8_t *, size_t, uint32_t, uint32_t, uint32_t);
+    sweep_answer (*delete)(uint8_t *, size_t, uint8_t *, size_t, uint32_t, uint32_t);
+    sweep_answer (*make)(uint8_t *, size_t, uint8_t *, size_t, uint32_t, uint32_t, uint32_t);
+    sweep_answer (*remove)(uint8_t *, size_t, uint8_t *, size_t, uint32_t);
+    sweep_answer (*size)(const uint8_t *, size_t, const uint8_t *, size_t, uint32_t, uint32_t);
+    sweep_answer (*free)(const uint8_t *, size_t, const uint8_t *, size_t);
+};
+
+#define ALL(prefix)                                                                                                    \
+    prefix##_format, prefix##_create, prefix##_write, prefix##_read, prefix##_truncate, prefix##_delete, prefix##_make,    \
+        prefix##_remove, prefix##_size, prefix##_free
+static const struct calls store = { "store", ALL(sweep) };
+static const struct calls twin = { "twin", ALL(twin) };
+
+/* ---- the buffers ---- */
+
+static _Alignas(4096) uint8_t tables[TABLES];          /* what the calls are given */
+static _Alignas(4096) uint8_t kept[TABLES];            /* the tables before the call */
+static _Alignas(4096) uint8_t pages[MAX_BLOCKS * PAGE];
+static _Alignas(4096) uint8_t pages_kept[MAX_BLOCKS * PAGE];
+static _Alignas(4096) uint8_t data[FILE_BYTES];
+static _Alignas(4096) uint8_t buffer[FILE_BYTES];
+static _Alignas(4096) uint8_t other[MAX_BLOCKS * PAGE];
+static size_t length; /* of the pages */
+
+static uint64_t random_state;
+static unsigned below(unsigned n)
+{
+    random_state ^= random_state << 13;
+    random_state ^= random_state >> 7;
+    random_state ^= random_state << 17;
+    return (unsigned)(random_state >> 20) % n;
+}
+
+static void fail(const char *what)
+{
+    fprintf(stderr, "bench: %s\n", what);
+    exit(1);
+}
+
+static void must(sweep_answer a)
+{
+    if (a.number != 0)
+        fail("a store could not be built");
+}
+
+#define LENT tables, TABLES, pages, length
+
+/* ---- the stores ---- */
+
+static void empty(unsigned blocks)
+{
+    random_state = 88172645463325252u;
+    length = (size_t)blocks * PAGE;
+    must(twin_format(LENT));
+}
+
+/* The 16 files of set 0, so many pages each, written from front to back. */
+static void root_files(unsigned file_pages)
+{
+    for (unsigned f = 0; f < 16; f++) {
+        must(twin_create(LENT, 0, f));
+        must(twin_write(LENT, 0, f, 0, data, (size_t)file_pages * PAGE));
+    }
+}
+
+/* One write to some file of a set: one time in four all its pages, else 1 to 4 of them; at most so many. */
+static void some_write(unsigned set, unsigned file_pages, unsigned most)
+{
+    unsigned all = below(4) == 0, run = all ? file_pages : 1 + below(4), at = all ? 0 : below(file_pages), f = below(16);
+    run = run < most ? run : most;
+    run = run < file_pages - at ? run : file_pages - at;
+    must(twin_write(LENT, set, f, at * PAGE, data, (size_t)run * PAGE));
+}
+
+static unsigned free_now(void)
+{
+    sweep_answer a = twin_free(LENT);
+    must(a);
+    return a.first;
+}
+
+/* 8 sets of 16 files, three levels of copies, half full: a quarter of the blocks in set 0, a quarter in its copies, where
+ * some files are written anew from front to back and some in a few pages. */
+static void typical(unsigned blocks)
+{
+    static const uint8_t parent[8] = { 0, 0, 0, 0, 1, 1, 2, 4 };
+    empty(blocks);
+    root_files(blocks / 64);
+    for (unsigned s = 1; s < 8; s++)
+        must(twin_make(LENT, parent[s], s, 1));
+    for (unsigned free = free_now(); free > blocks / 2; free = free_now())
+        some_write(3 + below(5), blocks / 64, free - blocks / 2);
+}
+
+/* 8 sets of 16 files, three of them of level 5, all blocks used; pages are unmapped from level 5 up to set 0. Each set is
+ * written to as soon as it is made, so that there is no child to copy for. */
+static void deep(unsigned blocks)
+{
+    static const uint8_t parent[8] = { 0, 0, 1, 2, 3, 4, 4, 4 };
+    empty(blocks);
+    root_files(blocks / 64);
+    for (unsigned s = 1, left = free_now(); s < 8; s++) {
+        must(twin_make(LENT, parent[s], s, 1));
+        left -= left / (8 - s);
+        for (unsigned free = free_now(); free > left; free = free_now())
+            some_write(s, blocks / 64, free - left);
+    }
+}
+
+static void put16(size_t at, unsigned v)
+{
+    tables[at] = (uint8_t)(v >> 8);
+    tables[at + 1] = (uint8_t)v;
+}
+
+static void put_head(unsigned s, unsigned f, uint32_t state, uint32_t size)
+{
+    size_t at = 540 + (s * 16 + f) * 132;
+    put16(at, state << 14 | size >> 2);
+    put16(at + 2, (size & 3) << 14);
+}
+
+static void put_entry(unsigned s, unsigned f, unsigned page, unsigned entry)
+{
+    put16(540 + (s * 16 + f) * 132 + 4 + page * 2, entry);
+}
+
+static void put_stored(unsigned s, unsigned f, unsigned page, unsigned block)
+{
+    put_entry(s, f, page, 0x8000 | block);
+    tables[4 + block / 8] |= (uint8_t)(0x80 >> block % 8);
+}
+
+/* The sets of `deep`, with own files and no entries yet. */
+static void own_files(unsigned blocks, unsigned size)
+{
+    static const uint8_t parent[8] = { 0, 0, 1, 2, 3, 4, 4, 4 };
+    empty(blocks);
+    for (unsigned s = 1; s < 8; s++)
+        must(twin_make(LENT, parent[s], s, 1));
+    for (unsigned s = 0; s < 8; s++)
+        for (unsigned f = 0; f < 16; f++)
+            put_head(s, f, 1, size);
+}
+
+/* Every block used, in no order, by entries in no order; the other entries are holes or unmapped, in no order. */
+static void scattered(unsigned blocks)
+{
+    static uint16_t place[8192], block[MAX_BLOCKS];
+    own_files(blocks, FILE_BYTES);
+    for (unsigned i = 0; i < 8192; i++) {
+        unsigned j = below(i + 1);
+        place[i] = place[j];
+        place[j] = (uint16_t)i;
+    }
+    for (unsigned i = 0; i < blocks; i++) {
+        unsigned j = below(i + 1);
+        block[i] = block[j];
+        block[j] = (uint16_t)i;
+    }
+    for (unsigned i = 0; i < 8192; i++) {
+        unsigned s = place[i] / 1024, f = place[i] / 64 % 16, page = place[i] % 64;
+        if (i < blocks)
+            put_stored(s, f, page, block[i]);
+        else
+            put_entry(s, f, page, s == 0 || below(2) ? 0x4000 : 0);
+    }
+}
+
+/* Own files of 1 byte each (of none where the blocks do not suffice): 63 pages past the size, which resolve to a hole from
+ * every set, some of them holes there and some unmapped, in no order. */
+static void sizes(unsigned blocks)
+{
+    own_files(blocks, 0);
+    for (unsigned i = 0; i < 128; i++) {
+        unsigned s = i / 16, f = i % 16;
+        for (unsigned page = 0; page < 64; page++)
+            put_entry(s, f, page, s == 0 || below(2) ? 0x4000 : 0);
+        if (i < blocks) {
+            put_head(s, f, 1, 1);
+            put_stored(s, f, 0, i);
+        } else {
+            put_entry(s, f, 0, 0x4000);
+        }
+    }
+}
+
+/* File 0 of set 0 alone, empty or of 64 pages, and the children of set 0. */
+static void one_file(unsigned blocks, unsigned file_pages, unsigned children)
+{
+    empty(blocks);
+    must(twin_create(LENT, 0, 0));
+    if (file_pages > 0)
+        must(twin_write(LENT, 0, 0, 0, data, (size_t)file_pages * PAGE));
+    for (unsigned s = 1; s <= children; s++)
+        must(twin_make(LENT, 0, s, 0));
+}
+
+static void lean(unsigned blocks) { one_file(blocks, 0, 0); }
+static void short_file(unsigned blocks) { one_file(blocks, 2, 0); }
+static void full_file(unsigned blocks) { one_file(blocks, 64, 0); }
+static void one_child(unsigned blocks) { one_file(blocks, 64, 1); }
+static void seven_children(unsigned blocks) { one_file(blocks, 64, 7); }
+
+/* File 0 of set 0 with 64 pages, and a chain of copies down to level 5 that have nothing of their own. */
+static void chain(unsigned blocks)
+{
+    one_file(blocks, 64, 0);
+    for (unsigned s = 1; s <= 5; s++)
+        must(twin_make(LENT, s - 1, s, 1));
+}
+
+/* ---- the cases ---- */
+
+#define CASE(name, call)                                                                                               \
+    static sweep_answer name(const struct calls *c) { return c->call; }
+CASE(check, size(LENT, 8, 0)) /* refused with 2, after the whole check */
+CASE(free_of, free(LENT))
+CASE(size_root, size(LENT, 0, 3))
+CASE(size_far, size(LENT, 7, 3))
+CASE(read_1, read(LENT, 7, 3, 100, buffer, 1))
+CASE(read_512, read(LENT, 7, 3, 0, buffer, 512))
+CASE(read_all, read(LENT, 7, 3, 0, buffer, FILE_BYTES))
+CASE(write_1, write(LENT, 0, 0, 700, data, 1))
+CASE(write_512, write(LENT, 0, 0, 512, data, 512))
+CASE(write_all, write(LENT, 0, 0, 0, data, FILE_BYTES))
+CASE(write_far, write(LENT, 7, 3, 100, data, 1))
+CASE(truncate_to_100, truncate(LENT, 0, 0, 100))
+CASE(truncate_up, truncate(LENT, 0, 0, 5000))
+CASE(delete_it, delete(LENT, 0, 0))
+CASE(read_5, read(LENT, 5, 0, 0, buffer, FILE_BYTES))
+CASE(write_5, write(LENT, 5, 0, 700, data, 1))
+CASE(truncate_5, truncate(LENT, 5, 0, 100))
+CASE(delete_4, delete(LENT, 4, 0))
+CASE(make_1, make(LENT, 0, 1, 1))
+CASE(remove_1, remove(LENT, 1))
+CASE(remove_7, remove(LENT, 7))
+CASE(create_1, create(LENT, 0, 1))
+CASE(format_it, format(LENT))
+
+struct bench_case {
+    const char *call, *what, *store;
+    sweep_answer (*run)(const struct calls *);
+    void (*build)(unsigned);
+    bool changes;
+    unsigned number;       /* the number that it gives */
+    unsigned blocks[2];
+    double expert[2];      /* memcpys of the tables that a C expert takes; 0 where none is given */
+};
+
+static const struct bench_case cases[] = {
+    { "check", "whole check", "empty", check, empty, false, 2, { 64, 4096 }, { 2.7, 2.7 } },
+    { "check", "whole check", "typical", check, typical, false, 2, { 64, 4096 }, { 7, 24 } },
+    { "check", "whole check", "full, deep", check, deep, false, 2, { 64, 4096 }, { 11, 21 } },
+    { "check", "whole check", "scattered", check, scattered, false, 2, { 64, 4096 }, { 0, 0 } },
+    { "check", "whole check", "sizes", check, sizes, false, 2, { 64, 4096 }, { 32, 32 } },
+    { "free", "", "empty", free_of, empty, false, 0, { 64, 4096 }, { 0, 0 } },
+    { "free", "", "typical", free_of, typical, false, 0, { 64, 4096 }, { 0, 0 } },
+    { "free", "", "full, deep", free_of, deep, false, 0, { 64, 4096 }, { 0, 0 } },
+    { "size", "set 0", "typical", size_root, typical, false, 0, { 64, 4096 }, { 0, 0 } },
+    { "size", "set 7", "full, deep", size_far, deep, false, 0, { 64, 4096 }, { 0, 0 } },
+    { "read", "1 byte", "typical", read_1, typical, false, 0, { 64, 4096 }, { 0, 0 } },
+    { "read", "512 bytes", "typical", read_512, typical, false, 0, { 64, 4096 }, { 0, 0 } },
+    { "read", "all", "typical", read_all, typical, false, 0, { 64, 4096 }, { 0, 0 } },
+    { "read", "all", "full, deep", read_all, deep, false, 0, { 64, 4096 }, { 0, 0 } },
+    { "read", "32 KiB", "scattered", read_all, scattered, false, 0, { 64, 4096 }, { 0, 0 } },
+    { "read", "32 KiB, level 5", "chain", read_5, chain, false, 0, { 64, 4096 }, { 0, 0 } },
+    { "write", "1 byte, new page", "one file", write_1, lean, true, 0, { 64, 4096 }, { 5, 5 } },
+    { "write", "1 byte, stored page", "one file", write_1, short_file, true, 0, { 64, 4096 }, { 5, 5 } },
+    { "write", "512 bytes", "one file", write_512, lean, true, 0, { 64, 4096 }, { 0, 0 } },
+    { "write", "32 KiB", "one file", write_all, lean, true, 0, { 64, 4096 }, { 12, 12 } },
+    { "write", "32 KiB, 64 copies", "one child", write_all, one_child, true, 0, { 1024, 4096 }, { 0, 0 } },
+    { "write", "32 KiB, 448 copies", "seven children", write_all, seven_children, true, 0, { 1024, 4096 }, { 77, 77 } },
+    { "write", "32 KiB, marks", "one child", write_all, one_child, true, 0, { 64, 0 }, { 0, 0 } },
+    { "write", "1 byte, 3 children", "typical", write_1, typical, true, 0, { 4096, 0 }, { 0, 0 } },
+    { "write", "1 byte, set 7", "typical", write_far, typical, true, 0, { 64, 4096 }, { 0, 0 } },
+    { "write", "1 byte, level 5", "chain", write_5, chain, true, 0, { 1024, 4096 }, { 0, 0 } },
+    { "truncate", "32 KiB to 100", "one file", truncate_to_100, full_file, true, 0, { 64, 4096 }, { 0, 0 } },
+    { "truncate", "64 copies", "one child", truncate_to_100, one_child, true, 0, { 1024, 4096 }, { 0, 0 } },
+    { "truncate", "up", "one file", truncate_up, short_file, true, 0, { 64, 4096 }, { 0, 0 } },
+    { "truncate", "level 5", "chain", truncate_5, chain, true, 0, { 1024, 4096 }, { 0, 0 } },
+    { "delete", "", "one file", delete_it, full_file, true, 0, { 64, 4096 }, { 0, 0 } },
+    { "delete", "64 copies", "one child", delete_it, one_child, true, 0, { 1024, 4096 }, { 11, 11 } },
+    { "delete", "level 4, 64 copies", "chain", delete_4, chain, true, 0, { 1024, 4096 }, { 0, 0 } },
+    { "delete", "", "typical", delete_it, typical, true, 0, { 64, 4096 }, { 0, 0 } },
+    { "make", "", "one file", make_1, full_file, true, 0, { 64, 4096 }, { 3, 3 } },
+    { "remove", "", "one child", remove_1, one_child, true, 0, { 64, 4096 }, { 3, 3 } },
+    { "remove", "set 7", "typical", remove_7, typical, true, 0, { 64, 4096 }, { 0, 0 } },
+    { "create", "", "one file", create_1, full_file, true, 0, { 64, 4096 }, { 3, 3 } },
+    { "format", "", "empty", format_it, empty, true, 0, { 64, 4096 }, { 0, 0 } },
+};
+enum { CASES = sizeof cases / sizeof cases[0] };
+
+static void build(const struct bench_case *k, unsigned blocks)
+{
+    k->build(blocks);
+    memcpy(kept, tables, TABLES);
+    if (k->changes)
+        memcpy(pages_kept, pages, length);
+}
+
+/* Both do the case once; answer and every byte must be the same. */
+static void compare(const struct bench_case *k)
+{
+    static uint8_t after[TABLES], read[FILE_BYTES];
+    memset(buffer, 0xaa, FILE_BYTES);
+    sweep_answer a = k->run(&store);
+    memcpy(after, tables, TABLES);
+    memcpy(other, pages, length);
+    memcpy(read, buffer, FILE_BYTES);
+    memcpy(tables, kept, TABLES);
+    if (k->changes)
+        memcpy(pages, pages_kept, length);
+    memset(buffer, 0xaa, FILE_BYTES);
+    sweep_answer b = k->run(&twin);
+    if (a.number != k->number || a.number != b.number || a.first != b.first || a.second != b.second || a.third != b.third)
+        fail("store and twin give different answers");
+    if (memcmp(after, tables, TABLES) || memcmp(other, pages, length) || memcmp(read, buffer, FILE_BYTES))
+        fail("store and twin leave different bytes");
+    memcpy(tables, kept, TABLES);
+}
+
+/* ---- time ---- */
+
+static inline uint64_t begin_time(void)
+{
+    _mm_mfence();
+    _mm_lfence();
+    uint64_t t = __rdtsc();
+    _mm_lfence();
+    return t;
+}
+
+static inline uint64_t end_time(void)
+{
+    unsigned aux;
+    uint64_t t = __rdtscp(&aux);
+    _mm_lfence();
+    return t;
+}
+
+static double tick; /* nanoseconds */
+static double clock_cost;
+
+static void learn_clock(void)
+{
+    struct timespec a, b;
+    clock_gettime(CLOCK_MONOTONIC, &a);
+    uint64_t x = __rdtsc();
+    double ns;
+    do {
+        clock_gettime(CLOCK_MONOTONIC, &b);
+        ns = (double)(b.tv_sec - a.tv_sec) * 1e9 + (double)(b.tv_nsec - a.tv_nsec);
+    } while (ns < 2e8);
+    tick = ns / (double)(__rdtsc() - x);
+    clock_cost = 1e9;
+    for (unsigned i = 0; i < 100000; i++) {
+        uint64_t t = begin_time();
+        double d = (double)(end_time() - t);
+        clock_cost = d < clock_cost ? d : clock_cost;
+    }
+}
+
+/* Ticks of one run of the case, in a batch of n. */
+static double batch(const struct bench_case *k, const struct calls *c, unsigned n)
+{
+    if (!k->changes) {
+        uint64_t t = begin_time();
+        for (unsigned i = 0; i < n; i++)
+            k->run(c);
+        return ((double)(end_time() - t) - clock_cost) / n;
+    }
+    double sum = 0;
+    for (unsigned i = 0; i < n; i++) {
+        memcpy(tables, kept, TABLES);
+        uint64_t t = begin_time();
+        k->run(c);
+        sum += (double)(end_time() - t) - clock_cost;
+    }
+    return sum / n;
+}
+
+static double copy_batch(unsigned n)
+{
+    uint64_t t = begin_time();
+    for (unsigned i = 0; i < n; i++) {
+        memcpy(other, kept, TABLES);
+        __asm__ volatile("" ::: "memory");
+    }
+    return ((double)(end_time() - t) - clock_cost) / n;
+}
+
+static double least(double a, double b) { return a < b ? a : b; }
+
+struct times {
+    double store, twin, copy; /* ticks */
+};
+
+/* Batches last about 100 microseconds. */
+static unsigned batch_size(double one)
+{
+    double n = 100000 / (one * tick);
+    return n < 1 ? 1 : n > 2000 ? 2000 : (unsigned)n;
+}
+
+static void measure(const struct bench_case *k, struct times *m)
+{
+    unsigned n = batch_size(least(batch(k, &store, 3), batch(k, &store, 3)));
+    unsigned c = batch_size(least(copy_batch(100), copy_batch(100)));
+    for (unsigned r = 0; r < ROUNDS; r++) {
+        m->store = least(m->store, batch(k, &store, n));
+        m->twin = least(m->twin, batch(k, &twin, n));
+        m->copy = least(m->copy, copy_batch(c));
+    }
+    memcpy(tables, kept, TABLES);
+}
+
+static bool wanted(unsigned i, const char *only)
+{
+    return cases[i / 2].blocks[i % 2] && (!only || !strcmp(only, cases[i / 2].call));
+}
+
+static void print_row(const struct bench_case *k, unsigned j, struct times m, double copy)
+{
+    double ratio = m.store / m.twin, copies = m.store / copy;
+    printf("%-9s %-20s %-15s %6u %9.0f %9.0f %8.1f %5.2f%c ", k->call, k->what, k->store, k->blocks[j], m.store * tick,
+           m.twin * tick, copies, ratio, ratio > 1.3 ? '*' : ' ');
+    if (k->expert[j] > 0)
+        printf("%5.1f%c\n", k->expert[j], copies > 4 * k->expert[j] ? '*' : ' ');
+    else
+        printf("%5s\n", "-");
+}
+
+/* The rows of one call, or of all. */
+static void print_times(const char *only)
+{
+    static struct times best[2 * CASES];
+    double copy = 1e18;
+    for (unsigned pass = 0; pass < PASSES; pass++)
+        for (unsigned i = 0; i < 2 * CASES; i++) {
+            if (!wanted(i, only))
+                continue;
+            build(&cases[i / 2], cases[i / 2].blocks[i % 2]);
+            if (pass == 0) {
+                compare(&cases[i / 2]);
+                best[i] = (struct times){ 1e18, 1e18, 1e18 };
+            }
+            measure(&cases[i / 2], &best[i]);
+            copy = least(copy, best[i].copy);
+        }
+    printf("memcpy of the tables: %.0f ns\n\n", copy * tick);
+    printf("%-9s %-20s %-15s %6s %9s %9s %8s %6s %7s\n", "call", "case", "store", "blocks", "ns", "twin ns", "memcpys",
+           "ratio", "expert");
+    unsigned slow = 0, far = 0, all = 0;
+    for (unsigned i = 0; i < 2 * CASES; i++) {
+        if (!wanted(i, only))
+            continue;
+        print_row(&cases[i / 2], i % 2, best[i], copy);
+        double expert = cases[i / 2].expert[i % 2];
+        slow += best[i].store > 1.3 * best[i].twin;
+        far += expert > 0 && best[i].store > 4 * expert * copy;
+        all++;
+    }
+    printf("\n%u rows; %u with a ratio above 1.3 (*), %u above 4 times the expert's memcpys (*)\n", all, slow, far);
+}
+
+/* ---- stack ---- */
+
+static _Alignas(64) uint8_t stack[65536];
+static const uint8_t *top;
+static ucontext_t back, painted;
+static const struct bench_case *painted_case;
+static const struct calls *painted_calls;
+
+static __attribute__((noinline)) void on_painted_stack(void)
+{
+    register const uint8_t *sp __asm__("rsp");
+    top = sp;
+    __asm__ volatile("" ::: "memory");
+    painted_case->run(painted_calls);
+    __asm__ volatile("" ::: "memory");
+}
+
+/* The bytes that a call writes below the stack pointer of its caller, the case's own small frame included. */
+static size_t stack_of(const struct bench_case *k, const struct calls *c)
+{
+    volatile size_t most = 0;
+    for (unsigned paint = 0x55; paint <= 0xaa; paint += 0x55) {
+        memcpy(tables, kept, TABLES);
+        memset(stack, (int)paint, sizeof stack);
+        getcontext(&painted);
+        painted.uc_stack.ss_sp = stack;
+        painted.uc_stack.ss_size = sizeof stack;
+        painted.uc_link = &back;
+        painted_case = k;
+        painted_calls = c;
+        makecontext(&painted, on_painted_stack, 0);
+        swapcontext(&back, &painted);
+        size_t i = 0;
+        while (stack[i] == paint)
+            i++;
+        size_t used = (size_t)(top - (stack + i));
+        most = used > most ? used : most;
+    }
+    memcpy(tables, kept, TABLES);
+    return most;
+}
+
+static void print_stack(void)
+{
+    printf("stack, the most bytes over all cases of a call\n%-9s %7s %7s\n", "call", "store", "twin");
+    for (unsigned i = 0; i < CASES; i++) {
+        size_t most[2] = { 0, 0 };
+        if (i > 0 && !strcmp(cases[i].call, cases[i - 1].call))
+            continue;
+        for (unsigned n = i; n < CASES && !strcmp(cases[n].call, cases[i].call); n++)
+            for (unsigned j = 0; j < 2 && cases[n].blocks[j]; j++) {
+                build(&cases[n], cases[n].blocks[j]);
+                size_t a = stack_of(&cases[n], &store), b = stack_of(&cases[n], &twin);
+                most[0] = a > most[0] ? a : most[0];
+                most[1] = b > most[1] ? b : most[1];
+            }
+        printf("%-9s %7zu %7zu\n", cases[i].call, most[0], most[1]);
+    }
+}
+
+int main(int argc, char **argv)
+{
+    for (unsigned i = 0; i < FILE_BYTES; i++)
+        data[i] = (uint8_t)(i * 7 + 1);
+    if (argc == 1) {
+        learn_clock();
+        print_times(NULL);
+        printf("\n");
+        print_stack();
+        return 0;
+    }
+    if (argc == 2 && !strcmp(argv[1], "stack")) {
+        print_stack();
+        return 0;
+    }
+    if (argc == 3 && !strcmp(argv[1], "only")) {
+        learn_clock();
+        print_times(argv[2]);
+        return 0;
+    }
+    if (argc == 2 && !strcmp(argv[1], "list")) {
+        for (unsigned i = 0; i < 2 * CASES; i++)
+            if (cases[i / 2].blocks[i % 2])
+                printf("%u %s %s, %s, %u\n", i, cases[i / 2].call, cases[i / 2].what, cases[i / 2].store,
+                       cases[i / 2].blocks[i % 2]);
+        return 0;
+    }
+    if (argc == 5 && !strcmp(argv[1], "loop")) {
+        unsigned i = (unsigned)atoi(argv[2]);
+        if (i >= 2 * CASES || !cases[i / 2].blocks[i % 2])
+            fail("no such case");
+        build(&cases[i / 2], cases[i / 2].blocks[i % 2]);
+        for (long n = atol(argv[4]); n > 0; n--) {
+            if (cases[i / 2].changes)
+                memcpy(tables, kept, TABLES);
+            cases[i / 2].run(!strcmp(argv[3], "twin") ? &twin : &store);
+        }
+        return 0;
+    }
+    fprintf(stderr, "usage: bench [stack | only CALL | list | loop N store|twin COUNT]\n");
+    return 2;
+}

@@ -1,0 +1,25 @@
+/* The calls of the twin: those of include/sweep.h under another prefix. */
+#ifndef TWIN_H
+#define TWIN_H
+
+#include "../include/sweep.h"
+
+sweep_answer twin_format(uint8_t *tables, size_t tables_length, uint8_t *pages, size_t pages_length);
+sweep_answer twin_create(uint8_t *tables, size_t tables_length, uint8_t *pages, size_t pages_length, uint32_t set,
+                         uint32_t file);
+sweep_answer twin_write(uint8_t *tables, size_t tables_length, uint8_t *pages, size_t pages_length, uint32_t set,
+                        uint32_t file, uint32_t offset, const uint8_t *data, size_t data_length);
+sweep_answer twin_read(const uint8_t *tables, size_t tables_length, const uint8_t *pages, size_t pages_length,
+                       uint32_t set, uint32_t file, uint32_t offset, uint8_t *buffer, size_t buffer_length);
+sweep_answer twin_truncate(uint8_t *tables, size_t tables_length, uint8_t *pages, size_t pages_length, uint32_t set,
+                           uint32_t file, uint32_t size);
+sweep_answer twin_delete(uint8_t *tables, size_t tables_length, uint8_t *pages, size_t pages_length, uint32_t set,
+                         uint32_t file);
+sweep_answer twin_make(uint8_t *tables, size_t tables_length, uint8_t *pages, size_t pages_length, uint32_t parent,
+                       uint32_t set, uint32_t writeable);
+sweep_answer twin_remove(uint8_t *tables, size_t tables_length, uint8_t *pages, size_t pages_length, uint32_t set);
+sweep_answer twin_size(const uint8_t *tables, size_t tables_length, const uint8_t *pages, size_t pages_length,
+                       uint32_t set, uint32_t file);
+sweep_answer twin_free(const uint8_t *tables, size_t tables_length, const uint8_t *pages, size_t pages_length);
+
+#endif
