@@ -211,11 +211,14 @@ static inline void name_map(struct pass *k, const uint8_t *map, uint64_t stored)
 /* The 64 entries of a map. The four entries of a word stand in it with their two bytes exchanged: the kind in bits 7 and 6. */
 static inline struct masks pass_map(struct pass *k, const uint8_t *map)
 {
-    uint64_t bad = 0, even = 0, odd = 0;
-    for (unsigned i = 0; i < PAGES / 4; i++) {
-        uint64_t w = raw64(map + i * 8), high = w & LANES(0x0080), full = (high << 9) - (high >> 7);
+    uint64_t even = 0, odd = 0;
+    uint16_t bad = 0;
+    for (unsigned i = 0; i < PAGES; i++) {
+        uint16_t e;
+        memcpy(&e, map + i * 2, 2);
         /* a stored entry: kind 2 and a block below 4,096; another: no block */
-        bad |= w & (LANES(0xff3f) ^ (full & LANES(0xff4f)));
+        uint16_t stored = (uint16_t)((int16_t)(uint16_t)(e << 8) >> 15);
+        bad |= e & (0xff3f ^ (stored & 0xff4f));
     }
     k->bad |= bad;
     /* the kinds, 2 bits each, of the words 0, 2, .. and of the words 1, 3, .. */
