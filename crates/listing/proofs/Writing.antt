@@ -1,0 +1,43 @@
+-- Texts written one after the other into a lent buffer. Assumes nothing.
+use mathlib.Core.List.{List, [], _∷_, _++_}
+use mathlib.Core.Path.{_≡_, refl, sym, ap, subst, _∙_}
+use Prim.Native.Nat.{ℕ, suc, _+_, _≤_, _<_}
+use native.Mathlib.Nat.{add-zero}
+use native.Mathlib.Omega.{arith}
+use lib.ListN.{length, set, length-append}
+use lib.Seq.{length-sets, sets, set-out}
+use Rattle.listing.specs.Written.{Wrote}
+
+-- a run of stores, then another where it ends
+pub sets-append : (l : List ℕ) (i : ℕ) (a b : List ℕ) → sets l i (a ++ b) ≡ sets (sets l i a) (i + length a) b
+sets-append l i [] b = rw add-zero
+sets-append l i (x ∷ a) b =
+    let e : suc i + length a ≡ i + suc (length a) = omega arith in
+    sets-append (set l i x) (suc i) a b ∙ ap (λ (j : ℕ). sets (sets (set l i x) (suc i) a) j b) e
+
+-- nothing is written
+pub wrote-none : (d : List ℕ) (cur : ℕ) → Wrote d d cur cur []
+wrote-none d cur = record { bytes = refl; past = sym (add-zero cur) }
+
+-- a byte that has no room
+pub wrote-out : (d : List ℕ) (cur b : ℕ) → length d ≤ cur → Wrote d d cur (cur + 1) (b ∷ [])
+wrote-out d cur b h = record { bytes = sym (set-out d cur b h); past = refl }
+
+-- a text, then another
+pub wrote-then : {d m e : List ℕ} {cur at r : ℕ} {a b : List ℕ} → Wrote d m cur at a → Wrote m e at r b → Wrote d e cur r (a ++ b)
+wrote-then {d} {m} {e} {cur} {at} {r} {a} {b} A B = record {
+  bytes = B .bytes ∙ ap (λ (x : List ℕ). sets x at b) (A .bytes) ∙ ap (λ (j : ℕ). sets (sets d cur a) j b) (A .past) ∙ sym (sets-append d cur a b);
+  past = rw length-append (omega (arith, A .past, B .past));
+}
+
+-- the same text in other words
+pub wrote-as : {d e : List ℕ} {cur r : ℕ} {a b : List ℕ} → a ≡ b → Wrote d e cur r a → Wrote d e cur r b
+wrote-as {d} {e} {cur} {r} q w = subst (λ (l : List ℕ). Wrote d e cur r l) q w
+
+-- the same place told in other words
+pub wrote-at : {d e : List ℕ} {cur x r : ℕ} {a : List ℕ} → x ≡ cur → Wrote d e x r a → Wrote d e cur r a
+wrote-at {d} {e} {cur} {x} {r} {a} q w = subst (λ (n : ℕ). Wrote d e n r a) q w
+
+-- the buffer keeps its length
+pub wrote-length : {d e : List ℕ} {cur r : ℕ} {a : List ℕ} → Wrote d e cur r a → length e ≡ length d
+wrote-length {d} {e} {cur} {r} {a} w = ap length (w .bytes) ∙ length-sets d cur a

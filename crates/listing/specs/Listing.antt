@@ -1,0 +1,118 @@
+-- The lines of a session, and the listing of a store. Document 01, "The session program": "Lines".
+use mathlib.Core.Bool.{Bool, cond, false, not, true}
+use mathlib.Core.List.{List, [], _∷_, _++_}
+use Prim.Native.Nat.{ℕ, zero, suc}
+use lib.Dec.{eqb, leb}
+use lib.ListN.{drop, length, take}
+use Rattle.base.specs.Logic.{digit}
+use Rattle.rules.specs.Numbers.{Answer}
+use Rattle.rules.specs.Reading.{sizeByReading}
+use Rattle.rules.specs.State.{Entry, SetRecord, State, Tables, absent, childrenOf, fileCount, highestLevel, hole, marked, own, pageCount, stored, treeOf, unmapped, virgin}
+use Rattle.tables.specs.Layout.{stateNumber}
+use Rattle.tables.specs.Packed.{unpack, wellFormed}
+use Rattle.listing.specs.declared.store.Listed.{Listed}
+use Rattle.listing.specs.declared.store.Listed.the-variants.{NotWellFormed, TooSmall, Written}
+use Rattle.listing.specs.Text.{decimal, line, minusOne, nameCall, nameEnd, nameExt, nameFile, nameSet}
+
+-- "`call` count, op, number, three counts."
+unfoldable pub callLine : ℕ → ℕ → Answer → List ℕ
+callLine count op a =
+    line nameCall (decimal count ∷ decimal op ∷ decimal (a .number) ∷ decimal (a .first) ∷ decimal (a .second) ∷ decimal (a .third) ∷ [])
+
+-- "prints `end` and the call's count from 1"
+unfoldable pub endLine : ℕ → List ℕ
+endLine count = line nameEnd (decimal count ∷ [])
+
+-- "`set` number, level, parent, writeable."
+unfoldable pub setLine : ℕ → SetRecord → List ℕ
+setLine s r = line nameSet (decimal s ∷ decimal (r .level) ∷ decimal (r .parent) ∷ decimal (digit (r .writeable)) ∷ [])
+
+-- "`file` set, number, state, size by reading (0 if marked)."
+unfoldable pub fileLine : ℕ → ℕ → State → ℕ → List ℕ
+fileLine s f state size = line nameFile (decimal s ∷ decimal f ∷ decimal (stateNumber state) ∷ decimal size ∷ [])
+
+-- the block of an entry; "of pages not stored, shown as -1"
+abbrev pub blockWord : Entry ℕ → List ℕ
+blockWord unmapped = minusOne
+blockWord hole = minusOne
+blockWord (stored b) = decimal b
+
+-- "`ext` first page, block."
+unfoldable pub extLine : ℕ → Entry ℕ → List ℕ
+extLine p e = line nameExt (decimal p ∷ blockWord e ∷ [])
+
+-- is a page with the second entry in the same run as the page before it with the first: "pages in consecutive blocks, or … pages not stored"
+abbrev pub continues : Entry ℕ → Entry ℕ → Bool
+continues unmapped unmapped = true
+continues unmapped hole = true
+continues unmapped (stored b) = false
+continues hole unmapped = true
+continues hole hole = true
+continues hole (stored b) = false
+continues (stored a) unmapped = false
+continues (stored a) hole = false
+continues (stored a) (stored b) = eqb b (suc a)
+
+-- "An extent is a longest run": it begins at page 0, and at each page that is not in the run of the page before it
+abbrev pub begins : (ℕ → Entry ℕ) → ℕ → Bool
+begins map zero = true
+begins map (suc p) = not (continues (map p) (map (suc p)))
+
+-- the extents of the pages below n of a file's own map
+unfoldable pub extents : (ℕ → Entry ℕ) → ℕ → List ℕ
+extents map zero = []
+extents map (suc n) = extents map n ++ cond (begins map n) (extLine n (map n)) []
+
+-- "`ext 64 -1` closes a file."
+unfoldable pub extEnd : List ℕ
+extEnd = extLine pageCount hole
+
+-- a text for each set of a list, one after the other
+unfoldable pub inTurn : (ℕ → List ℕ) → List ℕ → List ℕ
+inTurn text [] = []
+inTurn text (s ∷ ss) = text s ++ inTurn text ss
+
+module _ (tb : Tables) where
+  -- the lines of file f in set s: "absent ones left out"; "Marked files have no `ext`."
+  abbrev pub fileTextAs : State → ℕ → ℕ → List ℕ
+  fileTextAs absent f s = []
+  fileTextAs own f s = fileLine s f own (sizeByReading (treeOf (tb .sets)) (tb .files f) s) ++ (extents (tb .files f s .map) pageCount ++ extEnd)
+  fileTextAs virgin f s = fileLine s f virgin (sizeByReading (treeOf (tb .sets)) (tb .files f) s) ++ (extents (tb .files f s .map) pageCount ++ extEnd)
+  fileTextAs marked f s = fileLine s f marked 0
+
+  unfoldable pub fileText : ℕ → ℕ → List ℕ
+  fileText f s = fileTextAs (tb .files f s .state) f s
+
+  -- "files stand under their set, by number": those of set s below n
+  unfoldable pub fileTexts : ℕ → ℕ → List ℕ
+  fileTexts s zero = []
+  fileTexts s (suc n) = fileTexts s n ++ fileText n s
+
+  -- a set with its files
+  unfoldable pub setText : ℕ → List ℕ
+  setText s = setLine s (tb .sets s) ++ fileTexts s fileCount
+
+  -- "the set itself, then its children in order of making, each in the same way": set s, and n levels below it
+  unfoldable pub listSet : ℕ → ℕ → List ℕ
+  listSet zero s = setText s
+  listSet (suc n) s = setText s ++ inTurn (listSet n) (childrenOf (tb .sets) s)
+
+  -- THE LISTING of a store: from the root, "the highest level is 5"
+  unfoldable pub listing : List ℕ
+  listing = listSet highestLevel 0
+
+-- what became of a listing, and the lent buffer afterwards
+pub record ListOutcome : Type 0 where
+  pub told : Listed
+  pub buffer : List ℕ
+
+-- a text in a lent buffer, from its front on: the whole of it with its length, or as much as fits with the length that is wanted
+unfoldable pub listInto : List ℕ → List ℕ → ListOutcome
+listInto text out = record {
+  told = cond (leb (length text) (length out)) (Written (length text)) (TooSmall (length text));
+  buffer = take (length out) text ++ drop (length text) out;
+}
+
+-- A LISTING ON BYTES, of any contents and lengths: tables t, pages of n bytes, a lent buffer
+unfoldable pub listOn : List ℕ → ℕ → List ℕ → ListOutcome
+listOn t n out = cond (wellFormed t n) (listInto (listing (unpack t)) out) (record { told = NotWellFormed; buffer = out })

@@ -1,0 +1,109 @@
+// The session program: it formats 64 blocks, makes the 8-byte calls that standard input holds, a line for each, then lists
+// the store. No rule of the store stands here.
+ghost use mathlib.Core.Path.{_≡_};
+ghost use lib.ListN.{length};
+use calls::answer::Answer;
+use libc::STDIN_FILENO;
+use libc::STDOUT_FILENO;
+use listing::decoding;
+use listing::decoding::Decoded;
+use listing::lines;
+use listing::performing;
+use listing::store;
+use listing::store::Listed;
+
+// What a turn leaves to do: read on; list; nothing, since a write failed.
+enum Turn {
+    More,
+    Last,
+    Failed,
+}
+
+fn tables() -> [u8; 17436]
+    ensures { λ r. ⌜ 17436 ≡ length r ⌝ }
+{
+    [0; 17436]
+}
+
+// "It formats 64 blocks"
+fn pages() -> [u8; 32768]
+    ensures { λ r. ⌜ 32768 ≡ length r ⌝ }
+{
+    [0; 32768]
+}
+
+// Room for any listing: none is longer than 137,056 bytes.
+fn room() -> [u8; 139264]
+    ensures { λ r. ⌜ 139264 ≡ length r ⌝ }
+{
+    [0; 139264]
+}
+
+fn print_call(count: usize, op: u32, a: Answer) -> bool {
+    let mut text = [0u8; 160];
+    let n = lines::put_call(&mut text, count, op, a);
+    io::write_all(STDOUT_FILENO, &text[..n])
+}
+
+fn print_end(count: usize) -> bool {
+    let mut text = [0u8; 40];
+    let n = lines::put_end(&mut text, count);
+    io::write_all(STDOUT_FILENO, &text[..n])
+}
+
+// One call: reads that come in pieces are joined.
+fn turn(t: &mut [u8], p: &mut [u8], count: usize) -> Turn {
+    let mut bytes = [0u8; 8];
+    let n = io::read_full(STDIN_FILENO, &mut bytes);
+    if n == 0 {
+        return Turn::Last;
+    }
+    let d = decoding::decode(&bytes[..n]);
+    match d {
+        Decoded::Bad => {
+            if print_end(count) {
+                return Turn::Last;
+            }
+            Turn::Failed
+        }
+        Decoded::Call(c) => {
+            let op = decoding::op_of(c);
+            let a = performing::perform(t, p, c);
+            if print_call(count, op, a) {
+                return Turn::More;
+            }
+            Turn::Failed
+        }
+    }
+}
+
+// All calls; false where a write failed.
+fn make_calls(t: &mut [u8], p: &mut [u8]) -> bool {
+    let mut count: usize = 1;
+    while count < usize::MAX {
+        let k = turn(t, p, count);
+        match k {
+            Turn::More => count += 1,
+            Turn::Last => return true,
+            Turn::Failed => return false,
+        }
+    }
+    true
+}
+
+fn print_listing(t: &[u8], n: usize) {
+    let mut text = room();
+    let k = store::list_store(t, n, &mut text);
+    if let Listed::Written(m) = k {
+        io::write_all(STDOUT_FILENO, &text[..m]);
+    }
+}
+
+fn main() {
+    let mut t = tables();
+    let mut p = pages();
+    calls::format::format(&mut t, &mut p);
+    if make_calls(&mut t, &mut p) {
+        print_listing(&t, 32768);
+    }
+}
