@@ -12,11 +12,11 @@ use listing::performing;
 use listing::store;
 use listing::store::Listed;
 
-// What a turn leaves to do: read on; list; nothing, since a write failed.
-enum Turn {
-    More,
-    Last,
-    Failed,
+// What is to do after a turn: read on, list, or quit since a write failed.
+enum Next {
+    Read,
+    List,
+    Quit,
 }
 
 fn tables() -> [u8; 17436]
@@ -52,27 +52,27 @@ fn print_end(count: usize) -> bool {
 }
 
 // One call: reads that come in pieces are joined.
-fn turn(t: &mut [u8], p: &mut [u8], count: usize) -> Turn {
+fn turn(t: &mut [u8], p: &mut [u8], count: usize) -> Next {
     let mut bytes = [0u8; 8];
     let n = io::read_full(STDIN_FILENO, &mut bytes);
     if n == 0 {
-        return Turn::Last;
+        return Next::List;
     }
     let d = decoding::decode(&bytes[..n]);
     match d {
         Decoded::Bad => {
             if print_end(count) {
-                return Turn::Last;
+                return Next::List;
             }
-            Turn::Failed
+            Next::Quit
         }
         Decoded::Call(c) => {
             let op = decoding::op_of(c);
             let a = performing::perform(t, p, c);
             if print_call(count, op, a) {
-                return Turn::More;
+                return Next::Read;
             }
-            Turn::Failed
+            Next::Quit
         }
     }
 }
@@ -83,9 +83,9 @@ fn make_calls(t: &mut [u8], p: &mut [u8]) -> bool {
     while count < usize::MAX {
         let k = turn(t, p, count);
         match k {
-            Turn::More => count += 1,
-            Turn::Last => return true,
-            Turn::Failed => return false,
+            Next::Read => count += 1,
+            Next::List => return true,
+            Next::Quit => return false,
         }
     }
     true
