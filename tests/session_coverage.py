@@ -1,0 +1,153 @@
+"""What the session files have to show, counted from inputs and the second implementation's outputs."""
+import collections
+
+from session_files import calls
+
+# The numbers that each op can give in a session, from the table of numbers in document 01.
+REACHABLE = {
+    1: (0, 2, 4, 9),
+    2: (0, 2, 4, 5, 6, 7, 8),
+    3: (0, 2, 4, 5, 6, 7, 8),
+    4: (0, 2, 4, 5),
+    5: (0, 2, 9, 10),
+    6: (0, 2, 9, 10),
+    7: (0, 2, 11, 12),
+}
+# Why no session can reach the others. A number that the table of numbers does not have for an op is not listed.
+UNREACHABLE = {
+    1: "the program formats its own tables, and every call leaves them well formed",
+    3: "the field file has 4 bits",
+}
+OUTSIDE = "format, read, size and free are no ops of a session"
+
+SHORTS = [("short", size) for size in range(1, calls.CALL_BYTES)]
+OPS = [("op", op) for op in range(16) if op not in calls.TEXTS]
+FIELDS = [
+    ("field", op, name) for op in calls.TEXTS for name in calls.WIDTHS if name != "op" and name not in calls.USED[op]
+]
+ENDS = SHORTS + OPS + [("length", 2)] + FIELDS
+
+LAST_BLOCK = 63
+NOT_STORED = -1
+
+SHAPES = (
+    "a file with no page stored",
+    "a file stored in one run of 64",
+    "a run at page 0",
+    "pages not stored at page 0",
+    "a run up to page 63",
+    "pages not stored up to page 63",
+    "a run of one page",
+    "a run of several pages",
+    "a run between pages not stored",
+    "pages not stored between runs",
+    "a run after a run, blocks further on",
+    "a run after a run, blocks further back",
+    "a run up to block 63 and one from block 0",
+)
+
+
+def wanted():
+    """The names of all that must occur."""
+    names = [f"{calls.TEXTS[op][0]} gives {number}" for op, numbers in REACHABLE.items() for number in numbers]
+    names += [f"end: {calls.reason_text(reason)}" for reason in ENDS]
+    names += ["no input", "no end", "end at the first call", "end after calls", "bytes after an end"]
+    names += [f"{calls.TEXTS[op][0]} takes own blocks" for op in (2, 3)]
+    names += [f"{calls.TEXTS[op][0]} {does}" for op in (2, 3, 4) for does in ("copies", "marks", "copies and marks")]
+    names += [f"{calls.TEXTS[op][0]} takes own blocks, copies and marks" for op in (2, 3)]
+    names += ["more than one file marked by a call"]
+    names += [f"a set of level {level}" for level in range(6)]
+    names += ["a read-only set", "a writeable set", "two children of a set", "a child with a lower number listed later"]
+    names += ["an own file", "a virgin file", "a marked file"]
+    return names + [f"extents: {shape}" for shape in SHAPES]
+
+
+def seen(data, output):
+    """Counts of what one session shows."""
+    count = collections.Counter()
+    for answer in output.calls:
+        count_answer(answer, count)
+    count_end(data, output, count)
+    count_listing(output.listing, count)
+    return count
+
+
+def count_answer(answer, count):
+    name = calls.TEXTS[answer.op][0]
+    count[f"{name} gives {answer.number}"] += 1
+    own, copies, marked = answer.counts
+    for shown, does in (
+        (own, "takes own blocks"),
+        (copies, "copies"),
+        (marked, "marks"),
+        (copies and marked, "copies and marks"),
+        (own and copies and marked, "takes own blocks, copies and marks"),
+    ):
+        count[f"{name} {does}"] += shown > 0
+    count["more than one file marked by a call"] += marked > 1
+
+
+def count_end(data, output, count):
+    count["no input"] += not data
+    if output.end is None:
+        count["no end"] += 1
+        return
+    at = (output.end - 1) * calls.CALL_BYTES
+    reasons = calls.reasons_to_end(data[at:at + calls.CALL_BYTES])
+    if len(reasons) == 1:
+        count[f"end: {calls.reason_text(reasons[0])}"] += 1
+    count["end at the first call"] += output.end == 1
+    count["end after calls"] += output.end > 1
+    count["bytes after an end"] += len(data) > at + calls.CALL_BYTES
+
+
+def count_listing(listing, count):
+    children = collections.defaultdict(list)
+    extents = []
+    for word, numbers in listing:
+        if word == "set":
+            number, level, parent, writeable = numbers
+            count[f"a set of level {level}"] += 1
+            count["a writeable set" if writeable else "a read-only set"] += 1
+            children[parent].append(number)
+        elif word == "file":
+            count[("an own file", "a virgin file", "a marked file")[numbers[2] - 1]] += 1
+        elif numbers[0] < 64:
+            extents.append(tuple(numbers))
+        else:
+            count_shapes(extents, count)
+            extents = []
+    for numbers in children.values():
+        count["two children of a set"] += len(numbers) == 2
+        count["a child with a lower number listed later"] += numbers != sorted(numbers)
+
+
+def count_shapes(extents, count):
+    def add(shape, holds):
+        assert shape in SHAPES, shape
+        count[f"extents: {shape}"] += bool(holds)
+
+    ends = [first for first, _ in extents[1:]] + [64]
+    add("a file with no page stored", [block for _, block in extents] == [NOT_STORED])
+    add("a file stored in one run of 64", len(extents) == 1 and extents[0][1] != NOT_STORED)
+    blocks = [block for _, block in extents]
+    for place, ((first, block), end) in enumerate(zip(extents, ends)):
+        stored, inner = block != NOT_STORED, 0 < place < len(extents) - 1
+        add("a run at page 0" if stored else "pages not stored at page 0", place == 0)
+        add("a run up to page 63" if stored else "pages not stored up to page 63", end == 64)
+        add("a run of one page", stored and end == first + 1)
+        add("a run of several pages", stored and end > first + 1)
+        beside = blocks[place - 1] if place else NOT_STORED
+        add("a run between pages not stored", stored and inner and beside == blocks[place + 1] == NOT_STORED)
+        add("pages not stored between runs", not stored and inner)
+        if stored and beside != NOT_STORED:
+            last = beside + first - extents[place - 1][0] - 1
+            add("a run after a run, blocks further on", block > last)
+            add("a run after a run, blocks further back", block < last)
+            add("a run up to block 63 and one from block 0", (last, block) == (LAST_BLOCK, 0))
+
+
+def out_of_table(count):
+    """Answers that no session should reach, with how often they were seen."""
+    names = {f"{calls.TEXTS[op][0]} gives {number}" for op, numbers in REACHABLE.items() for number in numbers}
+    return {name: times for name, times in count.items() if " gives " in name and name not in names}
