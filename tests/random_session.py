@@ -136,7 +136,7 @@ def session(seed, place):
     dice = random.Random(f"{seed} {place}")
     maker = Maker(dice)
     maker.fill()
-    count = LONG_CALLS if place == LONG_PLACE else dice.choice((20, 60, 150, 400))
+    count = LONG_CALLS if int(place) == LONG_PLACE else dice.choice((20, 60, 150, 400))
     for name in dice.choices(NAMES, dice.choice((FULL, FULL, MIXED)), k=count):
         getattr(maker, name)()
     maker.end()

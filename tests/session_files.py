@@ -87,9 +87,10 @@ def check_order(path, shows, steps):
     ended = False
     for count, step in enumerate(steps, 1):
         ends = bool(calls.reasons_to_end(step.data))
-        wanted = "not read" if ended else "end" if ends else step.answer
-        if step.answer != wanted or (wanted == "end") != (ends and not ended):
-            raise ValueError(f"{path}: call {count}: expected '=> {wanted}'")
+        wanted = "not read" if ended else "end" if ends else "an answer"
+        found = step.answer if step.answer in ("not read", "end") else "an answer"
+        if found != wanted:
+            raise ValueError(f"{path}: call {count}: expected {wanted} after =>; found {step.answer}")
         ended = ended or ends
 
 

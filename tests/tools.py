@@ -1,0 +1,284 @@
+#!/usr/bin/env python3
+"""Tests of tools/calls.py, tools/picture.py and the readers of session files. Run: python3 tests/tools.py"""
+import os
+import random
+import re
+import subprocess
+import sys
+import tempfile
+import unittest
+import xml.etree.ElementTree as xml
+
+sys.dont_write_bytecode = True
+HERE = os.path.dirname(os.path.abspath(__file__))
+sys.path.insert(0, HERE)
+import random_session  # noqa: E402
+import session_files as files  # noqa: E402
+from session_files import ROOT, calls  # noqa: E402
+import picture  # noqa: E402
+
+WORKED_TEXT = """\
+create set 0 file 0
+write set 0 file 0 at 0 length 1024 fill 0x41
+make read-only set 1 from set 0
+write set 0 file 0 at 600 length 10 fill 0x42
+"""
+WORKED_HEX = "1000000000000000 2000000004004100 5001000000000000 20000258000A4200"
+SVG = "{http://www.w3.org/2000/svg}"
+
+
+def run(tool, *arguments, data=b""):
+    command = [sys.executable, os.path.join(ROOT, "tools", tool), *arguments]
+    return subprocess.run(command, input=data, capture_output=True)
+
+
+def read(*path):
+    with open(os.path.join(ROOT, *path), encoding="utf-8") as file:
+        return file.read()
+
+
+class Calls(unittest.TestCase):
+    def test_worked_session_both_ways(self):
+        lines, troubles = calls.read_text(WORKED_TEXT)
+        self.assertEqual(troubles, [])
+        self.assertEqual(calls.all_bytes(lines), bytes.fromhex(WORKED_HEX))
+        lines, troubles = calls.read_hex(WORKED_HEX)
+        self.assertEqual((calls.write_text(lines), troubles), (WORKED_TEXT, []))
+
+    def test_every_op_has_its_text(self):
+        texts = {
+            "create set 7 file 15": "17F0000000000000",
+            "write set 1 file 2 at 65535 length 4096 fill 0xFF": "2120FFFF1000FF00",
+            "truncate set 1 file 2 to 32768": "3120800000000000",
+            "delete set 15 file 0": "4F00000000000000",
+            "make read-only set 3 from set 2": "5203000000000000",
+            "make writeable set 3 from set 2": "6203000000000000",
+            "remove set 5": "7500000000000000",
+            "raw 00": "00",
+            "raw 2000000010010000": "2000000010010000",
+        }
+        for text, digits in texts.items():
+            self.assertEqual(calls.from_text(text).hex().upper(), digits)
+            self.assertEqual(calls.to_text(bytes.fromhex(digits)), text)
+
+    def test_numbers_may_be_hexadecimal(self):
+        self.assertEqual(
+            calls.from_text("write set 0x1 file 0xf at 0x10 length 0x20 fill 65"),
+            calls.from_text("write set 1 file 15 at 16 length 32 fill 0x41"),
+        )
+
+    def test_any_bytes_come_back(self):
+        dice = random.Random(1)
+        for turn in range(3000):
+            data = dice.randbytes(dice.randrange(40))
+            if turn % 2:
+                data = b"".join(self.likely_call(dice) for _ in range(4)) + data[: turn % 8]
+            lines, _ = calls.read_bytes(data)
+            for write, again in ((calls.write_text, calls.read_text), (calls.write_hex, calls.read_hex)):
+                back, troubles = again(write(lines))
+                self.assertEqual((calls.all_bytes(back), troubles), (data, []))
+
+    @staticmethod
+    def likely_call(dice):
+        op = dice.randrange(1, 8)
+        values = {name: dice.randrange(1 << calls.WIDTHS[name]) for name in calls.USED[op]}
+        return calls.pack(calls.Call(**dict.fromkeys(calls.WIDTHS, 0) | values | {"op": op}))
+
+    def test_comments_are_kept(self):
+        text = "# about\n\ncreate set 0 file 0  # first\nremove set 1\n"
+        lines, _ = calls.read_text(text)
+        made = calls.write_hex(lines)
+        self.assertIn("1000000000000000  # create set 0 file 0 first\n", made)
+        self.assertEqual(calls.write_text(calls.read_hex(made)[0]), text)
+
+    def test_bad_text_names_line_and_what_was_expected(self):
+        bad = {
+            "creat set 0 file 0": "expected create, write, truncate, delete, make, remove or raw; found 'creat'",
+            "create set 0": "expected 'file' (a line of this kind is: create set S file F); found the end of the line",
+            "create set 0 file": "expected a number from 0 to 15 for file; found the end of the line",
+            "create set 16 file 0": "expected a number from 0 to 15 for set; found '16'",
+            "create set -1 file 0": "expected a number from 0 to 15 for set; found '-1'",
+            "create set 0x file 0": "expected a number from 0 to 15 for set; found '0x'",
+            "create set 0 file 0 now": "expected the end of the line; found 'now'",
+            "write set 0 file 0 to 3 length 1 fill 0": "expected 'at'",
+            "write set 0 file 0 at 65536 length 1 fill 0": "expected a number from 0 to 65535 for offset; found '65536'",
+            "write set 0 file 0 at 0 length 4097 fill 0": "expected a number from 0 to 4096 for length; found '4097'",
+            "write set 0 file 0 at 0 length 1 fill 256": "expected a number from 0 to 255 for fill; found '256'",
+            "truncate set 0 file 0 at 3": "expected 'to' (a line of this kind is: truncate set S file F to SIZE); found 'at'",
+            "make set 1 from set 0": "expected read-only or writeable after make; found 'set'",
+            "make read-only set 1 of set 0": "expected 'from'",
+            "make": "expected read-only or writeable after make; found the end of the line",
+            "raw": "expected raw and 2 to 16 hexadecimal digits, two for each byte; found 'raw'",
+            "raw 123": "expected raw and 2 to 16 hexadecimal digits",
+            "raw 112233445566778899": "expected raw and 2 to 16 hexadecimal digits",
+            "raw zz": "expected raw and 2 to 16 hexadecimal digits",
+        }
+        for text, expected in bad.items():
+            ran = run("calls.py", "text", "hex", data=f"# first\nremove set 1\n{text}\n".encode())
+            self.assertEqual((ran.returncode, ran.stdout), (1, b""), text)
+            self.assertTrue(ran.stderr.decode().startswith("line 3: "), ran.stderr)
+            self.assertIn(expected, ran.stderr.decode())
+
+    def test_every_bad_line_is_named(self):
+        ran = run("calls.py", "text", "bytes", data=b"x\nremove set 1\ny\n")
+        self.assertEqual([line.split(":")[0] for line in ran.stderr.decode().splitlines()], ["line 1", "line 3"])
+
+    def test_bad_hexadecimal(self):
+        for text in ("123", "12 3", "1g", "10000000000000 0x"):
+            ran = run("calls.py", "hex", "bytes", data=text.encode())
+            self.assertEqual(ran.returncode, 1, text)
+            self.assertIn("line 1: expected an even number of hexadecimal digits", ran.stderr.decode())
+
+    def test_program(self):
+        self.assertEqual(run("calls.py", "hex", "bytes", data=WORKED_HEX.encode()).stdout, bytes.fromhex(WORKED_HEX))
+        self.assertEqual(run("calls.py", "bytes", "text", data=bytes.fromhex(WORKED_HEX)).stdout, WORKED_TEXT.encode())
+        self.assertEqual(run("calls.py", "text", "bytes", data=b"").stdout, b"")
+        path = os.path.join(files.FOLDER, "worked-session.hex")
+        self.assertEqual(run("calls.py", "hex", "bytes", path).stdout, bytes.fromhex(WORKED_HEX))
+        self.assertEqual(run("calls.py", "help").returncode, 0)
+        for arguments in ((), ("text",), ("text", "word"), ("text", "hex", "no-such-file"), ("a", "b", "c", "d")):
+            self.assertEqual(run("calls.py", *arguments).returncode, 2, arguments)
+
+
+class Picture(unittest.TestCase):
+    def setUp(self):
+        self.listing = read("tests", "sessions", "bench-afternoon.out")
+
+    def drawn(self, listing, *arguments):
+        ran = run("picture.py", *arguments, data=listing.encode())
+        self.assertEqual((ran.returncode, ran.stderr), (0, b""))
+        return ran.stdout.decode()
+
+    def test_the_example_is_what_is_drawn(self):
+        self.assertEqual(self.drawn(self.listing, "--title", "An afternoon on a bench"), read("docs", "listing.svg"))
+
+    def parts(self, svg, kind, tag="rect"):
+        return [part for part in xml.fromstring(svg).iter(SVG + tag) if part.get("class") == kind]
+
+    def test_blocks_have_the_colour_of_the_set_that_holds_them(self):
+        svg = self.drawn(self.listing)
+        titles = [(part.findtext(SVG + "title"), part.get("fill")) for part in xml.fromstring(svg).iter(SVG + "rect")]
+        held = [(title, fill) for title, fill in titles if title and re.match(r"block \d+: set", title)]
+        free = [title for title, _ in titles if title and title.endswith("not listed")]
+        self.assertEqual((len(held), len(free)), (42, 22))
+        for title, fill in held:
+            self.assertEqual(fill, picture.STRONG[int(re.match(r"block \d+: set (\d)", title)[1])], title)
+
+    def test_shared_pages_are_shown(self):
+        svg = self.drawn(self.listing)
+        shared = [part.findtext(SVG + "title") for part in self.parts(svg, "shared")]
+        self.assertEqual(len(shared), 37)
+        self.assertIn("block 13: set 0, file 3, page 11; also read by set 1, 2, 4, 6", shared)
+        through = [part.findtext(SVG + "title") for part in self.parts(svg, "page") if part.get("fill") in picture.PALE]
+        self.assertIn("page 1: block 14, held by set 2", through)
+
+    def test_marked_files_are_struck_out(self):
+        svg = self.drawn(self.listing)
+        struck = [part.text for part in self.parts(svg, "struck", "text")]
+        self.assertEqual(struck, ["file 1, marked"] * 3)
+        self.assertEqual(len(self.parts(svg, "cross", "path")), 3)
+
+    def test_small_listings_can_be_drawn(self):
+        small = "set 0 0 8 1\nfile 0 0 1 512\next 0 63\next 1 -1\next 64 -1\n"
+        for listing in (small, "set 0 0 8 1\n", "call 1 1 0 0 0 0\nend 2\nset 0 0 8 1\n", read("tests/sessions/worked-session.out")):
+            xml.fromstring(self.drawn(listing))
+
+    def test_a_hole_of_a_copy_is_not_read_through(self):
+        above = "set 0 0 8 1\nfile 0 0 1 1024\next 0 0\next 2 -1\next 64 -1\nset 1 1 0 0\nfile 1 0 1 1024\n"
+        for block, shared in (("-1", 2), ("-2", 1)):
+            svg = self.drawn(f"{above}ext 0 {block}\next 1 -1\next 64 -1\n")
+            self.assertEqual(len(self.parts(svg, "shared")), shared)
+
+    def test_number_of_blocks(self):
+        self.assertIn("Blocks 0 to 63", self.drawn(self.listing))
+        self.assertIn("Blocks 0 to 41", self.drawn(self.listing, "--blocks", "1"))  # 41 is the highest in the listing
+        self.assertIn("Blocks 0 to 99", self.drawn(self.listing, "--blocks", "100"))
+
+    def test_a_title_is_escaped(self):
+        self.assertIn("a &lt;b&gt; &amp; c", self.drawn(self.listing, "--title", "a <b> & c"))
+
+    def test_bad_listings_name_line_and_what_was_expected(self):
+        start = "set 0 0 8 1\nfile 0 0 1 512\n"
+        bad = {
+            "": "line 1: expected a line 'set'; found the end of the input",
+            "sets 0\n": "line 1: expected call, end, set, file or ext; found 'sets 0'",
+            "set 0 0 8\n": "line 1: expected set and 4 numbers; found 'set 0 0 8'",
+            "set 0 0 x 1\n": "line 1: expected set and 4 numbers",
+            "set 1 0 8 1\n": "line 1: expected set 0 first, of level 0 and parent 8; found 1",
+            "set 0 0 8 1\nset 1 1 3 1\n": "line 2: expected a parent that is listed before; found 3",
+            "set 0 0 8 1\nset 1 2 0 1\n": "line 2: expected the parent's level plus one; found 2",
+            "set 0 0 8 1\nset 0 1 0 1\n": "line 2: expected a set from 0 to 7 that was not listed yet; found 0",
+            "set 0 0 8 2\n": "line 1: expected 0 or 1 for writeable; found 2",
+            "file 0 0 1 0\n": "line 1: expected a line 'set' first",
+            "set 0 0 8 1\nfile 1 0 1 0\n": "line 2: expected a file of set 0; found one of set 1",
+            "set 0 0 8 1\nfile 0 16 1 0\n": "line 2: expected a file from 0 to 15",
+            "set 0 0 8 1\nfile 0 0 0 0\n": "line 2: expected a state from 1 to 3; found 0",
+            "set 0 0 8 1\next 0 0\n": "line 2: expected a line 'file' or 'set'; found a line 'ext'",
+            start: "line 3: expected 'ext 64 -1' at the end of a file; found the end of the input",
+            start + "set 1 1 0 1\n": "line 3: expected 'ext 64 -1' at the end of a file; found a line 'set'",
+            start + "ext 1 0\n": "line 3: expected page 0 first; found 1",
+            start + "ext 0 0\next 0 1\n": "line 4: expected a page from 1 to 64; found 0",
+            start + "ext 0 -3\n": "line 3: expected -2, -1 or a block from 0 to 4095; found -3",
+            start + "ext 0 4096\n": "line 3: expected -2, -1 or a block from 0 to 4095; found 4096",
+            start + "ext 0 0\next 64 0\n": "line 4: expected -1 after page 64; found 0",
+            start + "ext 0 0\next 2 1\next 64 -1\n": "line 5: expected each block once; found block 1 also in file 0 of set 0",
+        }
+        for listing, expected in bad.items():
+            ran = run("picture.py", data=listing.encode())
+            self.assertEqual((ran.returncode, ran.stdout), (1, b""), listing)
+            self.assertTrue(ran.stderr.decode().startswith(expected), f"{ran.stderr.decode()!r} for {listing!r}")
+
+    def test_bad_usage(self):
+        for arguments in (("more",), ("--blocks",), ("--blocks", "0"), ("--blocks", "4097"), ("--blocks", "x")):
+            self.assertEqual(run("picture.py", *arguments).returncode, 2, arguments)
+        self.assertEqual(run("picture.py", "help").returncode, 0)
+
+
+class SessionFiles(unittest.TestCase):
+    def session(self, text):
+        with tempfile.NamedTemporaryFile("w", suffix=".hex") as file:
+            file.write(text)
+            file.flush()
+            return files.read_session(file.name)
+
+    def test_all_files_are_read(self):
+        names = [files.read_session(path).name for path in files.session_paths()]
+        self.assertGreaterEqual(len(names), 60)
+        self.assertIn("ends/op-0", names)
+
+    def test_a_comment_that_does_not_fit_is_found(self):
+        good = "# shows\n1000000000000000  # create set 0 file 0 => 0; 0, 0, 0: a remark\n"
+        self.assertEqual(self.session(good).steps[0].remark, "a remark")
+        for text in (
+            good.replace("file 0 =>", "file 1 =>"),
+            good.replace(" => 0; 0, 0, 0: a remark", ""),
+            good.replace("0; 0, 0, 0", "0"),
+            good.replace("0; 0, 0, 0", "8; 0, 0, 0"),
+            good.replace("0; 0, 0, 0", "end"),
+            good.replace("0; 0, 0, 0", "not read"),
+            good.replace("# shows\n", ""),
+            good + "\n",
+            good + "# later\n",
+            good.replace("1000000000000000", "1000000000000000 1000000000000000"),
+            "# shows\n00  # raw 00 => end\n" + good.split("\n")[1] + "\n",
+            "# shows\n00  # raw 00 => 2\n",
+        ):
+            with self.assertRaises(ValueError, msg=text):
+                self.session(text)
+
+    def test_an_answer_that_does_not_fit_is_found(self):
+        session = self.session("# shows\n1000000000000000  # create set 0 file 0 => 0; 0, 0, 0\n00  # raw 00 => end\n")
+        right = "call 1 1 0 0 0 0\nend 2\nset 0 0 8 1\n"
+        self.assertIsNone(files.first_unexpected(session, files.read_output(right)))
+        for wrong in ("call 1 1 9 0 0 0\nend 2\n", "call 1 1 0 0 0 1\nend 2\n", "end 1\n", "call 1 1 0 0 0 0\n"):
+            self.assertIsNotNone(files.first_unexpected(session, files.read_output(wrong)), wrong)
+
+    def test_random_sessions_follow_from_the_seed(self):
+        self.assertEqual(random_session.session(3, 4), random_session.session(3, 4))
+        self.assertEqual(random_session.session("3", "0"), random_session.session(3, 0))
+        self.assertGreater(len(random_session.session(3, 0)), 20000 * calls.CALL_BYTES)
+        self.assertNotEqual(random_session.session(3, 4), random_session.session(3, 5))
+
+
+if __name__ == "__main__":
+    unittest.main()
