@@ -1,15 +1,17 @@
 # For C callers:
 #   make dist      the package: header, archive, pkg-config file and a note on licences, in dist/
-#   make example   examples/analyser_day.c against the package, run, its output compared
+#   make examples  the programs of examples/ against the package, run, their output compared
 #   make clean     removes dist/
 # The archive is made by the Rattle kit (rt); it is made again when the code of a crate has changed.
 VERSION = 0.1.0
 ARCHIVE = target/staticlib/libsweep.a
 WARNINGS = -std=c99 -Wall -Wextra -Wpedantic -Werror
 PACKAGE = $(CURDIR)/dist
-BUILT = target-gate/example
+BUILT = target-gate/examples
 
-.PHONY: dist example clean
+EXAMPLES = analyser_day two_images
+
+.PHONY: dist examples clean
 
 dist: $(ARCHIVE)
 	rm -rf dist
@@ -22,12 +24,14 @@ dist: $(ARCHIVE)
 $(ARCHIVE): crates.txt $(shell find crates -name '*.rt')
 	rt staticlib sweep
 
-example: dist
+examples: dist
 	mkdir -p $(BUILT)
-	$(CC) $(WARNINGS) examples/analyser_day.c -o $(BUILT)/analyser_day \
-	    $$(PKG_CONFIG_PATH=$(PACKAGE)/lib/pkgconfig pkg-config --cflags --libs sweep)
-	$(BUILT)/analyser_day >$(BUILT)/analyser_day.out
-	diff examples/analyser_day.out $(BUILT)/analyser_day.out
+	for name in $(EXAMPLES); do \
+	    $(CC) $(WARNINGS) examples/$$name.c -o $(BUILT)/$$name \
+	        $$(PKG_CONFIG_PATH=$(PACKAGE)/lib/pkgconfig pkg-config --cflags --libs sweep) && \
+	    $(BUILT)/$$name >$(BUILT)/$$name.out && \
+	    diff examples/$$name.out $(BUILT)/$$name.out || exit 1; \
+	done
 
 clean:
 	rm -rf dist
