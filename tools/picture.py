@@ -274,17 +274,19 @@ def draw_file(drawing, sets, entry, file, x, y):
         drawing.line(strip, y + STRIP_HEIGHT // 2, strip + PAGES * CELL, y + STRIP_HEIGHT // 2, "cross")
         return
     drawing.text(x + 10, y + 13, f"{words}, {file.size} bytes")
+    drawing.box(strip, y, PAGES * CELL, STRIP_HEIGHT, "#FFFFFF", "none")
+    edges = "".join(f"M{strip + page * CELL} {y}v{STRIP_HEIGHT}" for page in range(1, PAGES))
+    drawing.add(f'<path d="{edges}" class="none"/>')
     for page in range(PAGES):
         holder, block = resolve(sets, entry.number, file.number, page)
-        draw_page(drawing, entry, page, holder, block, strip + page * CELL, y)
+        if holder is not None:
+            draw_page(drawing, entry, page, holder, block, strip + page * CELL, y)
     end = strip + round(file.size / 512 * CELL, 1)
     drawing.line(end, y - 2, end, y + STRIP_HEIGHT + 2, "size")
 
 
 def draw_page(drawing, entry, page, holder, block, x, y):
-    if holder is None:
-        drawing.box(x, y, CELL, STRIP_HEIGHT, "#FFFFFF", "none")
-    elif holder == entry.number:
+    if holder == entry.number:
         drawing.box(x, y, CELL, STRIP_HEIGHT, STRONG[holder], "page", f"page {page}: block {block}")
     else:
         title = f"page {page}: block {block}, held by set {holder}"
