@@ -41,12 +41,12 @@ count-cut (suc n) m f l h =
 
 -- ---- free blocks
 
--- LAW: the set bits of the map and the free blocks are all blocks
-pub free-count : (t : List ℕ) → unpack t .blocks ≤ largestBlocks → ((b : ℕ) → unpack t .blocks ≤ b → unpack t .bits b ≡ false)
-    → count 4096 (bitAt t bitmapAt) + count (unpack t .blocks) (λ b. not (unpack t .bits b)) ≡ unpack t .blocks
-free-count t most out =
-    let a = count-same largestBlocks (unpack t .bits) (bitAt t bitmapAt) (λ b l. sym (read-bit t b l)) in
-    let e = count-cut largestBlocks (unpack t .blocks) (unpack t .bits) most out in
+-- LAW: the set bits of the map's first n blocks, which are all or more, and the free blocks are all blocks
+pub free-count : (t : List ℕ) (n : ℕ) → unpack t .blocks ≤ n → n ≤ largestBlocks → ((b : ℕ) → unpack t .blocks ≤ b → unpack t .bits b ≡ false)
+    → count n (bitAt t bitmapAt) + count (unpack t .blocks) (λ b. not (unpack t .bits b)) ≡ unpack t .blocks
+free-count t n all most out =
+    let a = count-same n (unpack t .bits) (bitAt t bitmapAt) (λ b l. sym (read-bit t b (omega arith))) in
+    let e = count-cut n (unpack t .blocks) (unpack t .bits) all out in
     omega (arith, count-not (unpack t .blocks) (unpack t .bits))
 
 -- the block that the code finds, in the words of the state
@@ -78,6 +78,9 @@ module _ (t : List ℕ) (b : ℕ) (h : PackedTables t) (hd : HeaderIn (unpack t)
   first-free : Free (unpack t .blocks) (unpack t .bits) b
   first-free = first-says (unpack t .blocks) (unpack t .bits) (unpack t .next) b (hd .next-in) first
 
+  pub first-below : b < unpack t .blocks
+  first-below = first-free .below
+
   pub first-lt : b < largestBlocks
   first-lt = omega (arith, first-free .below, hd .most)
 
@@ -86,14 +89,14 @@ module _ (t : List ℕ) (b : ℕ) (h : PackedTables t) (hd : HeaderIn (unpack t)
   bit-taken u e = bit-set t u b (h, first-lt) e
 
   -- LAW: its bit is set and next start is moved: the block is taken
-  pub block-taken : (u v : List ℕ) (limit : ℕ) → limit ≡ unpack t .blocks → u ≡ setBit t bitmapAt b → Turns u v (putNextIn ((b + 1) % limit)) → Took t v b
+  pub block-taken : (u v : List ℕ) (limit x : ℕ) → limit ≡ unpack t .blocks → x ≡ (b + 1) % limit → u ≡ setBit t bitmapAt b → Turns u v (putNextIn x) → Took t v b
   unfolding took
-  block-taken u v limit el e n = record {
+  block-taken u v limit x el ex e n = record {
     first = first;
     below = first-free .below;
     unused = first-free .unused;
     turns = record {
-      view = n .view ∙ (λ i. putNextIn ((b + 1) % el i) (bit-taken u e .view i));
+      view = n .view ∙ (λ i. putNextIn ((ex ∙ ap (λ y. (b + 1) % y) el) i) (bit-taken u e .view i));
       packed = n .packed;
     };
   }

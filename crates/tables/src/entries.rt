@@ -2,7 +2,7 @@
 // makes a Block.
 ghost use mathlib.Core.Path.{_≡_};
 ghost use mathlib.Core.Bool.{false, not};
-ghost use Prim.Native.Nat.{_<_};
+ghost use Prim.Native.Nat.{_%_, _+_, _<_, _≤_};
 ghost use lib.ListN.{length};
 ghost use Rattle.base.specs.Count.{count};
 ghost use Rattle.base.specs.Update.{upd};
@@ -110,6 +110,17 @@ pub fn is_stored(e: Entry) -> bool
     }
 }
 
+// "that block plus one, modulo B"
+fn after(b: usize, limit: usize) -> usize
+    requires { ⌜ (b < limit) × (limit ≤ 4096) ⌝ }
+    ensures { λ r. ⌜ r ≡ (b + 1) % limit ⌝ }
+{
+    if b + 1 == limit {
+        return 0;
+    }
+    b + 1
+}
+
 // "the first free one from next start, going round; next start then is that block plus one, modulo B"
 pub fn take_block(t: &mut [u8]) -> Block
     requires { ⌜ PackedTables (now t) × HeaderIn (unpack (now t)) × (0 < count (unpack (now t) .blocks) (λ b. not (unpack (now t) .bits b))) ⌝ }
@@ -121,7 +132,7 @@ pub fn take_block(t: &mut [u8]) -> Block
         return Block(0);
     };
     bitmap::set_bit(t, 4, b);
-    header::put_next(t, (b + 1) % limit);
+    header::put_next(t, after(b, limit));
     Block(b)
 }
 

@@ -37,5 +37,6 @@ pub fn free_blocks(t: &[u8]) -> u32
     requires { ⌜ (length (now t) ≡ tableBytes) × (unpack (now t) .blocks ≤ 4096) × ((b : ℕ) → unpack (now t) .blocks ≤ b → unpack (now t) .bits b ≡ false) ⌝ }
     ensures { λ r. ⌜ (r ≡ count (unpack (now (t .entry)) .blocks) (λ b. not (unpack (now (t .entry)) .bits b))) × (r ≤ 4096) ⌝ }
 {
-    block_count(t) as u32 - bitmap::count_set(t, 4, 64)
+    let b = block_count(t);
+    b as u32 - bitmap::count_set(t, 4, (b + 63) / 64)
 }

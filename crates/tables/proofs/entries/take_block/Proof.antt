@@ -1,11 +1,12 @@
 -- `tables::entries::take_block` meets its contract. Assumes nothing.
 use mathlib.Core.Option.{some}
 use mathlib.Core.Path.{_≡_}
-use native.Mathlib.Nat.{lt-of-lt-of-le, mod-lt}
+use Prim.Native.Nat.{_+_}
+use native.Mathlib.Nat.{mod-lt}
 use native.Mathlib.Omega.{arith}
 use borrow.Author.Needs.{needs}
 use Rattle.base.specs.Search.{firstFree}
-use Rattle.tables.proofs.FreeBlocks.{bit-taken, block-taken, first-lt, found-first, found-some}
+use Rattle.tables.proofs.FreeBlocks.{bit-taken, block-taken, first-below, first-lt, found-first, found-some}
 use Rattle.tables.specs.Packed.{unpack}
 use Rattle.tables.proofs.entries.take_block.Statement.{statement}
 use Rattle.tables.proofs.entries.take_block.Tie as tie
@@ -39,31 +40,33 @@ set-bit-requires c κs =
     let p = start k .pre in
     omega (arith, first-lt _ _ (p .0) (p .1) (first k), p .0 .len)
 
-add-put-next : tie.Need-add-put-next
-add-put-next c =
+after-requires : tie.Need-after-requires
+after-requires c κs =
     let k = c .before .before .before .before .before .before in
     let p = start k .pre in
-    omega (arith, first-lt _ _ (p .0) (p .1) (first k))
+    let n = limit k .block-count in
+    (omega (arith, n .ensures .0, first-below _ _ (p .0) (p .1) (first k)), omega (arith, n .ensures .0, p .1 .most))
 
 put-next-requires : tie.Need-put-next-requires
 put-next-requires c κs =
-    let k = c .before .before .before .before .before .before in
+    let k = c .before .before .before .before .before .before .before in
     let p = start k .pre in
     let n = limit k .block-count in (
-      bit-taken _ _ (p .0) (p .1) (first k) _ (c .before .before .before .set-bit .ensures) .packed,
-      lt-of-lt-of-le (mod-lt _ {m = n .result} (omega (arith, n .ensures .0, p .1 .at-least))) (omega (arith, n .ensures .0, p .1 .most)),
+      bit-taken _ _ (p .0) (p .1) (first k) _ (c .before .before .before .before .set-bit .ensures) .packed,
+      omega (arith, c .after .ensures, mod-lt (k .b .given .0 .0 + 1) {m = n .result} (omega (arith, n .ensures .0, p .1 .at-least)), n .ensures .0, p .1 .most),
     )
 
 returns-2 : tie.Need-returns-2
 returns-2 c =
-    let s = c .before .before .before .before .before .before in
+    let a = c .before .before .before in
+    let s = a .before .before .before .before in
     let k = s .before .before .before in
     let p = start k .pre in
-    block-taken _ _ (p .0) (p .1) (first k) _ _ _ (limit k .block-count .ensures .0) (s .set-bit .ensures) (c .before .before .put-next .ensures)
+    block-taken _ _ (p .0) (p .1) (first k) _ _ _ _ (limit k .block-count .ensures .0) (a .after .ensures) (s .set-bit .ensures) (c .before .before .put-next .ensures)
 
 pub take-block-spec : {M : Type 1} → statement M
 take-block-spec =
     tie.close
     (tie.spec
     (λ c κs. search needs) (λ c κs. search needs) (λ c κs. search needs) (λ c. search needs) (λ c. search needs) (λ c. search needs) returns
-    set-bit-requires add-put-next (λ c. search needs) put-next-requires (λ c. search needs) returns-2)
+    set-bit-requires after-requires put-next-requires (λ c. search needs) returns-2)
