@@ -7,3 +7,4 @@ pub mod Visits
 pub mod Order
 pub mod Whole
 pub mod Outcomes
+pub mod WorkedExample

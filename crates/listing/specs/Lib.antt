@@ -2,3 +2,4 @@ pub mod Text
 pub mod Listing
 pub mod Written
 pub mod Decoding
+pub mod Session
