@@ -1,11 +1,11 @@
 -- Decimal numbers: the step from a number to its last digit, and how many digits there are. Assumes nothing.
-use mathlib.Core.List.{List, [], _∷_, _++_}
-use mathlib.Core.Path.{_≡_, refl, sym, ap, _∙_}
-use Prim.Native.Nat.{ℕ, zero, suc, _+_, _/_, _%_, _^_, _≤_, _<_}
+use mathlib.Core.List.{_++_, _∷_, []}
+use mathlib.Core.Path.{_≡_}
+use Prim.Native.Nat.{_%_, _/_, _<_, _^_, suc, zero, ℕ, _≤_}
 use native.Mathlib.Omega.{arith}
 use lib.Dec.{ltb}
 use lib.ListN.{length, length-append}
-use borrow.Author.Tests.{ltb-true, ltb-false, lt-ltb, le-ltb}
+use borrow.Author.Tests.{le-ltb, lt-ltb, ltb-false}
 use Rattle.base.specs.Logic.{test?}
 use Rattle.listing.specs.Text.{decimal, digitCode, digits}
 

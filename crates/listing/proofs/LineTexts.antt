@@ -1,12 +1,12 @@
 -- Lines as texts written one after the other. Assumes nothing.
 use mathlib.Core.Bool.{cond, false, true}
-use mathlib.Core.List.{List, [], _∷_, _++_, append-assoc, append-nil}
-use mathlib.Core.Path.{_≡_, refl, sym, ap, _∙_}
-use Prim.Native.Nat.{ℕ, _+_}
+use mathlib.Core.List.{_++_, List, append-assoc, append-nil, _∷_, []}
+use mathlib.Core.Path.{ap, refl, sym, _≡_}
+use Prim.Native.Nat.{_+_, ℕ}
 use native.Mathlib.Numerals.{add-one}
-use Rattle.rules.specs.State.{Entry, State, Tables}
 use Rattle.listing.specs.Listing.{begins, extLine, extents, fileText, fileTextAs, fileTexts}
 use Rattle.listing.specs.Text.{blank, newline, words}
+use Rattle.rules.specs.State.{Entry, State, Tables}
 
 pub one-word : (x : List ℕ) → (blank ∷ x) ++ (newline ∷ []) ≡ words (x ∷ []) ++ (newline ∷ [])
 one-word x = simp append-nil

@@ -1,16 +1,15 @@
 -- The order of a listing: no set stands in it twice, so it has at most 8 sets. Assumes nothing.
-use mathlib.Core.Bool.{true}
-use mathlib.Core.List.{List, List·Memᴰ, List·Memᴰ·append-cases, List·Memᴰ·cases-cons, List·Memᴰ·head, List·Memᴰ·tail, Memᴰ·cast, [], _∷_, _++_}
+use mathlib.Core.List.{_++_, List, List·Memᴰ, List·Memᴰ·append-cases, List·Memᴰ·cases-cons, List·Memᴰ·head, List·Memᴰ·tail, Memᴰ·cast, _∷_, []}
 use mathlib.Core.Logic.{⊎-elim}
-use mathlib.Core.Path.{_≡_, refl, sym, ap, subst, _∙_}
-use Prim.Native.Nat.{ℕ, zero, suc, _+_, _≤_, _<_}
+use mathlib.Core.Path.{ap, refl, sym, _∙_, _≡_}
+use Prim.Native.Nat.{_+_, _<_, suc, zero, ℕ, _≤_}
 use native.Mathlib.Omega.{arith}
 use lib.ListN.{length}
+use Rattle.listing.specs.Listing.{inTurn}
 use Rattle.rules.proofs.Chains.{few-below}
-use Rattle.rules.proofs.SetsOk.{SetsOk, child-below, children-once, used-below}
+use Rattle.rules.proofs.SetsOk.{SetsOk, child-below, children-once}
 use Rattle.rules.proofs.WriterSteps.{NoDup}
 use Rattle.rules.specs.State.{SetRecord, childrenOf}
-use Rattle.listing.specs.Listing.{inTurn}
 
 -- LISTS
 -- two lists with no member in common

@@ -1,21 +1,20 @@
 -- The outcomes of a listing. Assumes nothing.
 use mathlib.Core.Bool.{cond, false, true}
-use mathlib.Core.List.{List, _++_}
-use mathlib.Core.Path.{_≡_, refl, sym, ap, subst, _∙_}
-use Prim.Native.Nat.{ℕ, _+_, _≤_, _<_}
+use mathlib.Core.List.{List}
+use mathlib.Core.Path.{ap, sym, _∙_, _≡_}
+use Prim.Native.Nat.{_<_, ℕ, _≤_}
 use native.Mathlib.Omega.{arith}
-use lib.ListN.{drop, length, length-replicate, replicate, take}
-use lib.Seq.{sets}
+use lib.ListN.{length, length-replicate, replicate}
 use borrow.Author.Tests.{le-leb, lt-leb}
+use Rattle.listing.proofs.Whole.{listing-is, sets-front}
+use Rattle.listing.proofs.Writing.{wrote-as}
+use Rattle.listing.specs.Listing.{listInto, listOn, listing}
+use Rattle.listing.specs.Written.{Visited, Wrote, listOutcome, visitSet}
 use Rattle.tables.proofs.FormedStore.{FormedStore, formed-store}
 use Rattle.tables.specs.Packed.{unpack, wellFormed}
 use Rattle.listing.specs.declared.sets.Place.{Place}
 use Rattle.listing.specs.declared.store.Listed.{Listed}
 use Rattle.listing.specs.declared.store.Listed.the-variants.{NotWellFormed, TooSmall, Written}
-use Rattle.listing.specs.Listing.{ListOutcome, listInto, listOn, listing}
-use Rattle.listing.specs.Written.{Visited, Wrote, listOutcome, visitSet}
-use Rattle.listing.proofs.Whole.{listing-is, sets-front}
-use Rattle.listing.proofs.Writing.{wrote-as}
 
 -- what well-formed tables give, whatever the pages hold
 pub formed-tables : (t : List ℕ) (n : ℕ) → wellFormed t n ≡ true → FormedStore t (replicate n 0)

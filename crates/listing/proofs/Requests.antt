@@ -1,12 +1,12 @@
 -- Requests: tests of fields, and copies of a byte. Assumes nothing.
 use mathlib.Core.Bool.{_&&_, Bool, cond, false, true}
-use mathlib.Core.List.{List, [], _∷_}
-use mathlib.Core.Path.{_≡_, refl, ap, _∙_}
-use Prim.Native.Nat.{ℕ, zero, suc, _/_, _%_, _≤_, _<_}
+use mathlib.Core.List.{List, _∷_}
+use mathlib.Core.Path.{ap, refl, _∙_, _≡_}
+use Prim.Native.Nat.{_%_, _/_, _<_, suc, zero, ℕ, _≤_}
 use native.Mathlib.Omega.{arith}
-use lib.ListN.{length, replicate, take}
-use Rattle.rules.specs.Numbers.{Call}
+use lib.ListN.{replicate, take}
 use Rattle.listing.specs.Decoding.{Request, allZero, ask, bad, copies, unless}
+use Rattle.rules.specs.Numbers.{Call}
 
 pub and-true : (b : Bool) → b ≡ (b && true)
 and-true true = refl

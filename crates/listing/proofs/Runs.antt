@@ -1,10 +1,10 @@
 -- Where an extent begins. Assumes nothing.
 use mathlib.Core.Bool.{not}
 use mathlib.Core.List.{List}
-use mathlib.Core.Path.{_≡_, refl, sym, ap, subst, _∙_}
-use Prim.Native.Nat.{ℕ, zero, suc, _-_, _<_}
+use mathlib.Core.Path.{refl, subst, sym, _≡_}
+use Prim.Native.Nat.{_-_, _<_, suc, zero, ℕ}
 use native.Mathlib.Numerals.{sub-one}
-use native.Mathlib.Omega.{arith}
+use Rattle.listing.specs.Listing.{begins, continues}
 use Rattle.packing.specs.Words.{Bytes, get-lt}
 use Rattle.rules.specs.State.{Entry, hole, isStored, stored, unmapped}
 use Rattle.tables.proofs.Layouts.{read-entry-fits}
@@ -12,7 +12,6 @@ use Rattle.tables.proofs.ReadParts.{read-map}
 use Rattle.tables.specs.Layout.{entryAt, entryWord}
 use Rattle.tables.specs.OneReading.{blockFits}
 use Rattle.tables.specs.Packed.{unpack}
-use Rattle.listing.specs.Listing.{begins, continues}
 
 -- behind a page that is not stored
 pub behind-unmapped : (e : Entry ℕ) → continues unmapped e ≡ not (isStored e)

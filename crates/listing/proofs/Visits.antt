@@ -1,15 +1,15 @@
 -- Sets visited one after the other, and what they leave in the buffer. Assumes nothing.
-use mathlib.Core.List.{List, []}
-use mathlib.Core.Path.{_≡_, refl, sym, ap, subst, _∙_}
-use Prim.Native.Nat.{ℕ, zero, suc, _+_, _-_, _≤_, _<_}
+use mathlib.Core.List.{List}
+use mathlib.Core.Path.{refl, subst, sym, _≡_}
+use Prim.Native.Nat.{_-_, _<_, suc, zero, ℕ, _≤_}
 use native.Mathlib.Numerals.{sub-one}
 use native.Mathlib.Omega.{arith}
 use borrow.Author.Tests.{eq-eqb, le-leb, lt-leb, ne-eqb}
-use Rattle.rules.specs.State.{Tables}
-use Rattle.listing.specs.declared.sets.Place.{Place}
+use Rattle.listing.proofs.Writing.{wrote-none, wrote-then}
 use Rattle.listing.specs.Listing.{setText}
 use Rattle.listing.specs.Written.{Visit, Visited, Wrote, behind, stay, visitChain, visitSet}
-use Rattle.listing.proofs.Writing.{wrote-none, wrote-then}
+use Rattle.rules.specs.State.{Tables}
+use Rattle.listing.specs.declared.sets.Place.{Place}
 
 module _ (tb : Tables) where
   pub none-left : (f left k : ℕ) → left ≡ 0 → visitChain tb f left k ≡ stay left

@@ -1,19 +1,19 @@
 -- A listing visits every set of a well-formed store, and no buffer is written past what it holds. Assumes nothing.
-use mathlib.Core.Bool.{cond, false, true}
-use mathlib.Core.List.{List, List·Memᴰ, List·Memᴰ·head, List·Memᴰ·tail, [], _∷_, _++_, append-nil}
-use mathlib.Core.Path.{_≡_, refl, sym, ap, subst, _∙_}
-use Prim.Native.Nat.{ℕ, zero, suc, _+_, _-_, _*_, _≤_, _<_}
+use mathlib.Core.Bool.{true}
+use mathlib.Core.List.{_++_, List, List·Memᴰ, List·Memᴰ·head, List·Memᴰ·tail, append-nil, _∷_, []}
+use mathlib.Core.Path.{_≡_, ap, refl, subst, sym, _∙_}
+use Prim.Native.Nat.{_*_, _+_, _-_, suc, zero, ℕ, _≤_}
 use native.Mathlib.Omega.{arith}
 use lib.ListN.{drop, length, length-append, set, take}
 use lib.Seq.{drop-nil, sets}
 use Rattle.base.specs.Logic.{same?}
+use Rattle.listing.proofs.Order.{order, order-most, order-some}
+use Rattle.listing.proofs.Visits.{chain-step, no-set, none-left, set-step}
+use Rattle.listing.specs.Listing.{inTurn, listSet, listing, setText}
+use Rattle.listing.specs.Written.{Visit, behind, visitChain, visitSet}
 use Rattle.rules.proofs.Chains.{Follows}
 use Rattle.rules.proofs.SetsOk.{SetsOk}
 use Rattle.rules.specs.State.{Tables, childrenOf}
-use Rattle.listing.specs.Listing.{inTurn, listSet, listing, setText}
-use Rattle.listing.specs.Written.{Visit, behind, stay, visitChain, visitSet}
-use Rattle.listing.proofs.Order.{order, order-most, order-some}
-use Rattle.listing.proofs.Visits.{chain-step, no-set, none-left, set-step}
 
 abbrev visit : List ℕ → ℕ → Visit
 visit text left = record { text = text; left = left }

@@ -1,11 +1,11 @@
 -- Texts written one after the other into a lent buffer. Assumes nothing.
-use mathlib.Core.List.{List, [], _∷_, _++_}
-use mathlib.Core.Path.{_≡_, refl, sym, ap, subst, _∙_}
-use Prim.Native.Nat.{ℕ, suc, _+_, _≤_, _<_}
+use mathlib.Core.List.{_++_, List, _∷_, []}
+use mathlib.Core.Path.{ap, refl, subst, sym, _∙_, _≡_}
+use Prim.Native.Nat.{_+_, suc, ℕ, _≤_}
 use native.Mathlib.Nat.{add-zero}
 use native.Mathlib.Omega.{arith}
-use lib.ListN.{length, set, length-append}
-use lib.Seq.{length-sets, sets, set-out}
+use lib.ListN.{length, length-append, set}
+use lib.Seq.{length-sets, set-out, sets}
 use Rattle.listing.specs.Written.{Wrote}
 
 -- a run of stores, then another where it ends

@@ -1,7 +1,7 @@
 -- The calls of a session. Document 01, "The session program".
 use mathlib.Core.Bool.{_&&_, Bool, cond, false, true}
-use mathlib.Core.List.{List, [], _∷_}
-use Prim.Native.Nat.{ℕ, _<_, _≤_}
+use mathlib.Core.List.{List, _∷_, []}
+use Prim.Native.Nat.{_<_, ℕ, _≤_}
 use lib.Dec.{eqb, ltb}
 use lib.ListN.{length, replicate}
 use Rattle.packing.specs.Fields.{getField}

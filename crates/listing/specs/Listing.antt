@@ -1,10 +1,11 @@
 -- The lines of a session, and the listing of a store. Document 01, "The session program": "Lines".
 use mathlib.Core.Bool.{Bool, cond, false, not, true}
-use mathlib.Core.List.{List, [], _∷_, _++_}
-use Prim.Native.Nat.{ℕ, zero, suc}
+use mathlib.Core.List.{_++_, List, _∷_, []}
+use Prim.Native.Nat.{suc, zero, ℕ}
 use lib.Dec.{eqb, leb}
 use lib.ListN.{drop, length, take}
 use Rattle.base.specs.Logic.{digit}
+use Rattle.listing.specs.Text.{decimal, line, minusOne, nameCall, nameEnd, nameExt, nameFile, nameSet}
 use Rattle.rules.specs.Numbers.{Answer}
 use Rattle.rules.specs.Reading.{sizeByReading}
 use Rattle.rules.specs.State.{Entry, SetRecord, State, Tables, absent, childrenOf, fileCount, highestLevel, hole, marked, own, pageCount, stored, treeOf, unmapped, virgin}
@@ -12,7 +13,6 @@ use Rattle.tables.specs.Layout.{stateNumber}
 use Rattle.tables.specs.Packed.{unpack, wellFormed}
 use Rattle.listing.specs.declared.store.Listed.{Listed}
 use Rattle.listing.specs.declared.store.Listed.the-variants.{NotWellFormed, TooSmall, Written}
-use Rattle.listing.specs.Text.{decimal, line, minusOne, nameCall, nameEnd, nameExt, nameFile, nameSet}
 
 -- "`call` count, op, number, three counts."
 unfoldable pub callLine : ℕ → ℕ → Answer → List ℕ

@@ -1,7 +1,7 @@
 -- Numbers and lines as bytes. Document 01, "The session program".
 use mathlib.Core.Bool.{cond}
-use mathlib.Core.List.{List, [], _∷_, _++_}
-use Prim.Native.Nat.{ℕ, zero, suc, _+_, _/_, _%_}
+use mathlib.Core.List.{_++_, List, _∷_, []}
+use Prim.Native.Nat.{_%_, _+_, _/_, suc, zero, ℕ}
 use lib.Dec.{ltb}
 
 -- the codes of characters

@@ -1,13 +1,13 @@
 -- For the contracts of the code, not for a reader of document 01: bytes written into a lent buffer.
 use mathlib.Core.Bool.{cond}
-use mathlib.Core.List.{List, [], _++_}
+use mathlib.Core.List.{_++_, List, []}
 use mathlib.Core.Path.{_≡_}
-use Prim.Native.Nat.{ℕ, zero, suc, _+_, _-_, _≤_}
+use Prim.Native.Nat.{_+_, _-_, suc, zero, ℕ, _≤_}
 use lib.Dec.{eqb, leb}
 use lib.ListN.{length}
 use lib.Seq.{sets}
-use Rattle.rules.specs.State.{Tables, setCount}
 use Rattle.listing.specs.Listing.{ListOutcome, setText}
+use Rattle.rules.specs.State.{Tables, setCount}
 use Rattle.listing.specs.declared.sets.Place.{Place}
 use Rattle.listing.specs.declared.store.Listed.{Listed}
 use Rattle.listing.specs.declared.store.Listed.the-variants.{NotWellFormed, TooSmall, Written}
