@@ -2,14 +2,14 @@
 // map of the blocks seen so far. It takes any bytes of any length.
 ghost use mathlib.Core.Path.{_≡_};
 ghost use Rattle.tables.specs.Packed.{wellFormed};
-use crate::numbers::files_formed;
+use crate::passing::files_formed;
 use setcheck::header::header_formed;
 use setcheck::header::header_zero;
 use setcheck::tree::sets_formed;
 
 pub mod alone;
 pub mod linked;
-pub mod numbers;
+pub mod passing;
 
 // "Well formed means all of": tables t with a pages buffer of n bytes.
 pub fn well_formed(t: &[u8], n: usize) -> bool

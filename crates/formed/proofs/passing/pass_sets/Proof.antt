@@ -1,9 +1,9 @@
--- `formed::numbers::pass_sets` meets its contract. The loop's invariant: the files of the sets before set s have passed. Assumes nothing.
+-- `formed::passing::pass_sets` meets its contract. The loop's invariant: the files of the sets before set s have passed. Assumes nothing.
 use Prim.Native.Nat.{_-_, _≤_}
 use native.Mathlib.Omega.{arith}
 use Rattle.formed.proofs.Passes.{SetsPassed, sets-done, sets-next, sets-refused, sets-start}
-use Rattle.formed.proofs.numbers.pass_sets.Statement.{statement}
-use Rattle.formed.proofs.numbers.pass_sets.Tie as tie
+use Rattle.formed.proofs.passing.pass_sets.Statement.{statement}
+use Rattle.formed.proofs.passing.pass_sets.Tie as tie
 
 abbrev Inv-loop : tie.InvT-loop
 Inv-loop t seen₀ stored₀ unmapped₀ f n limit s₀ seen stored unmapped s = (s ≤ n) × SetsPassed limit t f seen₀ seen stored unmapped s

@@ -1,10 +1,10 @@
--- `formed::numbers::pass_file` meets its contract. Assumes nothing.
+-- `formed::passing::pass_file` meets its contract. Assumes nothing.
 use mathlib.Core.Path.{refl}
 use borrow.Author.Needs.{needs}
 use borrow.Author.Tests.{not-false}
 use Rattle.formed.proofs.Passes.{file-decided, file-refused}
-use Rattle.formed.proofs.numbers.pass_file.Statement.{statement}
-use Rattle.formed.proofs.numbers.pass_file.Tie as tie
+use Rattle.formed.proofs.passing.pass_file.Statement.{statement}
+use Rattle.formed.proofs.passing.pass_file.Tie as tie
 
 returns : tie.Need-returns
 returns c = file-refused _ _ _ _ _ _ _ (c .before .before .file-entries .ensures) _ _ _ _ (c .if1 .taken)

@@ -1,10 +1,10 @@
--- `formed::numbers::files_formed` meets its contract. The loop's invariant: the files of the numbers below f have passed. Assumes nothing.
+-- `formed::passing::files_formed` meets its contract. The loop's invariant: the files of the numbers below f have passed. Assumes nothing.
 use Prim.Native.Nat.{_-_, _≤_}
 use native.Mathlib.Omega.{arith}
 use Rattle.formed.proofs.Blank.{blank-from, blank-refused}
 use Rattle.formed.proofs.Whole.{FilesPassed, files-done, files-next, files-refused, files-start}
-use Rattle.formed.proofs.numbers.files_formed.Statement.{statement}
-use Rattle.formed.proofs.numbers.files_formed.Tie as tie
+use Rattle.formed.proofs.passing.files_formed.Statement.{statement}
+use Rattle.formed.proofs.passing.files_formed.Tie as tie
 
 abbrev Inv-loop : tie.InvT-loop
 Inv-loop t limit n seen₀ f₀ seen f = (f ≤ 16) × FilesPassed t limit seen f

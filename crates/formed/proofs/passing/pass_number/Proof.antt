@@ -1,9 +1,9 @@
--- `formed::numbers::pass_number` meets its contract. Assumes nothing.
+-- `formed::passing::pass_number` meets its contract. Assumes nothing.
 use borrow.Author.Needs.{needs}
 use borrow.Author.Tests.{not-false}
 use Rattle.formed.proofs.Passes.{number-decided, number-refused}
-use Rattle.formed.proofs.numbers.pass_number.Statement.{statement}
-use Rattle.formed.proofs.numbers.pass_number.Tie as tie
+use Rattle.formed.proofs.passing.pass_number.Statement.{statement}
+use Rattle.formed.proofs.passing.pass_number.Tie as tie
 
 returns : tie.Need-returns
 returns c = number-refused _ _ _ _ _ _ _ _ (c .before .pass-sets .ensures) (c .if1 .taken)
