@@ -10,7 +10,7 @@ use borrow.Author.Tests.{eq-eqb, ne-eqb}
 use Rattle.base.specs.Logic.{test?}
 use Rattle.maps.specs.Upward.{looksFrom, resolveFrom, sizeFrom}
 use Rattle.rules.specs.Reading.{dependent, dependsOn, needs, reaches, resolve, shownEntry, shownSize, sizeByReading, someUnmapped, walk}
-use Rattle.rules.specs.State.{File, Files, State, Tables, absent, hole, isUnmapped, isVirgin, live, marked, own, pageCount, stored, treeOf, unmapped, virgin}
+use Rattle.rules.specs.State.{Entry, File, Files, State, Tables, absent, hole, isUnmapped, isVirgin, live, marked, own, pageCount, stored, treeOf, unmapped, virgin}
 
 -- ---- a page
 
@@ -38,6 +38,12 @@ module _ (tb : Tables) (f p s : ℕ) where
   unfolding resolveFrom walk
   resolve-stored zero b h = rw h
   resolve-stored (suc n) b h = rw h
+
+  -- an entry that is not unmapped
+  pub resolve-here : (n : ℕ) (e : Entry ℕ) → e ≡ tb .files f s .map p → isUnmapped e ≡ false → e ≡ resolveFrom tb f p s n
+  resolve-here n unmapped h k = absurd (true≢false k)
+  resolve-here n hole h k = sym (resolve-hole n (sym h))
+  resolve-here n (stored b) h k = sym (resolve-stored n b (sym h))
 
 -- ---- the maps looked at
 

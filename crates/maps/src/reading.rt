@@ -97,11 +97,15 @@ pub fn resolve(t: &[u8], f: usize, page: Page, s: usize, level: usize) -> Resolv
     }
 }
 
-// What a page resolves to in set s.
+// What a page resolves to in set s. Most pages are mapped there, and for them nothing is gone up to.
 pub fn resolve_in(t: &[u8], f: usize, page: Page, s: usize) -> Resolved
     requires { ⌜ (length (now t) ≡ tableBytes) × (f < 16) × (page .0 < 64) × (s < 8) ⌝ }
     ensures { λ r. ⌜ (entryMeant (r .entry) ≡ Reading.resolve (treeOf (unpack (now (t .entry)) .sets)) (unpack (now (t .entry)) .files f) s (page .0)) × (1 ≤ r .looks) × (r .looks ≤ unpack (now (t .entry)) .sets s .level + 1) × (r .looks ≤ 8) × (r .looks ≡ looksFrom (unpack (now (t .entry))) f (page .0) s (unpack (now (t .entry)) .sets s .level)) ⌝ }
 {
+    let e = entries::entry_at(t, f, s, page);
+    if !entries::is_unmapped(e) {
+        return Resolved { entry: e, looks: 1 };
+    }
     let n = sets::level_of(t, s);
     resolve(t, f, page, s, n)
 }
