@@ -280,5 +280,53 @@ class SessionFiles(unittest.TestCase):
         self.assertNotEqual(random_session.session(3, 4), random_session.session(3, 5))
 
 
+class SessionPrograms(unittest.TestCase):
+    """run-session and compare-sessions, with programs that print something fixed."""
+
+    def setUp(self):
+        self.folder = tempfile.TemporaryDirectory()
+        self.addCleanup(self.folder.cleanup)
+
+    def printing(self, text):
+        path = os.path.join(self.folder.name, f"program-{len(os.listdir(self.folder.name))}")
+        with open(path, "w", encoding="utf-8") as file:
+            file.write(f"#!/bin/sh\ncat >/dev/null\ncat <<'END'\n{text}END\n")
+        os.chmod(path, 0o755)
+        return path
+
+    @staticmethod
+    def run_test(name, *arguments):
+        return subprocess.run([sys.executable, os.path.join(HERE, name), *arguments], capture_output=True, text=True)
+
+    def test_run_session_shows_answers_and_listing_in_words(self):
+        path = os.path.join(files.FOLDER, "worked-session.hex")
+        output = read("tests", "sessions", "worked-session.out")
+        ran = self.run_test("run-session", path, self.printing(output))
+        self.assertEqual(ran.returncode, 0, ran.stderr)
+        self.assertIn("own blocks 0, copies 1, newly marked 0", ran.stdout)
+        self.assertIn("set 1, made from set 0, level 1, read-only", ran.stdout)
+        self.assertIn("page 1: block 2", ran.stdout)
+        ran = self.run_test("run-session", path, self.printing(output.replace("call 4 2 0 0 1 0", "call 4 2 8 0 0 0")))
+        self.assertEqual(ran.returncode, 1)
+        self.assertIn("refused: own need over the free blocks", ran.stdout)
+        self.assertIn("the file expects 0; 0, 1, 0; found 8", ran.stdout)
+        for arguments in ((), (path, "no-such-program"), ("no-such-file", "cat")):
+            self.assertEqual(self.run_test("run-session", *arguments).returncode, 2, arguments)
+
+    def test_compare_sessions_names_the_first_line_that_differs(self):
+        oracle = self.printing("set 0 0 8 1\nfile 0 0 1 0\next 0 -1\next 64 -1\n")
+        other = self.printing("set 0 0 8 1\nfile 0 0 1 9\next 0 -1\next 64 -1\n")
+        same = self.run_test("compare-sessions", oracle, oracle, "1", "1")
+        self.assertEqual(same.returncode, 1)  # these outputs show next to nothing
+        self.assertIn("shown by the session files: 8 of", same.stdout)
+        self.assertIn("the file expects 0; 0, 0, 0; found not read", same.stdout)
+        self.assertNotIn("the program has", same.stdout)
+        ran = self.run_test("compare-sessions", other, oracle, "1", "1")
+        self.assertEqual(ran.returncode, 1)
+        self.assertIn("line 2: the program has 'file 0 0 1 9'; the second implementation 'file 0 0 1 0'", ran.stdout)
+        self.assertEqual(self.run_test("compare-sessions", "no-such-program", oracle).returncode, 2)
+        self.assertEqual(self.run_test("compare-sessions", oracle).returncode, 2)
+
+
 if __name__ == "__main__":
     unittest.main()
