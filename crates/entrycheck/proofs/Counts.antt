@@ -3,24 +3,32 @@
 use mathlib.Core.Bool.{_&&_, Bool, cond, false, true}
 use mathlib.Core.List.{[]}
 use mathlib.Core.Option.{Option, Option·none-ne-some, Option·some-injective, none, some}
-use mathlib.Core.Path.{ap, refl, subst, sym, _∙_, _≡_}
-use Prim.Native.Nat.{_+_, _<_, _≤_, suc, zero, ℕ}
+use mathlib.Core.Path.{ap, fun-ext, refl, subst, sym, _∙_, _≡_}
+use Prim.Native.Nat.{_+_, _<_, suc, zero, ℕ, _≤_}
 use native.Mathlib.Omega.{arith}
 use lib.Dec.{eqb, ltb}
 use borrow.Author.Tests.{eq-eqb, ltb-true, ne-eqb}
 use Rattle.base.specs.Count.{all, all-more, all-none, sum}
 use Rattle.base.specs.Logic.{and-both, and-left, and-right, digit, same?, test?}
 use Rattle.base.specs.Update.{upd, upd-other, upd-same}
+use Rattle.entrycheck.specs.Marking.{Pass, Seen, andThen, markEntry, markNamed, through, through-more, through-none}
+use Rattle.packing.specs.Bitmap.{isOne, one-digit}
 use Rattle.rules.specs.State.{Entry, hole, stored, unmapped}
 use Rattle.rules.specs.WellFormed.{blockBelow, names}
 use Rattle.tables.specs.Layout.{readEntry}
 use Rattle.tables.specs.Packed.{entryFormed}
-use Rattle.entrycheck.specs.Marking.{Pass, Seen, andThen, markEntry, markNamed, through, through-more, through-none}
 
 -- good: is every entry formed, with a block below the limit; named b: how many of the entries name block b
 pub record Counts (limit : ℕ) (pass : Pass) (good : Bool) (named : ℕ → ℕ) : Type 0 where
   pub passes : (seen : Seen) → good ≡ true → ((b : ℕ) → b < limit → digit (seen b) + named b ≤ 1) → (x : Seen) × (pass seen ≡ some x)
   pub counts : (seen x : Seen) → pass seen ≡ some x → (good ≡ true) × ((b : ℕ) → digit (x b) ≡ digit (seen b) + named b)
+
+pub digit-same : (a b : Bool) → digit a ≡ digit b → a ≡ b
+digit-same a b e = sym (one-digit a) ∙ ap isOne e ∙ one-digit b
+
+pub digit-most : (a : Bool) → digit a ≤ 1
+digit-most true = omega arith
+digit-most false = omega arith
 
 none-some : {P : Type 0} (x : Seen) → none ≡ some x → P
 none-some x e = absurd (Option·none-ne-some x e)
@@ -57,6 +65,10 @@ module _ (limit : ℕ) where
       (l, λ b. ap (λ g. digit (g b)) (sym y) ∙ stored-counts c seen z b)))
       (λ l. let d : none ≡ some x = rw l at q in none-some x d)
 
+  -- LAW: the block that an entry names
+  pub block-counts : (e : Entry ℕ) → Counts limit (markNamed limit e) (blockBelow limit e) (λ b. digit (names b e))
+  block-counts e = record { passes = named-passes e; counts = named-counts e }
+
   -- LAW: one entry
   pub entry-counts : (w : ℕ) → Counts limit (markEntry limit w) (entryFormed [] w && blockBelow limit (readEntry w)) (λ b. digit (names b (readEntry w)))
   unfolding markEntry
@@ -77,9 +89,9 @@ module _ (limit : ℕ) where
     abbrev NCounts : ℕ → Type 0
     NCounts n = Counts limit (through n pass) (all n good) (λ b. sum n (λ i. named i b))
 
-    counts-none : NCounts 0
+    no-parts : NCounts 0
     unfolding sum
-    counts-none = record {
+    no-parts = record {
       passes = λ seen g h. (seen, through-none pass seen);
       counts = λ seen x q.
           let z : seen ≡ x = Option·some-injective seen x (sym (through-none pass seen) ∙ q) in
@@ -110,8 +122,24 @@ module _ (limit : ℕ) where
 
     -- LAW: as many parts as wished
     pub through-counts : (n : ℕ) → ((i : ℕ) → i < n → Counts limit (pass i) (good i) (named i)) → Counts limit (through n pass) (all n good) (λ b. sum n (λ i. named i b))
-    through-counts zero h = counts-none
+    through-counts zero h = no-parts
     through-counts (suc n) h =
         let r = through-counts n (λ i l. h i (omega arith)) in
         let c = h n (omega arith) in
         record { passes = more-passes n r c; counts = more-counts n r c }
+
+-- LAWS: what a pass gives where it counts so many
+module _ (limit : ℕ) (pass : Pass) (good : Bool) (named : ℕ → ℕ) (c : Counts limit pass good named) (seen : Seen) where
+  -- it does not pass
+  pub counts-none : (good ≡ true → ((b : ℕ) → digit (seen b) + named b ≤ 1) → ⊥) → pass seen ≡ none
+  counts-none h = go (pass seen) refl
+    where
+      go : (o : Option Seen) → pass seen ≡ o → o ≡ none
+      go none e = refl
+      go (some x) e = let r = c .counts seen x e in absurd (h (r .0) (λ b. let d = digit-most (x b) in omega (arith, r .1 b)))
+
+  -- it passes, and x is seen
+  pub counts-some : (x : Seen) → good ≡ true → ((b : ℕ) → digit (x b) ≡ digit (seen b) + named b) → pass seen ≡ some x
+  counts-some x g h =
+      let r = c .passes seen g (λ b l. let d = digit-most (x b) in omega (arith, h b)) in
+      r .1 ∙ ap some (fun-ext (λ b. digit-same (r .0 b) (x b) (c .counts seen (r .0) (r .1) .1 b ∙ sym (h b))))

@@ -1,24 +1,23 @@
 -- THE THEOREM of the pass: every entry passes, and the blocks seen at the end are those whose bits are 1, exactly where the rules on kinds, blocks and bits hold:
 -- no kind is 3, the block is 0 unless stored, a bit is 1 exactly when one stored entry names that block, no block is named twice, or is B or more. Assumes nothing.
-use mathlib.Core.Bool.{_&&_, Bool, false, true, true≢false}
+use mathlib.Core.Bool.{_&&_, Bool, true, true≢false}
 use mathlib.Core.List.{List, []}
 use mathlib.Core.Option.{Option, none, some}
 use mathlib.Core.Path.{ap, refl, sym, _∙_, _≡_}
-use Prim.Native.Nat.{_+_, _<_, _≤_, suc, zero, ℕ}
+use Prim.Native.Nat.{_+_, _<_, suc, zero, ℕ, _≤_}
 use native.Mathlib.Nat.{zero-add}
 use native.Mathlib.Omega.{arith}
 use borrow.Author.Tests.{eq-eqb, eqb-true}
 use Rattle.base.specs.Count.{all, all-at, all-of, count, sum}
 use Rattle.base.specs.Logic.{and-both, and-left, and-right, digit, test?}
-use Rattle.packing.specs.Bitmap.{one-digit, isOne}
+use Rattle.entrycheck.proofs.Counts.{Counts, digit-most, digit-same, entry-counts, through-counts}
+use Rattle.entrycheck.specs.Marking.{Seen, entriesFormed, formedBy, markAll, markEntry, markFile, markNumber, noneSeen, same-bits-at, same-bits-of, sameBits}
 use Rattle.rules.proofs.BitsFormed.{all-files-at, all-files-of}
 use Rattle.rules.proofs.Sums.{count-sum, sum-same, sum-zero}
 use Rattle.rules.specs.WellFormed.{allFiles, allPages, bitsFormed, blockBelow, names, timesNamed}
 use Rattle.tables.proofs.ReadParts.{read-map}
 use Rattle.tables.specs.Layout.{entryWord, readEntry}
 use Rattle.tables.specs.Packed.{entryFormed, kindsFormed, unpack}
-use Rattle.entrycheck.proofs.Counts.{Counts, entry-counts, through-counts}
-use Rattle.entrycheck.specs.Marking.{Seen, entriesFormed, formedBy, markAll, markEntry, markFile, markNumber, noneSeen, same-bits-at, same-bits-of, sameBits}
 
 -- ---- sums in another order
 
@@ -32,26 +31,19 @@ unfolding sum
 sum-swap zero b g = sym (sum-zero b (λ j. 0) (λ j l. refl))
 sum-swap (suc a) b g = omega (arith, sum-swap a b g, sum-add b (λ j. g a j) (λ j. sum a (λ i. g i j)))
 
-digit-same : (a b : Bool) → digit a ≡ digit b → a ≡ b
-digit-same a b e = sym (one-digit a) ∙ ap isOne e ∙ one-digit b
-
-digit-most : (a : Bool) → digit a ≤ 1
-digit-most true = omega arith
-digit-most false = omega arith
-
 both-ways : (a b : Bool) → (a ≡ true → b ≡ true) → (b ≡ true → a ≡ true) → a ≡ b
 both-ways a b to from = test? a (λ e. e ∙ sym (to e)) (λ e. test? b (λ d. absurd (true≢false (sym (from d) ∙ e))) (λ d. e ∙ sym d))
 
 module _ (t : List ℕ) where
   -- does the entry name the block, as a number; is it formed, with a block below the limit
-  abbrev hit : ℕ → ℕ → ℕ → ℕ → ℕ
+  abbrev pub hit : ℕ → ℕ → ℕ → ℕ → ℕ
   hit b f s p = digit (names b (readEntry (entryWord t f s p)))
 
-  abbrev good : ℕ → ℕ → ℕ → ℕ → Bool
+  abbrev pub good : ℕ → ℕ → ℕ → ℕ → Bool
   good limit f s p = entryFormed [] (entryWord t f s p) && blockBelow limit (readEntry (entryWord t f s p))
 
   -- a file, the files of a number, all files
-  file-counts : (limit f s : ℕ) → Counts limit (markFile limit t f s) (all 64 (good limit f s)) (λ b. sum 64 (λ p. hit b f s p))
+  pub file-counts : (limit f s : ℕ) → Counts limit (markFile limit t f s) (all 64 (good limit f s)) (λ b. sum 64 (λ p. hit b f s p))
   unfolding markFile
   file-counts limit f s = through-counts limit (λ p. markEntry limit (entryWord t f s p)) (good limit f s) (λ p b. hit b f s p) 64 (λ p l. entry-counts limit (entryWord t f s p))
 

@@ -1,21 +1,17 @@
 -- Parts of a pass, one after another: a part more, and a part that does not pass. Assumes nothing.
 use mathlib.Core.Bool.{Bool, false, true}
 use mathlib.Core.List.{List}
-use mathlib.Core.Option.{Option, none, some}
-use mathlib.Core.Path.{ap, refl, _∙_, _≡_}
-use Prim.Native.Nat.{_+_, _<_, _≤_, suc, zero, ℕ}
+use mathlib.Core.Option.{none, some}
+use mathlib.Core.Path.{ap, _∙_, _≡_}
+use Prim.Native.Nat.{_+_, _<_, suc, zero, ℕ, _≤_}
 use native.Mathlib.Numerals.{add-one}
 use native.Mathlib.Omega.{arith}
 use Rattle.base.specs.Logic.{same?}
-use Rattle.packing.specs.Bitmap.{bitAt}
 use Rattle.entrycheck.specs.Marking.{Marks, Pass, Seen, andThen, outcome, through, through-more}
-
-pub then-then : (o : Option Seen) (p q : Pass) → andThen o (λ seen. andThen (p seen) q) ≡ andThen (andThen o p) q
-then-then none p q = refl
-then-then (some seen) p q = refl
+use Rattle.packing.specs.Bitmap.{bitAt}
 
 -- a part that does not pass: no more passes
-pub through-fails : (pass : ℕ → Pass) (seen : Seen) (n m : ℕ) → n ≤ m → through n pass seen ≡ none → through m pass seen ≡ none
+through-fails : (pass : ℕ → Pass) (seen : Seen) (n m : ℕ) → n ≤ m → through n pass seen ≡ none → through m pass seen ≡ none
 through-fails pass seen n zero l e = let z : n ≡ 0 = omega arith in rw z at e
 through-fails pass seen n (suc m) l e =
     same? n (suc m)
@@ -33,11 +29,3 @@ module _ (pass : ℕ → Pass) (seen : Seen) (n : ℕ) (l l′ : List ℕ) (ok :
   -- LAW: the next part does not pass, so that the whole does not
   pub through-refused : (k : ℕ) → n < k → ok ≡ false → through k pass seen ≡ none
   through-refused k g h = through-fails pass seen (n + 1) k (omega arith) (step ∙ ap (λ x. outcome x (bitAt l′ 0)) h)
-
--- two parts, the second after the first
-module _ (a b : Pass) (l l′ : List ℕ) (ok : Bool) (m : Marks a l l′ ok) where
-  pub both-marked : (l″ : List ℕ) (ok′ : Bool) → ok ≡ true → Marks b l′ l″ ok′ → Marks (λ seen. andThen (a seen) b) l l″ ok′
-  both-marked l″ ok′ e n = record { marks = ap (λ o. andThen o b) (m .marks ∙ ap (λ x. outcome x (bitAt l′ 0)) e) ∙ n .marks; len = n .len }
-
-  pub first-refused : ok ≡ false → Marks (λ seen. andThen (a seen) b) l l′ false
-  first-refused e = record { marks = ap (λ o. andThen o b) (m .marks ∙ ap (λ x. outcome x (bitAt l′ 0)) e); len = m .len }

@@ -1,2 +1,4 @@
 pub mod Marking
-pub mod Words
+pub mod Raw
+pub mod Network
+pub mod Moving

@@ -29,7 +29,7 @@ pub zero-none : (t : List ℕ) (at : ℕ) → true ≡ zeroBytes t at 0
 unfolding zeroBytes all
 zero-none t at = refl
 
-or-zero : (x y : ℕ) → eqb (bitOr x y) 0 ≡ (eqb y 0 && eqb x 0)
+pub or-zero : (x y : ℕ) → eqb (bitOr x y) 0 ≡ (eqb y 0 && eqb x 0)
 or-zero x y = test? (eqb y 0)
     (λ e. let q = eqb-true y 0 e in rw e (ap (λ z. eqb (bitOr x z) 0) q ∙ ap (λ z. eqb z 0) (or-zero-r x)))
     (λ e. rw e (ne-eqb (bitOr x y) 0 (λ q. eqb-false y 0 e (omega (arith, or-add-and x y, and-le-l x y)))))

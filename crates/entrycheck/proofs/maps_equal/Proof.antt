@@ -1,49 +1,42 @@
--- `entrycheck::maps_equal` meets its contract. The loop's invariant: the bits of the first i words are the same. Assumes nothing.
-use Prim.Native.Nat.{_≤_, _-_}
+-- `entrycheck::maps_equal` meets its contract. The loop's invariant: x is zero exactly where the first i bytes are the same; and after a turn it is known
+-- that both slices are bytes. Assumes nothing.
+use mathlib.Core.Path.{ap, _∙_, _≡_}
+use Prim.Native.Nat.{_≤_, _<_, _-_}
 use native.Mathlib.Omega.{arith}
-use Rattle.entrycheck.proofs.MapsEqual.{SameTo, same-done, same-next, same-not, same-start}
+use lib.Dec.{eqb}
+use Rattle.packing.specs.Words.{Bytes}
+use Rattle.entrycheck.proofs.BytesEqual.{same-bytes, same-more, same-none, sameTo}
 use Rattle.entrycheck.proofs.maps_equal.Statement.{statement}
 use Rattle.entrycheck.proofs.maps_equal.Tie as tie
 
 abbrev Inv-loop : tie.InvT-loop
-Inv-loop t seen i₀ i = (i ≤ 64) × SameTo t seen i
+Inv-loop t seen x₀ i₀ x i = (i ≤ 512) × (eqb x 0 ≡ sameTo t seen i) × (0 < i → Bytes t × Bytes seen)
 
 abbrev μ-loop : tie.MeasureT-loop
-μ-loop t seen i₀ i = 64 - i
+μ-loop t seen x₀ i₀ x i = 512 - i
 
 loop-holds : tie.Need-loop-holds Inv-loop μ-loop
-loop-holds c = (omega arith, same-start _ _)
-
-returns : tie.Need-returns Inv-loop μ-loop
-returns c =
-    let v = c .before in
-    let w = v .before in
-    let l = w .before .before in
-    let k2 = l .before in
-    let k1 = k2 .before in
-    let a = k1 .before .args in
-    same-not (a .t .now) (a .seen .now) (λ i. k1 .shared-slice-known .given i .fits) (λ i. k2 .shared-slice-known2 .given i .fits) (l .loop .i) (w .read64 .result) (v .read642 .result)
-    (w .read64 .ensures) (v .read642 .ensures) (omega arith) (c .if1 .taken)
+loop-holds c = (omega arith, same-none (c .args .t .now) (c .args .seen .now), λ h. absurd (omega arith))
 
 loop-again : tie.Need-loop-again Inv-loop μ-loop
 loop-again c =
-    let v = c .before in
-    let w = v .before in
-    let l = w .before .before in
-    let k2 = l .before in
-    let k1 = k2 .before in
-    let a = k1 .before .args in (
+    let l = c .before .before .before .loop in
+    let a = c .before .before .before .before .args in (
       omega arith,
-      same-next (a .t .now) (a .seen .now) (λ i. k1 .shared-slice-known .given i .fits) (λ i. k2 .shared-slice-known2 .given i .fits) (l .loop .i) (w .read64 .result) (v .read642 .result)
-          (w .read64 .ensures) (v .read642 .ensures) (l .loop .inv .1) (c .if1 .left),
+      same-more (a .t .now) (a .seen .now) (l .i) (l .x) (l .inv .1),
+      λ h. (λ i. c .before .shared-slice-known .given i .fits, λ i. c .shared-slice-known2 .given i .fits),
     )
 
-returns-2 : tie.Need-returns-2 Inv-loop μ-loop
-returns-2 c = same-done _ _ (c .before .loop .i) (omega arith) (c .before .loop .inv .1)
+returns : tie.Need-returns Inv-loop μ-loop
+returns c =
+    let l = c .before .loop in
+    let a = c .before .before .args in
+    let e : l .i ≡ 512 = omega arith in
+    let b = l .inv .2 (omega arith) in
+    l .inv .1 ∙ ap (sameTo (a .t .now) (a .seen .now)) e ∙ same-bytes (a .t .now) (a .seen .now) (b .0) (b .1)
 
 pub maps-equal-spec : {M : Type 1} → statement M
 maps-equal-spec =
     tie.close
     (tie.spec
-    Inv-loop μ-loop loop-holds (λ c. omega arith) (λ c. omega arith) (λ c κs. omega arith) (λ c. omega arith) (λ c κs. omega arith)
-    returns (λ c. omega arith) (λ c. omega arith) loop-again returns-2)
+    Inv-loop μ-loop loop-holds (λ c. omega arith) (λ c. omega arith) (λ c. omega arith) (λ c. omega arith) (λ c. omega arith) loop-again returns)

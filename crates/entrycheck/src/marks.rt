@@ -1,0 +1,163 @@
+// The blocks of the pages that a mask has, against the map of the blocks seen so far: first the words of four entries that
+// name four blocks in a row, then the other pages one by one. A block is what the 12 low bits of an entry say.
+ghost use mathlib.Core.Bool.{true};
+ghost use mathlib.Core.Path.{_≡_};
+ghost use Prim.Native.Nat.{_+_, _%_, _<_, _≤_};
+ghost use lib.Count.{trailingZeros};
+ghost use lib.ListN.{length};
+ghost use Rattle.rules.specs.State.{stored};
+ghost use Rattle.packing.specs.Words.{getWord};
+ghost use Rattle.entrycheck.specs.Marking.{Marks, markNamed, through};
+ghost use Rattle.entrycheck.specs.Moving.{FourInARow, Full, Moved, RowMoved, blockAt, noPage, pages, rows};
+use crate::raw;
+use packing::words;
+
+fn wide(x: u16) -> usize
+    requires { ⌜ x < 65536 ⌝ }
+    ensures { λ r. ⌜ r ≡ x ⌝ }
+{
+    x as usize
+}
+
+// The block of the entry at a byte.
+fn block_of(t: &[u8], at: usize) -> usize
+    requires { ⌜ at + 1 < length (now t) ⌝ }
+    ensures { λ r. ⌜ (r ≡ getWord 1 (now (t .entry)) at % 4096) × (r < 4096) ⌝ }
+{
+    let e = raw::raw16(t, at);
+    wide(e % 16 * 256 + e / 256)
+}
+
+// Block b is seen from here on, unless it is seen already, or is not below the limit.
+fn mark_block(seen: &mut [u8], b: usize, limit: usize) -> bool
+    requires { ⌜ (length (now seen) ≡ 512) × (b < 4096) ⌝ }
+    ensures { λ r. ⌜ Marks (through 1 (λ j. markNamed limit (stored (b + j)))) (now (seen .entry)) (now (seen .exit)) r ⌝ }
+{
+    if b >= limit {
+        return false;
+    }
+    let x = seen[b / 8];
+    let y = 128 >> (b % 8);
+    if x & y != 0 {
+        return false;
+    }
+    seen[b / 8] = x | y;
+    true
+}
+
+// The lowest bit of m that is set.
+fn lowest(m: u64) -> usize
+    requires { ⌜ 0 < m ⌝ }
+    ensures { λ r. ⌜ (r ≡ trailingZeros 64 m) × (r < 64) ⌝ }
+{
+    u64::trailing_zeros(m) as usize
+}
+
+// The pages of the mask m one by one.
+pub fn mark_pages(t: &[u8], seen: &mut [u8; 512], at: usize, m: u64, limit: usize) -> bool
+    requires { ⌜ (at + 128 ≤ length (now t)) × (length (now seen) ≡ 512) ⌝ }
+    ensures { λ r. ⌜ Moved limit (blockAt (now (t .entry)) at) (now (seen .entry)) (now (seen .exit)) (pages m) noPage r ⌝ }
+{
+    let mut left = m;
+    while left != 0 {
+        let k = lowest(left);
+        if !mark_block(seen, block_of(t, at + (63 - k) * 2), limit) {
+            return false;
+        }
+        left = left & (left - 1);
+    }
+    true
+}
+
+// The same of the blocks b to b + 3, by the word of 16 bits of the map that has them.
+fn mark_four(seen: &mut [u8], b: usize, limit: usize) -> bool
+    requires { ⌜ (length (now seen) ≡ 512) × (b < 4088) ⌝ }
+    ensures { λ r. ⌜ Marks (through 4 (λ j. markNamed limit (stored (b + j)))) (now (seen .entry)) (now (seen .exit)) r ⌝ }
+{
+    if b + 3 >= limit {
+        return false;
+    }
+    let x = words::read16(&*seen, b / 8);
+    let y = 0xF000 >> (b % 8);
+    if x & y != 0 {
+        return false;
+    }
+    words::write16(seen, b / 8, x | y);
+    true
+}
+
+fn long(x: u16) -> u64
+    ensures { λ r. ⌜ r ≡ x ⌝ }
+{
+    x as u64
+}
+
+// Do the four entries from a byte on name blocks in a row, all in one word of the map? Each is one more than that before
+// it; the low byte is the second.
+fn in_row(t: &[u8], at: usize) -> bool
+    requires { ⌜ at + 7 < length (now t) ⌝ }
+    ensures { λ r. ⌜ (r ≡ true → FourInARow (now (t .entry)) at) ⌝ }
+{
+    let e = raw::raw16(t, at);
+    if e >= 0xFD00 {
+        return false;
+    }
+    if raw::raw64(t, at) != long(e) * 0x0001_0001_0001_0001 + 0x0300_0200_0100_0000 {
+        return false;
+    }
+    block_of(t, at) < 4088
+}
+
+// Whether the blocks could be marked, and the pages that are left.
+pub struct Left {
+    pub ok: bool,
+    pub pages: u64,
+}
+
+// The four pages of the mask m that stand in its bits k to k + 3, if they name blocks in a row.
+fn mark_row(t: &[u8], seen: &mut [u8; 512], at: usize, m: u64, k: usize, limit: usize) -> Left
+    requires { ⌜ (at + 128 ≤ length (now t)) × (length (now seen) ≡ 512) × (k < 61) × Full m k ⌝ }
+    ensures { λ r. ⌜ RowMoved limit (blockAt (now (t .entry)) at) (now (seen .entry)) (now (seen .exit)) m k r ⌝ }
+{
+    let p = at + (60 - k) * 2;
+    if !in_row(t, p) {
+        return Left { ok: true, pages: m };
+    }
+    let b = block_of(t, p);
+    if !mark_four(seen, b, limit) {
+        return Left {
+            ok: false,
+            pages: m,
+        };
+    }
+    Left {
+        ok: true,
+        pages: m & !(15 << k),
+    }
+}
+
+// Each bit whose word of four pages is whole in the mask.
+fn rows_of(m: u64) -> u64
+    ensures { λ r. ⌜ r ≡ rows m ⌝ }
+{
+    let x = m & m >> 1;
+    x & x >> 2 & 0x1111_1111_1111_1111
+}
+
+// The words of four pages of the mask m that name blocks in a row.
+pub fn mark_rows(t: &[u8], seen: &mut [u8; 512], at: usize, m: u64, limit: usize) -> Left
+    requires { ⌜ (at + 128 ≤ length (now t)) × (length (now seen) ≡ 512) ⌝ }
+    ensures { λ r. ⌜ Moved limit (blockAt (now (t .entry)) at) (now (seen .entry)) (now (seen .exit)) (pages m) (pages (r .pages)) (r .ok) ⌝ }
+{
+    let mut left = Left { ok: true, pages: m };
+    let mut q = rows_of(m);
+    while q != 0 {
+        let k = lowest(q);
+        left = mark_row(t, seen, at, left.pages, k, limit);
+        if !left.ok {
+            return left;
+        }
+        q = q & (q - 1);
+    }
+    left
+}
