@@ -7,7 +7,7 @@
 
 enum { BLOCKS = 8, SWEEP_BYTES = 1500 }; /* a sweep takes three pages of 512 bytes */
 enum { WORK = 0, REFERENCE = 1, EVENING = 2 }; /* set 0 is written to; the two others are copies of it */
-enum { ANTENNA = 0, CABLE = 1 }; /* files have numbers; what they mean is the firmware's affair */
+enum { ANTENNA = 0, CABLE = 1 }; /* files have numbers; the firmware decides what they mean */
 
 /* The store lives in memory that the firmware owns. */
 static uint8_t tables[SWEEP_TABLES_BYTES], pages[BLOCKS * SWEEP_PAGE_BYTES];
@@ -40,7 +40,7 @@ static uint32_t store_sweep(uint32_t file, uint8_t level, size_t length)
     return done.number;
 }
 
-/* Reads a sweep's first points; a copy that fell out of sync is told apart by its number. */
+/* Reads a sweep's first points; a marked file gives number 6. */
 static uint32_t print_sweep(uint32_t set, uint32_t file)
 {
     uint8_t points[4];
@@ -79,7 +79,7 @@ int main(void)
 
     if (sweep_make(STORE, WORK, EVENING, 0).number != SWEEP_OK)
         return 1;
-    store_sweep(CABLE, 23, 1024); /* the store is full: the write is done and the copy is spent */
+    store_sweep(CABLE, 23, 1024); /* the store is full: the write is done and the copy's file is marked */
     if (print_sweep(EVENING, CABLE) == SWEEP_MARKED) {
         printf("set %d is made anew\n", EVENING); /* a marked file in a read-only set goes with its set */
         if (sweep_remove(STORE, EVENING).number != SWEEP_OK || sweep_make(STORE, WORK, EVENING, 0).number != SWEEP_OK)
