@@ -129,8 +129,8 @@ module _ (q left k : ℕ) (h : 0 < q) (lt : q < 2 ^ 64) (w : Whole q left) (z : 
 
 -- ---- what the code asks and learns
 
-pub room-of : (t : List ℕ) (at b : ℕ) → FourInARow t at → b ≡ getWord 1 t at % 4096 → b < 4088
-room-of t at b r e = subst (λ z. z < 4088) (ap (λ a. getWord 1 t a % 4096) (add-zero at) ∙ sym e) (r .room)
+pub room-of : (t : List ℕ) (at b : ℕ) → FourInARow t at → b ≡ getWord 1 t at % 4096 → b % 64 < 61
+room-of t at b r e = subst (λ z. z % 64 < 61) (ap (λ a. getWord 1 t a % 4096) (add-zero at) ∙ sym e) (r .room)
 
 pub as-said : (pass : Pass) (l l′ : List ℕ) (ok o : Bool) → ok ≡ o → Marks pass l l′ ok → Marks pass l l′ o
 as-said pass l l′ ok o e m = subst (Marks pass l l′) e m

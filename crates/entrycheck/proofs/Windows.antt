@@ -156,7 +156,7 @@ one-table : all 8 (λ s. all 8 (λ j. Bool·beq (isOne (bit (128 / 2 ^ s) (7 - j
 unfolding all bit inRun
 one-table = refl
 
-four-table : all 8 (λ s. all 16 (λ j. Bool·beq (isOne (bit (61440 / 2 ^ s) (15 - j))) (inRun s 4 j))) ≡ true
+four-table : all 61 (λ s. all 64 (λ j. Bool·beq (isOne (bit (0xF000000000000000 / 2 ^ s) (63 - j))) (inRun s 4 j))) ≡ true
 unfolding all bit inRun
 four-table = refl
 
@@ -170,9 +170,10 @@ one-digits : (s j : ℕ) → s < 8 → j < 8 → isOne (bit (128 / 2 ^ s) (7 - j
 one-digits s j h k =
     same _ _ (all-at 8 (λ j. Bool·beq (isOne (bit (128 / 2 ^ s) (7 - j))) (inRun s 1 j)) (all-at 8 (λ s. all 8 (λ j. Bool·beq (isOne (bit (128 / 2 ^ s) (7 - j))) (inRun s 1 j))) one-table s h) j k)
 
-four-digits : (s j : ℕ) → s < 8 → j < 16 → isOne (bit (61440 / 2 ^ s) (15 - j)) ≡ inRun s 4 j
+four-digits : (s j : ℕ) → s < 61 → j < 64 → isOne (bit (0xF000000000000000 / 2 ^ s) (63 - j)) ≡ inRun s 4 j
 four-digits s j h k =
-    same _ _ (all-at 16 (λ j. Bool·beq (isOne (bit (61440 / 2 ^ s) (15 - j))) (inRun s 4 j)) (all-at 8 (λ s. all 16 (λ j. Bool·beq (isOne (bit (61440 / 2 ^ s) (15 - j))) (inRun s 4 j))) four-table s h) j k)
+    same _ _ (all-at 64 (λ j. Bool·beq (isOne (bit (0xF000000000000000 / 2 ^ s) (63 - j))) (inRun s 4 j))
+    (all-at 61 (λ s. all 64 (λ j. Bool·beq (isOne (bit (0xF000000000000000 / 2 ^ s) (63 - j))) (inRun s 4 j))) four-table s h) j k)
 
 -- a word of bytes is put
 bytes-set : (l : List ℕ) (i v : ℕ) → i < length l → v < 256 → Bytes l → Bytes (set l i v)
@@ -181,9 +182,11 @@ bytes-set l i v h k bs j =
     (λ e. subst (λ z. z < 256) (sym (ap (λ z. getD (set l i v) z 0) e ∙ getD-set-same l i v 0 h)) k)
     (λ n. subst (λ z. z < 256) (sym (getD-set-other l i j v 0 n)) (bs j))
 
-bytes-put : (l : List ℕ) (i v : ℕ) → i + 1 < length l → v < 65536 → Bytes l → Bytes (putWord 1 l i v)
+bytes-put : (m : ℕ) (l : List ℕ) (i v : ℕ) → i + m < length l → v < 256 ^ suc m → Bytes l → Bytes (putWord m l i v)
 unfolding putWord
-bytes-put l i v h k bs = bytes-set (set l i (v / 256)) (i + 1) (v % 256) (rw (length-set l i (v / 256)) h) (omega arith) (bytes-set l i (v / 256) (omega arith) (omega arith) bs)
+bytes-put zero l i v h k bs = bytes-set l i v (omega arith) (omega arith) bs
+bytes-put (suc m) l i v h k bs =
+    bytes-set (putWord m l i (v / 256)) (i + suc m) (v % 256) (rw (length-put m l i (v / 256)) h) (omega arith) (bytes-put m l i (v / 256) (omega arith) (omega arith) bs)
 
 shr-le : (x s : ℕ) → x / 2 ^ s ≤ x
 shr-le x s = div-le-self x (2 ^ s)
@@ -218,20 +221,26 @@ module _ (limit : ℕ) (l : List ℕ) (bs : Bytes l) (len : length l ≡ 512) (b
         moved 1 _ true (run-marked zero l bs (b / 8) mask1 (b % 8) 1 (omega arith) (λ j q. one-digits (b % 8) j (omega arith) q) limit len
         (omega arith) v (bytes-set l (b / 8) (bitOr byte1 mask1) (omega arith) v bs) (omega arith) e)
 
-  module _ (h : b < 4088) where
-    abbrev word2 : ℕ
-    word2 = getWord 1 l (b / 8)
+  module _ (h : b < 4096) (room : b % 64 < 61) where
+    abbrev word8 : ℕ
+    word8 = getWord 7 l (b / 64 * 8)
 
-    abbrev mask2 : ℕ
-    mask2 = 61440 / 2 ^ (b % 8)
+    abbrev mask8 : ℕ
+    mask8 = 0xF000000000000000 / 2 ^ (b % 64)
+
+    at-word : 8 * (b / 64 * 8) + b % 64 ≡ b
+    at-word = omega arith
 
     -- LAWS: four blocks
-    pub four-clash : (bitAnd word2 mask2 ≡ 0 → ⊥) → Run 4 l false
-    four-clash k = moved 4 l false (run-clash 1 l bs (b / 8) mask2 (b % 8) 4 (omega arith) (λ j q. four-digits (b % 8) j (omega arith) q) limit len
-        (and-lt 16 word2 mask2 (get-lt 1 l (b / 8) bs) (let q = shr-le 61440 (b % 8) in omega arith)) k)
+    pub four-clash : (bitAnd word8 mask8 ≡ 0 → ⊥) → Run 4 l false
+    four-clash k =
+        subst (λ c. Marks (runPass limit c 4) l l false) at-word
+        (run-clash 7 l bs (b / 64 * 8) mask8 (b % 64) 4 (omega arith) (λ j q. four-digits (b % 64) j room q) limit len
+        (and-lt 64 word8 mask8 (get-lt 7 l (b / 64 * 8) bs) (let q = shr-le 0xF000000000000000 (b % 64) in omega arith)) k)
 
-    pub four-marked : b + 3 < limit → bitAnd word2 mask2 ≡ 0 → Run 4 (putWord 1 l (b / 8) (bitOr word2 mask2)) true
+    pub four-marked : b + 3 < limit → bitAnd word8 mask8 ≡ 0 → Run 4 (putWord 7 l (b / 64 * 8) (bitOr word8 mask8)) true
     four-marked k e =
-        let v : bitOr word2 mask2 < 65536 = or-lt 16 word2 mask2 (get-lt 1 l (b / 8) bs) (let q = shr-le 61440 (b % 8) in omega arith) in
-        moved 4 _ true (run-marked 1 l bs (b / 8) mask2 (b % 8) 4 (omega arith) (λ j q. four-digits (b % 8) j (omega arith) q) limit len
-        (omega arith) v (bytes-put l (b / 8) (bitOr word2 mask2) (omega arith) v bs) (omega arith) e)
+        let v : bitOr word8 mask8 < 256 ^ 8 = or-lt 64 word8 mask8 (get-lt 7 l (b / 64 * 8) bs) (let q = shr-le 0xF000000000000000 (b % 64) in omega arith) in
+        subst (λ c. Marks (runPass limit c 4) l (putWord 7 l (b / 64 * 8) (bitOr word8 mask8)) true) at-word
+        (run-marked 7 l bs (b / 64 * 8) mask8 (b % 64) 4 (omega arith) (λ j q. four-digits (b % 64) j room q) limit len
+        (omega arith) v (bytes-put 7 l (b / 64 * 8) (bitOr word8 mask8) (omega arith) v bs) (omega arith) e)

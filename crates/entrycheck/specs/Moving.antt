@@ -50,10 +50,10 @@ Full m k = (j : ℕ) → j < 4 → isOne (bit m (k + j)) ≡ true
 unfoldable pub rows : ℕ → ℕ
 rows m = let x = bitAnd m (m / 2) in bitAnd (bitAnd x (x / 4)) 0x1111111111111111
 
--- the four entries from byte `at` on name blocks in a row, which stand in one word of 16 bits of the map
+-- the four entries from byte `at` on name blocks in a row, which stand in one word of 64 bits of the map
 pub record FourInARow (t : List ℕ) (at : ℕ) : Type 0 where
   pub row : (j : ℕ) → j < 4 → blockAt t at j ≡ blockAt t at 0 + j
-  pub room : blockAt t at 0 < 4088
+  pub room : blockAt t at 0 % 64 < 61
 
 -- the pages of the bits k, .., k + 3 and no other
 pub record RowMoved (limit : ℕ) (block : ℕ → ℕ) (seen seen′ : List ℕ) (m k : ℕ) (r : Left) : Type 0 where

@@ -69,20 +69,21 @@ pub fn mark_pages(t: &[u8], seen: &mut [u8; 512], at: usize, m: u64, limit: usiz
     true
 }
 
-// The same of the blocks b to b + 3, by the word of 16 bits of the map that has them.
+// The same of the blocks b to b + 3, by the word of 64 bits of the map that has them: blocks that follow each other then change the
+// same word, which the processor has at hand from the last store.
 fn mark_four(seen: &mut [u8], b: usize, limit: usize) -> bool
-    requires { ⌜ (length (now seen) ≡ 512) × (b < 4088) ⌝ }
+    requires { ⌜ (length (now seen) ≡ 512) × (b < 4096) × (b % 64 < 61) ⌝ }
     ensures { λ r. ⌜ Marks (through 4 (λ j. markNamed limit (stored (b + j)))) (now (seen .entry)) (now (seen .exit)) r ⌝ }
 {
     if b + 3 >= limit {
         return false;
     }
-    let x = words::read16(&*seen, b / 8);
-    let y = 0xF000 >> (b % 8);
+    let x = words::read64(&*seen, b / 64 * 8);
+    let y = 0xF000_0000_0000_0000 >> (b % 64);
     if x & y != 0 {
         return false;
     }
-    words::write16(seen, b / 8, x | y);
+    words::write64(seen, b / 64 * 8, x | y);
     true
 }
 
@@ -99,13 +100,10 @@ fn in_row(t: &[u8], at: usize) -> bool
     ensures { λ r. ⌜ (r ≡ true → FourInARow (now (t .entry)) at) ⌝ }
 {
     let e = raw::raw16(t, at);
-    if e >= 0xFD00 {
+    if e / 256 % 64 > 60 {
         return false;
     }
-    if raw::raw64(t, at) != long(e) * 0x0001_0001_0001_0001 + 0x0300_0200_0100_0000 {
-        return false;
-    }
-    block_of(t, at) < 4088
+    raw::raw64(t, at) == long(e) * 0x0001_0001_0001_0001 + 0x0300_0200_0100_0000
 }
 
 // Whether the blocks could be marked, and the pages that are left.

@@ -142,3 +142,17 @@ byte-lt (suc m) w j h =
     same? j (suc m)
     (λ e. rw (eq-eqb j (suc m) e) (omega arith))
     (λ n. rw (ne-eqb j (suc m) n) (byte-lt m (w / 256) j (omega arith)))
+
+-- a word of 64 bits is put as two of 32
+pub put-halves : (t : List ℕ) (at v : ℕ) → putWord 3 (putWord 3 t at (v / 4294967296)) (at + 4) (v % 4294967296) ≡ putWord 7 t at v
+unfolding putWord
+put-halves t at v =
+    let i : at + 4 + 1 ≡ at + 5 = omega arith in
+    let j : at + 4 + 2 ≡ at + 6 = omega arith in
+    let k : at + 4 + 3 ≡ at + 7 = omega arith in
+    let a : v / 256 / 256 / 256 / 256 ≡ v / 4294967296 = omega arith in
+    let b : v % 4294967296 / 256 / 256 / 256 ≡ v / 256 / 256 / 256 % 256 = omega arith in
+    let c : v % 4294967296 / 256 / 256 % 256 ≡ v / 256 / 256 % 256 = omega arith in
+    let d : v % 4294967296 / 256 % 256 ≡ v / 256 % 256 = omega arith in
+    let e : v % 4294967296 % 256 ≡ v % 256 = omega arith in
+    rw (i, j, k, a, b, c, d, e)

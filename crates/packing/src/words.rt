@@ -97,3 +97,11 @@ pub fn write32(t: &mut [u8], at: usize, v: u32)
     t[at + 2] = (v / 256 % 256) as u8;
     t[at + 3] = (v % 256) as u8;
 }
+
+pub fn write64(t: &mut [u8], at: usize, v: u64)
+    requires { ⌜ at + 7 < length (now t) ⌝ }
+    ensures { λ r. ⌜ now (t .exit) ≡ putWord 7 (now (t .entry)) at v ⌝ }
+{
+    write32(t, at, (v / 4294967296) as u32);
+    write32(t, at + 4, (v % 4294967296) as u32);
+}

@@ -14,7 +14,7 @@ mark-four-requires c κs =
     let i1 = c .before .before in
     let r = i1 .before .in-row in
     let s = i1 .before .before .before in
-    (s .pre .1, room-of _ _ (b .result) (r .ensures (not-false (r .result) (i1 .if1 .left))) (b .ensures .0))
+    (s .pre .1, b .ensures .1, room-of _ _ (b .result) (r .ensures (not-false (r .result) (i1 .if1 .left))) (b .ensures .0))
 
 returns-2 : tie.Need-returns-2
 returns-2 c =
