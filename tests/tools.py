@@ -183,11 +183,9 @@ class Picture(unittest.TestCase):
         for listing in (small, "set 0 0 8 1\n", "call 1 1 0 0 0 0\nend 2\nset 0 0 8 1\n", read("tests/sessions/worked-session.out")):
             xml.fromstring(self.drawn(listing))
 
-    def test_a_hole_of_a_copy_is_not_read_through(self):
-        above = "set 0 0 8 1\nfile 0 0 1 1024\next 0 0\next 2 -1\next 64 -1\nset 1 1 0 0\nfile 1 0 1 1024\n"
-        for block, shared in (("-1", 2), ("-2", 1)):
-            svg = self.drawn(f"{above}ext 0 {block}\next 1 -1\next 64 -1\n")
-            self.assertEqual(len(self.parts(svg, "shared")), shared)
+    def test_pages_without_a_block_in_a_copy_are_read_through(self):
+        svg = self.drawn("set 0 0 8 1\nfile 0 0 1 1024\next 0 0\next 2 -1\next 64 -1\nset 1 1 0 0\nfile 1 0 1 1024\next 0 -1\next 64 -1\n")
+        self.assertEqual(len(self.parts(svg, "shared")), 2)
 
     def test_number_of_blocks(self):
         self.assertIn("Blocks 0 to 63", self.drawn(self.listing))
@@ -218,8 +216,8 @@ class Picture(unittest.TestCase):
             start + "set 1 1 0 1\n": "line 3: expected 'ext 64 -1' at the end of a file; found a line 'set'",
             start + "ext 1 0\n": "line 3: expected page 0 first; found 1",
             start + "ext 0 0\next 0 1\n": "line 4: expected a page from 1 to 64; found 0",
-            start + "ext 0 -3\n": "line 3: expected -2, -1 or a block from 0 to 4095; found -3",
-            start + "ext 0 4096\n": "line 3: expected -2, -1 or a block from 0 to 4095; found 4096",
+            start + "ext 0 -2\n": "line 3: expected -1 or a block from 0 to 4095; found -2",
+            start + "ext 0 4096\n": "line 3: expected -1 or a block from 0 to 4095; found 4096",
             start + "ext 0 0\next 64 0\n": "line 4: expected -1 after page 64; found 0",
             start + "ext 0 0\next 2 1\next 64 -1\n": "line 5: expected each block once; found block 1 also in file 0 of set 0",
         }

@@ -9,7 +9,7 @@ pages have the colour of the set that holds them. A page that a copy reads throu
 and a dot; its block has a thick frame and the number of sets that read it through others. Marked files are struck out.
 
 A listing shows a hole of a copy as -1 like a page that was not copied yet; where the parent has that page stored, it is drawn
-as read through the parent. A -2 is drawn as a hole. Blocks of marked files are not in a listing.
+as read through the parent. Blocks of marked files are not in a listing.
 Exit status: 0 well, 1 a bad listing (the line is named with what was expected), 2 bad usage.
 """
 import collections
@@ -39,7 +39,7 @@ class Set:
 class File:
     def __init__(self, number, state, size):
         self.number, self.state, self.size = number, state, size
-        self.extents = []  # (first page, block, or -1 or -2)
+        self.extents = []  # (first page, block or -1)
         self.closed = state == 3
 
     def blocks(self):
@@ -49,11 +49,6 @@ class File:
         for (first, block), end in zip(self.extents, ends):
             found += [block + step if block >= 0 else None for step in range(end - first)]
         return found
-
-    def holes(self):
-        """The pages that are shown as holes."""
-        ends = [first for first, _ in self.extents[1:]] + [PAGES]
-        return {page for (first, block), end in zip(self.extents, ends) if block == -2 for page in range(first, end)}
 
 
 # Reading a listing
@@ -107,7 +102,7 @@ class Reader:
             expect(block == -1, "-1 after page 64", block)
             file.closed = True
             return
-        expect(-2 <= block < MOST_BLOCKS, f"-2, -1 or a block from 0 to {MOST_BLOCKS - 1}", block)
+        expect(-1 <= block < MOST_BLOCKS, f"-1 or a block from 0 to {MOST_BLOCKS - 1}", block)
         file.extents.append((first, block))
 
     def hold(self, file, first, block, end):
@@ -151,8 +146,6 @@ def resolve(sets, number, file, page):
         block = record.blocks()[page]
         if block is not None:
             return entry.number, block
-        if page in record.holes():
-            break
         entry = sets.get(entry.parent)
     return None, None
 

@@ -1,5 +1,5 @@
 //! A second implementation of the sweep store, written from document 01 and
-//! the list of readings alone. Clarity goes before speed: each call unpacks
+//! its readings (docs/DECISIONS.md) alone. Clarity goes before speed: each call unpacks
 //! the tables to a plain state, does the paper's steps, and packs.
 //!
 //! The words are those of document 01: set, file, page, block, own, virgin,

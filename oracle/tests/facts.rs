@@ -1,4 +1,4 @@
-//! Facts of the readings, held after every call of random histories.
+//! Facts about every store (docs/DECISIONS.md, "Readings of 01"), held after every call of random histories.
 
 use oracle::call::*;
 use oracle::gen;

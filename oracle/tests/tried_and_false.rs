@@ -1,5 +1,5 @@
-//! The candidates of the readings' table "Tried and false": each call list
-//! indeed breaks its candidate. The lists run with plain store and tally
+//! Claims about the store that one could believe and that are false: each
+//! list of calls breaks its claim. The lists run with plain store and tally
 //! beside.
 
 use oracle::bench::{Bench, NoOther};

@@ -9,7 +9,7 @@ int LLVMFuzzerInitialize(int *count, char ***words)
 {
     (void)count;
     (void)words;
-    return atexit(show_tally);
+    return atexit(show_totals);
 }
 
 int LLVMFuzzerTestOneInput(const uint8_t *data, size_t length)

@@ -18,7 +18,7 @@ extern sweep_answer judge(uint32_t call, uint8_t *tables, size_t tables_length, 
 enum { FORMAT, CREATE, WRITE, READ, TRUNCATE, DELETE, MAKE, REMOVE, SIZE, FREE };
 const char *const call_names[CALLS] = {"format", "create", "write",  "read", "truncate",
                                        "delete", "make",   "remove", "size", "free"};
-struct tally tally;
+struct totals totals;
 
 /* Room for buffers */
 
@@ -163,23 +163,23 @@ static void compare(const struct call *call, const struct store *before, sweep_a
 
 static void count(const struct call *call, sweep_answer answer)
 {
-    tally.calls[call->name][answer.number]++;
+    totals.calls[call->name][answer.number]++;
     if (call->name == WRITE || call->name == TRUNCATE || call->name == DELETE) {
-        tally.copies += answer.second;
-        tally.marked += answer.third;
+        totals.copies += answer.second;
+        totals.marked += answer.third;
     }
 }
 
-void show_tally(void)
+void show_totals(void)
 {
     for (int name = 0; name < CALLS; name++) {
         printf("%s:", call_names[name]);
         for (int number = 0; number < NUMBERS; number++)
-            if (tally.calls[name][number])
-                printf(" %d: %llu", number, (unsigned long long)tally.calls[name][number]);
+            if (totals.calls[name][number])
+                printf(" %d: %llu", number, (unsigned long long)totals.calls[name][number]);
         printf("\n");
     }
-    printf("copies %llu, files marked %llu\n", (unsigned long long)tally.copies, (unsigned long long)tally.marked);
+    printf("copies %llu, files marked %llu\n", (unsigned long long)totals.copies, (unsigned long long)totals.marked);
 }
 
 /* Does a call on the exported functions and on the judge, and compares the answers and every byte. */
@@ -243,7 +243,7 @@ static uint32_t pick(const uint32_t *list, size_t size, uint8_t byte)
 }
 #define PICK(list, byte) pick(list, sizeof list / sizeof *list, byte)
 
-static const uint32_t hostile_numbers[] = {7, 8, 15, 16, 255, 0x7FFFFFFF, 0x80000000, 0xFFFFFFFF};
+static const uint32_t numbers_out_of_range[] = {7, 8, 15, 16, 255, 0x7FFFFFFF, 0x80000000, 0xFFFFFFFF};
 
 /* What the tables say, whatever they hold: whether a set is used, and whether a file is present. */
 static int is_used(const struct store *store, uint32_t set)
@@ -256,14 +256,14 @@ static int is_present(const struct store *store, uint32_t set, uint32_t file)
     return set < SWEEP_SETS && store->tables[540 + 132 * (SWEEP_FILES * set + file)] >> 6;
 }
 
-/* Mostly a set that is used, or one that is not, as asked; sometimes any, sometimes a hostile number. */
+/* Mostly a set that is used, or one that is not, as asked; sometimes any, sometimes a number out of range. */
 static uint32_t some_set(const struct store *store, struct cursor *cursor, int used)
 {
     uint8_t byte = next(cursor);
     for (uint32_t step = 0; byte < 240 && step < SWEEP_SETS; step++)
         if (is_used(store, (byte + step) % SWEEP_SETS) == used)
             return (byte + step) % SWEEP_SETS;
-    return byte < 248 ? byte % SWEEP_SETS : PICK(hostile_numbers, byte);
+    return byte < 248 ? byte % SWEEP_SETS : PICK(numbers_out_of_range, byte);
 }
 
 /* Mostly a file of the set that is present, or one of three that is not, as asked. */
@@ -274,17 +274,17 @@ static uint32_t some_file(const struct store *store, struct cursor *cursor, uint
     for (uint32_t step = 0; byte < 240 && step < few; step++)
         if (!!is_present(store, set, (byte + step) % few) == present)
             return (byte + step) % few;
-    return byte < 248 ? byte % SWEEP_FILES : PICK(hostile_numbers, byte);
+    return byte < 248 ? byte % SWEEP_FILES : PICK(numbers_out_of_range, byte);
 }
 
 /* Mostly near the edge of one of the first pages. */
 static uint32_t place_in_file(struct cursor *cursor)
 {
-    static const uint32_t hostile[] = {32767, 32768, 32769, 65535, 65536, 0x7FFFFFFF, 0xFFFFFE00, 0xFFFFFFFF};
+    static const uint32_t out_of_range[] = {32767, 32768, 32769, 65535, 65536, 0x7FFFFFFF, 0xFFFFFE00, 0xFFFFFFFF};
     static const uint32_t within[] = {0, 0, 0, 1, 100, 511, 256, 300};
     uint8_t byte = next(cursor);
     if (byte >= 248)
-        return PICK(hostile, byte);
+        return PICK(out_of_range, byte);
     uint32_t page = byte < 200 ? byte % 10 : byte % SWEEP_FILE_PAGES;
     return page * SWEEP_PAGE_BYTES + PICK(within, next(cursor));
 }
@@ -314,11 +314,11 @@ static void choose_pages(struct store *store, struct cursor *cursor)
 /* The same, sometimes with a length that no store has. */
 static void choose_any_pages(struct store *store, struct cursor *cursor)
 {
-    static const uint32_t hostile[] = {0, 1, 511, 513, 1000, 40959};
+    static const uint32_t out_of_range[] = {0, 1, 511, 513, 1000, 40959};
     choose_pages(store, cursor);
     uint8_t byte = next(cursor);
     if (byte >= 192)
-        store->pages_length = PICK(hostile, byte);
+        store->pages_length = PICK(out_of_range, byte);
 }
 
 static void choose_lengths(struct store *store, struct cursor *cursor)

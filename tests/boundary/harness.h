@@ -10,12 +10,12 @@ enum { CALLS = 10, NUMBERS = 13 };
 extern const char *const call_names[CALLS];
 
 /* What has been run: calls and the numbers they gave, copies, marked files. */
-struct tally {
+struct totals {
     uint64_t calls[CALLS][NUMBERS];
     uint64_t copies, marked;
 };
-extern struct tally tally;
-void show_tally(void);
+extern struct totals totals;
+void show_totals(void);
 
 /* One call: its place in call_names, its numbers as in sweep.h, and the data of a write or the buffer of a read. */
 struct call {

@@ -33,6 +33,6 @@ int main(int count, char **words)
         lists++;
     } while (time(0) < end);
     printf("lists %lu\n", lists);
-    show_tally();
+    show_totals();
     return 0;
 }
