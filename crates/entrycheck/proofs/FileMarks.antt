@@ -10,15 +10,17 @@ use lib.ListN.{getD, length}
 use borrow.Author.Tests.{eq-eqb, eqb-true, le-ltb, lt-ltb, ltb-false, ltb-true, ne-eqb}
 use Rattle.base.specs.Count.{all, all-at, all-of, sum}
 use Rattle.base.specs.Logic.{and-both, and-left, and-right, digit, test?}
+use Rattle.entrycheck.specs.Plain.{plain, plainAt}
+use Rattle.masks.proofs.KindMasks.{no-three, read-page, some-three, stored-mask, stored-page, unmapped-mask, word-lt}
+use Rattle.masks.proofs.PageMasks.{mask-all, mask-none}
+use Rattle.masks.specs.Network.{holesOf, storedOf}
+use Rattle.masks.specs.Pages.{pages}
+use Rattle.masks.specs.Raw.{wordsAt}
 use Rattle.entrycheck.proofs.Counts.{counts-none, counts-some}
 use Rattle.entrycheck.proofs.EntriesFormed.{file-counts, good, hit}
-use Rattle.entrycheck.proofs.KindMasks.{no-three, read-page, some-three, stored-mask, stored-page, unmapped-mask, word-lt}
 use Rattle.entrycheck.proofs.MovedPages.{moved-ok, moved-then, times-none}
-use Rattle.entrycheck.proofs.PageMasks.{mask-all, mask-none}
 use Rattle.entrycheck.specs.Marking.{FileMarked, Marks, markFile}
-use Rattle.entrycheck.specs.Moving.{Moved, blockAt, noPage, pages, timesLeft}
-use Rattle.entrycheck.specs.Network.{holesOf, storedOf}
-use Rattle.entrycheck.specs.Raw.{plain, plainAt, wordsAt}
+use Rattle.entrycheck.specs.Moving.{Moved, blockAt, noPage, timesLeft}
 use Rattle.packing.specs.Bitmap.{bitAt, isOne}
 use Rattle.packing.specs.Words.{Bytes, getWord}
 use Rattle.packing.specs.Zeros.{zero-at, zeroBytes}

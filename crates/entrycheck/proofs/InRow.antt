@@ -4,9 +4,9 @@ use mathlib.Core.Path.{ap, refl, sym, _∙_, _≡_}
 use Prim.Native.Nat.{_%_, _*_, _+_, _/_, _<_, suc, zero, ℕ}
 use native.Mathlib.Omega.{arith}
 use lib.ListN.{getD}
-use Rattle.entrycheck.proofs.LowWords.{low-eight, low-four}
+use Rattle.masks.proofs.LowWords.{low-eight, low-four}
+use Rattle.masks.specs.Raw.{lowWord}
 use Rattle.entrycheck.specs.Moving.{FourInARow}
-use Rattle.entrycheck.specs.Raw.{lowWord}
 use Rattle.packing.specs.Words.{Bytes, getWord}
 
 -- numbers of two digits are the same where their digits are

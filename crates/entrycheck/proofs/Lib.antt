@@ -2,11 +2,7 @@ pub mod Through
 pub mod Counts
 pub mod EntriesFormed
 pub mod NoBits
-pub mod PageMasks
 pub mod BytesEqual
-pub mod LowWords
-pub mod LowestBit
-pub mod Tracks
 pub mod Runs
 pub mod Windows
 pub mod MovedPages
@@ -14,5 +10,4 @@ pub mod PageBits
 pub mod RowMarks
 pub mod InRow
 pub mod PlainBlocks
-pub mod KindMasks
 pub mod FileMarks

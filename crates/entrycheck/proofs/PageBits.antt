@@ -10,12 +10,13 @@ use lib.Pow.{pow-mono, pow-pos}
 use borrow.Author.Tests.{eqb-true, ltb-false, ltb-true}
 use Rattle.base.specs.Count.{all, all-at}
 use Rattle.base.specs.Logic.{and-left, and-right, test?}
-use Rattle.entrycheck.proofs.LowestBit.{Lowest}
+use Rattle.masks.proofs.Digits.{and-digit}
+use Rattle.masks.proofs.LowestBit.{Lowest}
+use Rattle.masks.proofs.Tracks.{and-one, bit-above, bit-below}
+use Rattle.masks.specs.Pages.{pages}
 use Rattle.entrycheck.proofs.MovedPages.{without}
 use Rattle.entrycheck.proofs.Runs.{in-run, inRun, not-in-run, run?}
-use Rattle.entrycheck.proofs.Tracks.{and-one, bit-above, bit-below}
-use Rattle.entrycheck.proofs.Windows.{and-digit}
-use Rattle.entrycheck.specs.Moving.{Full, pages, rows}
+use Rattle.entrycheck.specs.Moving.{Full, rows}
 use Rattle.packing.specs.Bitmap.{isOne}
 use Rattle.packing.specs.Bits.{bit, bit-and, bit-lt, bit-mod, bit-not, bit-shr}
 

@@ -12,8 +12,9 @@ use lib.ListN.{getD}
 use borrow.Author.Tests.{eq-eqb, eqb-false, eqb-true, le-ltb, lt-ltb, ltb-false, ltb-true, ne-eqb}
 use Rattle.base.specs.Count.{all, all-more, all-none}
 use Rattle.base.specs.Logic.{test?}
-use Rattle.entrycheck.proofs.Windows.{and-digit, or-digit, zero-digits}
-use Rattle.entrycheck.specs.Raw.{lowWord, plain, plainAt}
+use Rattle.entrycheck.specs.Plain.{plain, plainAt}
+use Rattle.masks.proofs.Digits.{and-digit, or-digit, zero-digits}
+use Rattle.masks.specs.Raw.{lowWord}
 use Rattle.packing.specs.Bitmap.{isOne}
 use Rattle.packing.specs.Bits.{bit, bit-and, bit-lt, bit-none, bit-or}
 use Rattle.packing.specs.Words.{Bytes, getWord}

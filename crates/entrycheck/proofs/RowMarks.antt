@@ -5,16 +5,17 @@ use mathlib.Core.Path.{ap, refl, subst, sym, _∙_, _≡_}
 use Prim.Native.Nat.{_%_, _*_, _+_, _-_, _/_, _<_, _^_, ℕ, _≤_}
 use native.Mathlib.Nat.{add-zero, lt-of-le-of-lt}
 use native.Mathlib.Omega.{arith}
-use lib.Bits.{and-le-l, and-le-r, bitAnd}
+use lib.Bits.{and-le-r, bitAnd}
 use lib.Count.{trailingZeros}
 use lib.ListN.{length}
 use Rattle.base.specs.Logic.{same?}
-use Rattle.entrycheck.proofs.LowestBit.{Lowest, lowest-is}
+use Rattle.masks.proofs.LowestBit.{Lowest, lowest-is}
+use Rattle.masks.specs.Pages.{pages}
 use Rattle.entrycheck.proofs.MovedPages.{moved-left, moved-none, moved-then, row-fails, row-moved, without}
 use Rattle.entrycheck.proofs.PageBits.{cleared-pages, four-cleared, lowest-cleared, rest, rows-on}
 use Rattle.entrycheck.proofs.Runs.{runPass}
 use Rattle.entrycheck.specs.Marking.{Marks, Pass}
-use Rattle.entrycheck.specs.Moving.{FourInARow, Full, Moved, RowMoved, blockAt, noPage, pages, rows}
+use Rattle.entrycheck.specs.Moving.{FourInARow, Full, Moved, RowMoved, blockAt, noPage, rows}
 use Rattle.packing.specs.Bitmap.{isOne}
 use Rattle.packing.specs.Bits.{bit, bit-none}
 use Rattle.packing.specs.Words.{getWord}
@@ -104,12 +105,6 @@ whole-start m k h e = rows-on m k h e
 pub rows-lt : (m : ℕ) → rows m < 2 ^ 64
 unfolding rows
 rows-lt m = let x = bitAnd m (m / 2) in lt-of-le-of-lt (and-le-r (bitAnd x (x / 4)) 0x1111111111111111) (omega arith)
-
-pub less-lt : (q : ℕ) → q < 2 ^ 64 → bitAnd q (q - 1) < 2 ^ 64
-less-lt q h = lt-of-le-of-lt (and-le-l q (q - 1)) h
-
-pub less : (q : ℕ) → 0 < q → bitAnd q (q - 1) < q
-less q h = let r = and-le-r q (q - 1) in omega arith
 
 module _ (q left k : ℕ) (h : 0 < q) (lt : q < 2 ^ 64) (w : Whole q left) (z : k ≡ trailingZeros 64 q) where
   lowest-row : (k < 64) × Lowest q (bitAnd q (q - 1)) k

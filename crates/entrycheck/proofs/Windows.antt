@@ -8,7 +8,6 @@ use native.Mathlib.Omega.{arith}
 use lib.Bits.{and-lt, bitAnd, bitOr, or-lt}
 use lib.Dec.{ltb}
 use lib.ListN.{getD, length, length-set, set}
-use lib.Pow.{pow-pos}
 use lib.Seq.{getD-set-other, getD-set-same}
 use borrow.Author.Tests.{lt-ltb, ltb-true}
 use Rattle.base.specs.Count.{all, all-at, all-of}
@@ -16,31 +15,12 @@ use Rattle.base.specs.Logic.{digit, same?}
 use Rattle.entrycheck.proofs.Counts.{counts-none, counts-some}
 use Rattle.entrycheck.proofs.Runs.{in-run, inRun, not-in-run, run-counts, run-sum, run?, runPass}
 use Rattle.entrycheck.specs.Marking.{Marks}
-use Rattle.packing.specs.Bitmap.{bitAt, bits-same, isOne, number-of, word-bit}
+use Rattle.masks.proofs.Digits.{and-digit, or-digit, zero-digits}
+use Rattle.packing.specs.Bitmap.{bitAt, bits-same, isOne, word-bit}
 use Rattle.packing.specs.Bits.{bit, bit-and, bit-lt, bit-none, bit-or}
 use Rattle.packing.specs.Words.{Bytes, get-lt, get-put-same, getWord, length-put, put-same, putWord}
 
 -- ---- binary digits
-
-pub and-digit : (a b : ℕ) → a < 2 → b < 2 → isOne (bitAnd a b) ≡ (isOne a && isOne b)
-and-digit zero b h k = refl
-and-digit (suc zero) zero h k = refl
-and-digit (suc zero) (suc zero) h k = refl
-and-digit (suc zero) (suc (suc b)) h k = absurd (omega arith)
-and-digit (suc (suc a)) b h k = absurd (omega arith)
-
-pub or-digit : (a b : ℕ) → a < 2 → b < 2 → isOne (bitOr a b) ≡ (isOne a || isOne b)
-or-digit zero zero h k = refl
-or-digit zero (suc b) h k = refl
-or-digit (suc zero) zero h k = refl
-or-digit (suc zero) (suc zero) h k = refl
-or-digit (suc zero) (suc (suc b)) h k = absurd (omega arith)
-or-digit (suc (suc a)) b h k = absurd (omega arith)
-
--- a number of n digits that are all 0
-pub zero-digits : (n x : ℕ) → x < 2 ^ n → ((j : ℕ) → j < n → isOne (bit x (n - 1 - j)) ≡ false) → x ≡ 0
-zero-digits n x h z =
-    sym (number-of (λ p. false) 0 n x h (λ j l. z j l)) ∙ number-of (λ p. false) 0 n 0 (pow-pos n) (λ j l. ap isOne (bit-none (n - 1 - j)))
 
 or-false : (a : Bool) → (a || false) ≡ a
 or-false true = refl

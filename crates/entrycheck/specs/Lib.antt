@@ -1,4 +1,3 @@
 pub mod Marking
-pub mod Raw
-pub mod Network
+pub mod Plain
 pub mod Moving

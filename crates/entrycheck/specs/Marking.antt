@@ -9,7 +9,8 @@ use lib.Dec.{ltb}
 use lib.ListN.{length}
 use Rattle.base.specs.Count.{all, all-at, all-of}
 use Rattle.base.specs.Update.{upd}
-use Rattle.packing.specs.Bitmap.{bitAt, number}
+use Rattle.masks.specs.Pages.{pageMask}
+use Rattle.packing.specs.Bitmap.{bitAt}
 use Rattle.rules.specs.State.{Entry, fileCount, hole, isStored, isUnmapped, largestBlocks, pageCount, setCount, stored, unmapped}
 use Rattle.tables.specs.Layout.{entryWord, readEntry}
 use Rattle.tables.specs.Packed.{entryFormed, unpack}
@@ -112,10 +113,6 @@ outcome ok seen = cond ok (some seen) none
 pub record Marks (pass : Pass) (seen seen′ : List ℕ) (ok : Bool) : Type 0 where
   pub marks : pass (bitAt seen 0) ≡ outcome ok (bitAt seen′ 0)
   pub len : length seen′ ≡ 512
-
--- which pages of a map pass a test, as 64 binary digits: page 0 is the most significant
-abbrev pub pageMask : (Entry ℕ → Bool) → (ℕ → Entry ℕ) → ℕ
-pageMask test map = number (λ p. test (map p)) 0 pageCount
 
 -- the entries of file f in set s: what is seen, and which pages are stored and which unmapped
 pub record FileMarked (limit : ℕ) (t : List ℕ) (f s : ℕ) (seen seen′ : List ℕ) (r : Masks) : Type 0 where

@@ -3,20 +3,17 @@
 use mathlib.Core.Bool.{_&&_, Bool, false, true}
 use mathlib.Core.List.{List}
 use mathlib.Core.Path.{_≡_}
-use Prim.Native.Nat.{_%_, _*_, _+_, _-_, _/_, _<_, ℕ, _≤_}
+use Prim.Native.Nat.{_%_, _*_, _+_, _/_, _<_, ℕ, _≤_}
 use lib.Bits.{bitAnd}
 use lib.Dec.{eqb}
 use lib.ListN.{length}
 use Rattle.base.specs.Count.{count}
 use Rattle.base.specs.Logic.{digit}
+use Rattle.masks.specs.Pages.{pages}
 use Rattle.packing.specs.Bitmap.{bitAt, isOne}
 use Rattle.packing.specs.Bits.{bit}
 use Rattle.packing.specs.Words.{getWord}
 use Rattle.entrycheck.specs.declared.marks.Left.{Left}
-
--- the pages of a mask: page 0 is the most significant bit
-abbrev pub pages : ℕ → ℕ → Bool
-pages m p = isOne (bit m (63 - p))
 
 abbrev pub noPage : ℕ → Bool
 noPage p = false

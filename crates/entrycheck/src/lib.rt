@@ -8,14 +8,13 @@ ghost use Rattle.packing.specs.Bitmap.{bitAt};
 ghost use Rattle.tables.specs.Layout.{tableBytes};
 ghost use Rattle.entrycheck.specs.Marking.{FileMarked, noneSeen, sameBits};
 use crate::kinds::blocks_plain;
-use crate::kinds::kind_masks;
 use crate::marks::mark_pages;
 use crate::marks::mark_rows;
+use masks::kinds::kind_masks;
 use packing::words;
 
 pub mod kinds;
 pub mod marks;
-pub mod raw;
 
 // Whether every entry passed so far; and then which pages are stored and which unmapped, each later page a less
 // significant bit.

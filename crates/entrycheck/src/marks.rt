@@ -3,13 +3,14 @@
 ghost use mathlib.Core.Bool.{true};
 ghost use mathlib.Core.Path.{_≡_};
 ghost use Prim.Native.Nat.{_+_, _%_, _<_, _≤_};
-ghost use lib.Count.{trailingZeros};
 ghost use lib.ListN.{length};
 ghost use Rattle.rules.specs.State.{stored};
 ghost use Rattle.packing.specs.Words.{getWord};
 ghost use Rattle.entrycheck.specs.Marking.{Marks, markNamed, through};
-ghost use Rattle.entrycheck.specs.Moving.{FourInARow, Full, Moved, RowMoved, blockAt, noPage, pages, rows};
-use crate::raw;
+ghost use Rattle.masks.specs.Pages.{pages};
+ghost use Rattle.entrycheck.specs.Moving.{FourInARow, Full, Moved, RowMoved, blockAt, noPage, rows};
+use masks::lowest;
+use masks::raw;
 use packing::words;
 
 fn wide(x: u16) -> usize
@@ -43,14 +44,6 @@ fn mark_block(seen: &mut [u8], b: usize, limit: usize) -> bool
     }
     seen[b / 8] = x | y;
     true
-}
-
-// The lowest bit of m that is set.
-fn lowest(m: u64) -> usize
-    requires { ⌜ 0 < m ⌝ }
-    ensures { λ r. ⌜ (r ≡ trailingZeros 64 m) × (r < 64) ⌝ }
-{
-    u64::trailing_zeros(m) as usize
 }
 
 // The pages of the mask m one by one.

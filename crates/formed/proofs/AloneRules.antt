@@ -7,8 +7,8 @@ use native.Mathlib.Omega.{arith}
 use lib.Dec.{eqb}
 use borrow.Author.Tests.{eq-eqb, le-leb, lt-leb, ne-eqb, not-false, not-true}
 use Rattle.base.specs.Logic.{and-false}
-use Rattle.entrycheck.proofs.PageMasks.{mask-all, mask-some}
-use Rattle.entrycheck.specs.Marking.{pageMask}
+use Rattle.masks.proofs.PageMasks.{mask-all, mask-some}
+use Rattle.masks.specs.Pages.{pageMask}
 use Rattle.formed.specs.Files.{aloneFormed, fileAlone, headFormed, stateFormed}
 use Rattle.packing.specs.Fields.{getField}
 use Rattle.rules.specs.Reading.{someUnmapped}

@@ -10,8 +10,9 @@ use lib.ListN.{getD}
 use borrow.Author.Tests.{eqb-true, not-true}
 use Rattle.base.specs.Count.{all, all-more, all-of}
 use Rattle.base.specs.Logic.{and-both, and-left, and-right, same?, test?}
-use Rattle.entrycheck.proofs.PageMasks.{mask-all, mask-none}
-use Rattle.entrycheck.specs.Marking.{Seen, andThen, markEntry, markFile, markNamed, pageMask, through, through-more, through-none}
+use Rattle.masks.proofs.PageMasks.{mask-all, mask-none}
+use Rattle.masks.specs.Pages.{pageMask}
+use Rattle.entrycheck.specs.Marking.{Seen, andThen, markEntry, markFile, markNamed, through, through-more, through-none}
 use Rattle.formed.proofs.AloneRules.{alone-zero}
 use Rattle.formed.specs.Files.{fileAlone, fileLinked}
 use Rattle.formed.specs.Pass.{BlankFrom, UnusedFrom, onlyIf, passFile, passSets}

@@ -8,7 +8,7 @@ use lib.Dec.{eqb, ltb}
 use borrow.Author.Tests.{eq-eqb, ne-eqb, not-false, not-true}
 use Rattle.base.specs.Count.{all, all-not}
 use Rattle.base.specs.Logic.{and-both, and-false}
-use Rattle.entrycheck.specs.Marking.{pageMask}
+use Rattle.masks.specs.Pages.{pageMask}
 use Rattle.formed.proofs.AloneRules.{some-unmapped}
 use Rattle.formed.proofs.Past.{past-none, past-shift}
 use Rattle.formed.proofs.Blank.{blank-links}

@@ -11,9 +11,10 @@ use lib.Dec.{ltb}
 use borrow.Author.Tests.{ltb-false, ltb-true, not-false, not-true}
 use Rattle.base.specs.Count.{all, all-more, all-none}
 use Rattle.base.specs.Logic.{same?, test?}
+use Rattle.masks.specs.Pages.{pageMask}
 use Rattle.entrycheck.proofs.Through.{through-next, through-refused}
 use Rattle.entrycheck.specs.declared.Masks.{Masks}
-use Rattle.entrycheck.specs.Marking.{FileMarked, Marks, Pass, Seen, andThen, markAll, markFile, markNumber, outcome, pageMask, through, through-more, through-none}
+use Rattle.entrycheck.specs.Marking.{FileMarked, Marks, Pass, Seen, andThen, markAll, markFile, markNumber, outcome, through, through-more, through-none}
 use Rattle.formed.specs.Files.{MasksTo, fileAlone, fileLinked, numberFormed}
 use Rattle.formed.proofs.Blank.{blank-sets, blank-stored, blank-unmapped}
 use Rattle.formed.specs.Pass.{BlankFrom, EachIs, FilePassed, NumberPassed, onlyIf, passFile, passNumber, passSets}

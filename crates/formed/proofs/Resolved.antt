@@ -8,8 +8,8 @@ use native.Mathlib.Omega.{arith}
 use lib.Bits.{and-le-r, and-zero-l, bitAnd, bitOr, or-lt, or-zero-l}
 use lib.ListN.{getD}
 use Rattle.base.specs.Logic.{pick}
-use Rattle.entrycheck.proofs.PageMasks.{mask-page}
-use Rattle.entrycheck.specs.Marking.{pageMask}
+use Rattle.masks.proofs.PageMasks.{mask-page}
+use Rattle.masks.specs.Pages.{pageMask}
 use Rattle.formed.specs.Files.{Falling, MasksTo}
 use Rattle.packing.specs.Bitmap.{isOne, number-lt, number-of}
 use Rattle.packing.specs.Bits.{bit, bit-and, bit-lt, bit-or}

@@ -6,7 +6,7 @@ use Prim.Native.Nat.{_/_, _<_, suc, ℕ}
 use lib.Dec.{eqb, leb}
 use lib.ListN.{getD, length}
 use Rattle.base.specs.Count.{all}
-use Rattle.entrycheck.specs.Marking.{pageMask}
+use Rattle.masks.specs.Pages.{pageMask}
 use Rattle.packing.specs.Fields.{getField}
 use Rattle.rules.specs.State.{File, Files, SetRecord, State, isAbsent, isMarked, isStored, isUnmapped, isVirgin, largestSize, setCount}
 use Rattle.rules.specs.WellFormed.{aboveFormed, pastFormed, rootFileFormed, sizeFormed, virginFormed, zeroFile}

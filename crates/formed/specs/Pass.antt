@@ -6,7 +6,8 @@ use mathlib.Core.Path.{_≡_}
 use Prim.Native.Nat.{_+_, _<_, ℕ, _≤_}
 use lib.ListN.{getD, length, set}
 use Rattle.base.specs.Count.{all}
-use Rattle.entrycheck.specs.Marking.{Marks, Pass, markFile, pageMask, through}
+use Rattle.masks.specs.Pages.{pageMask}
+use Rattle.entrycheck.specs.Marking.{Marks, Pass, markFile, through}
 use Rattle.formed.specs.Files.{MasksTo, fileAlone, fileLinked}
 use Rattle.rules.specs.State.{SetRecord, fileCount, isStored, isUnmapped, setCount}
 use Rattle.tables.specs.Layout.{fileAt}

@@ -7,7 +7,7 @@ ghost use lib.ListN.{length};
 ghost use Rattle.rules.specs.State.{isUnmapped};
 ghost use Rattle.tables.specs.Layout.{stateOf, tableBytes};
 ghost use Rattle.tables.specs.Packed.{unpack};
-ghost use Rattle.entrycheck.specs.Marking.{pageMask};
+ghost use Rattle.masks.specs.Pages.{pageMask};
 ghost use Rattle.formed.specs.Files.{fileAlone, headFormed, stateFormed};
 use packing::words;
 use tables::sets::set_at;

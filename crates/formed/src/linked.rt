@@ -10,7 +10,7 @@ ghost use Rattle.rules.specs.WellFormed.{aboveFormed, pastFormed};
 ghost use Rattle.tables.specs.Layout.{tableBytes};
 ghost use Rattle.tables.specs.Meaning.{stateMeant};
 ghost use Rattle.tables.specs.Packed.{unpack};
-ghost use Rattle.entrycheck.specs.Marking.{pageMask};
+ghost use Rattle.masks.specs.Pages.{pageMask};
 ghost use Rattle.formed.specs.Files.{Falling, MasksTo, fileLinked};
 ghost use Rattle.formed.specs.Pass.{BlankFrom};
 use tables::files;

@@ -4,8 +4,8 @@ use Prim.Native.Nat.{_≤_, _<_, _-_}
 use native.Mathlib.Omega.{arith}
 use lib.Bits.{bitOr, or-lt}
 use Rattle.base.specs.Count.{all}
+use Rattle.entrycheck.specs.Plain.{plainAt}
 use Rattle.entrycheck.proofs.PlainBlocks.{clean, clean-end, clean-more, clean-none, clean-not, unless-lt}
-use Rattle.entrycheck.specs.Raw.{plainAt}
 use Rattle.entrycheck.proofs.kinds.blocks_plain.Statement.{statement}
 use Rattle.entrycheck.proofs.kinds.blocks_plain.Tie as tie
 

@@ -2,7 +2,7 @@
 use mathlib.Core.Path.{_∙_}
 use native.Mathlib.Omega.{arith}
 use borrow.Author.Needs.{needs}
-use Rattle.entrycheck.proofs.LowWords.{low-block}
+use Rattle.masks.proofs.LowWords.{low-block}
 use Rattle.entrycheck.proofs.marks.block_of.Statement.{statement}
 use Rattle.entrycheck.proofs.marks.block_of.Tie as tie
 

@@ -3,9 +3,11 @@ use mathlib.Core.Bool.{true}
 use Prim.Native.Nat.{_<_, _^_}
 use native.Mathlib.Omega.{arith}
 use borrow.Author.Tests.{not-false, not-true}
+use Rattle.masks.proofs.LowestBit.{less, less-lt}
+use Rattle.masks.specs.Pages.{pages}
 use Rattle.entrycheck.proofs.MovedPages.{moved-none}
-use Rattle.entrycheck.proofs.RowMarks.{as-said, less, less-lt, page-next, page-not, pages-done}
-use Rattle.entrycheck.specs.Moving.{Moved, blockAt, pages}
+use Rattle.entrycheck.proofs.RowMarks.{as-said, page-next, page-not, pages-done}
+use Rattle.entrycheck.specs.Moving.{Moved, blockAt}
 use Rattle.entrycheck.proofs.marks.mark_pages.Statement.{statement}
 use Rattle.entrycheck.proofs.marks.mark_pages.Tie as tie
 

@@ -5,9 +5,11 @@ use Prim.Native.Nat.{_<_, _^_}
 use native.Mathlib.Omega.{arith}
 use lib.Dec.{eqb}
 use borrow.Author.Tests.{not-false, not-true}
+use Rattle.masks.proofs.LowestBit.{less, less-lt}
+use Rattle.masks.specs.Pages.{pages}
 use Rattle.entrycheck.proofs.MovedPages.{moved-none, moved-ok, moved-then}
-use Rattle.entrycheck.proofs.RowMarks.{Whole, less, less-lt, row-at, rows-lt, whole-next, whole-start}
-use Rattle.entrycheck.specs.Moving.{Moved, blockAt, pages, rows}
+use Rattle.entrycheck.proofs.RowMarks.{Whole, row-at, rows-lt, whole-next, whole-start}
+use Rattle.entrycheck.specs.Moving.{Moved, blockAt, rows}
 use Rattle.entrycheck.proofs.marks.mark_rows.Statement.{statement}
 use Rattle.entrycheck.proofs.marks.mark_rows.Tie as tie
 

@@ -1,8 +1,8 @@
--- `entrycheck::raw::raw16` meets its contract. Assumes nothing.
+-- `masks::raw::raw16` meets its contract. Assumes nothing.
 use borrow.Author.Needs.{needs}
-use Rattle.entrycheck.specs.Raw.{lowWord}
-use Rattle.entrycheck.proofs.raw.raw16.Statement.{statement}
-use Rattle.entrycheck.proofs.raw.raw16.Tie as tie
+use Rattle.masks.specs.Raw.{lowWord}
+use Rattle.masks.proofs.raw.raw16.Statement.{statement}
+use Rattle.masks.proofs.raw.raw16.Tie as tie
 
 returns : tie.Need-returns
 unfolding lowWord

@@ -1,9 +1,9 @@
--- `entrycheck::raw::raw32` meets its contract. Assumes nothing.
+-- `masks::raw::raw32` meets its contract. Assumes nothing.
 use native.Mathlib.Omega.{arith}
 use borrow.Author.Needs.{needs}
-use Rattle.entrycheck.proofs.LowWords.{low-four}
-use Rattle.entrycheck.proofs.raw.raw32.Statement.{statement}
-use Rattle.entrycheck.proofs.raw.raw32.Tie as tie
+use Rattle.masks.proofs.LowWords.{low-four}
+use Rattle.masks.proofs.raw.raw32.Statement.{statement}
+use Rattle.masks.proofs.raw.raw32.Tie as tie
 
 returns : tie.Need-returns
 returns c =

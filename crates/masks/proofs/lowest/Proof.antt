@@ -1,11 +1,11 @@
--- `entrycheck::marks::lowest` meets its contract. Assumes nothing.
+-- `masks::lowest` meets its contract. Assumes nothing.
 use mathlib.Core.Path.{refl}
 use native.Mathlib.Omega.{arith}
 use native.Mathlib.Nat.{lt-of-le-of-lt}
 use lib.Count.{trailing-le}
-use Rattle.entrycheck.proofs.LowestBit.{lowest-is}
-use Rattle.entrycheck.proofs.marks.lowest.Statement.{statement}
-use Rattle.entrycheck.proofs.marks.lowest.Tie as tie
+use Rattle.masks.proofs.LowestBit.{lowest-is}
+use Rattle.masks.proofs.lowest.Statement.{statement}
+use Rattle.masks.proofs.lowest.Tie as tie
 
 cast-result : tie.Need-cast-result
 cast-result c = record { fits = lt-of-le-of-lt (trailing-le 64 _) (omega arith) }

@@ -9,7 +9,7 @@ use lib.Dec.{eqb, ltb}
 use borrow.Author.Tests.{eqb-true, ltb-false, ltb-true}
 use Rattle.base.specs.Count.{all, all-at}
 use Rattle.base.specs.Logic.{and-left, and-right}
-use Rattle.entrycheck.specs.Network.{down, gather, holesOf, kinds16, kinds32, kindsOf, storedOf, up}
+use Rattle.masks.specs.Network.{down, gather, holesOf, kinds16, kinds32, kindsOf, storedOf, up}
 use Rattle.packing.specs.Bitmap.{isOne}
 use Rattle.packing.specs.Bits.{bit, bit-and, bit-lt, bit-mod, bit-or, bit-shl, bit-shr, bit-suc, bit-zero}
 

@@ -13,7 +13,7 @@ use Rattle.packing.specs.Bitmap.{isOne, number-digits, number-of}
 use Rattle.packing.specs.Bits.{bit, bit-none, bit-not}
 use Rattle.rules.specs.Reading.{someUnmapped}
 use Rattle.rules.specs.State.{Entry, isUnmapped}
-use Rattle.entrycheck.specs.Marking.{pageMask}
+use Rattle.masks.specs.Pages.{pageMask}
 
 -- every digit of the largest number of 64 digits is 1
 ones-digit : (k : ℕ) → k < 64 → isOne (bit 18446744073709551615 k) ≡ true

@@ -12,13 +12,12 @@ use lib.ListN.{getD}
 use lib.Pow.{pow-pos}
 use borrow.Author.Tests.{ltb-false, ltb-true}
 use Rattle.base.specs.Logic.{test?}
-use Rattle.entrycheck.proofs.LowWords.{low-bit}
-use Rattle.entrycheck.proofs.Tracks.{holes-bit, stored-bit}
-use Rattle.entrycheck.proofs.Windows.{and-digit, zero-digits}
-use Rattle.entrycheck.specs.Marking.{pageMask}
-use Rattle.entrycheck.specs.Moving.{pages}
-use Rattle.entrycheck.specs.Network.{down, gather, holesOf, kinds32, pairs, storedOf, up}
-use Rattle.entrycheck.specs.Raw.{wordsAt}
+use Rattle.masks.proofs.Digits.{and-digit, zero-digits}
+use Rattle.masks.proofs.LowWords.{low-bit}
+use Rattle.masks.proofs.Tracks.{holes-bit, stored-bit}
+use Rattle.masks.specs.Network.{down, gather, holesOf, kinds32, pairs, storedOf, up}
+use Rattle.masks.specs.Pages.{pageMask, pages}
+use Rattle.masks.specs.Raw.{wordsAt}
 use Rattle.packing.specs.Bitmap.{isOne, number-of}
 use Rattle.packing.specs.Bits.{bit, bit-and, bit-lt, bit-none, bit-not, bit-or}
 use Rattle.packing.specs.Words.{Bytes, get-lt, getWord}

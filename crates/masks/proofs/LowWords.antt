@@ -5,7 +5,7 @@ use Prim.Native.Nat.{_%_, _*_, _+_, _-_, _/_, _<_, suc, zero, ℕ}
 use native.Mathlib.Decide.{decLt}
 use native.Mathlib.Omega.{arith}
 use lib.ListN.{getD}
-use Rattle.entrycheck.specs.Raw.{lowWord}
+use Rattle.masks.specs.Raw.{lowWord}
 use Rattle.packing.specs.Bits.{bit, bit-mod, bit-shr}
 use Rattle.packing.specs.Words.{Bytes, getWord}
 

@@ -1,8 +1,8 @@
--- `entrycheck::kinds::kinds_16` meets its contract. Assumes nothing.
+-- `masks::kinds::kinds_16` meets its contract. Assumes nothing.
 use borrow.Author.Needs.{needs}
-use Rattle.entrycheck.specs.Network.{kinds16}
-use Rattle.entrycheck.proofs.kinds.kinds_16.Statement.{statement}
-use Rattle.entrycheck.proofs.kinds.kinds_16.Tie as tie
+use Rattle.masks.specs.Network.{kinds16}
+use Rattle.masks.proofs.kinds.kinds_16.Statement.{statement}
+use Rattle.masks.proofs.kinds.kinds_16.Tie as tie
 
 returns : tie.Need-returns
 unfolding kinds16

@@ -1,8 +1,8 @@
--- `entrycheck::kinds::kind_masks` meets its contract. Assumes nothing.
+-- `masks::kinds::kind_masks` meets its contract. Assumes nothing.
 use borrow.Author.Needs.{needs}
-use Rattle.entrycheck.specs.Network.{holesOf, storedOf}
-use Rattle.entrycheck.proofs.kinds.kind_masks.Statement.{statement}
-use Rattle.entrycheck.proofs.kinds.kind_masks.Tie as tie
+use Rattle.masks.specs.Network.{holesOf, storedOf}
+use Rattle.masks.proofs.kinds.kind_masks.Statement.{statement}
+use Rattle.masks.proofs.kinds.kind_masks.Tie as tie
 
 returns : tie.Need-returns
 unfolding storedOf holesOf

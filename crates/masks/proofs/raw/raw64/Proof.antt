@@ -1,9 +1,9 @@
--- `entrycheck::raw::raw64` meets its contract. Assumes nothing.
+-- `masks::raw::raw64` meets its contract. Assumes nothing.
 use native.Mathlib.Omega.{arith}
 use borrow.Author.Needs.{needs}
-use Rattle.entrycheck.proofs.LowWords.{low-eight}
-use Rattle.entrycheck.proofs.raw.raw64.Statement.{statement}
-use Rattle.entrycheck.proofs.raw.raw64.Tie as tie
+use Rattle.masks.proofs.LowWords.{low-eight}
+use Rattle.masks.proofs.raw.raw64.Statement.{statement}
+use Rattle.masks.proofs.raw.raw64.Tie as tie
 
 returns : tie.Need-returns
 returns c =

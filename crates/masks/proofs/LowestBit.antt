@@ -1,8 +1,9 @@
 -- The lowest bit of a number that is set, and the number without it. Assumes nothing.
 use mathlib.Core.Path.{ap, ap₂, refl, subst, sym, _∙_, _≡_}
 use Prim.Native.Nat.{_%_, _*_, _+_, _-_, _/_, _<_, _^_, min, suc, zero, ℕ}
+use native.Mathlib.Nat.{lt-of-le-of-lt}
 use native.Mathlib.Omega.{arith}
-use lib.Bits.{and-self, and-step, bitAnd}
+use lib.Bits.{and-le-l, and-le-r, and-self, and-step, bitAnd}
 use lib.Count.{trailingZeros, under}
 use Rattle.base.specs.Logic.{same?}
 use Rattle.packing.specs.Bits.{bit, bit-suc, bit-zero}
@@ -67,3 +68,10 @@ lowest-is (suc n) m p h =
     let b : (m - 1) % 2 ≡ 0 = omega arith in
     let x : bitAnd m (m - 1) ≡ m / 2 * 2 + 0 = and-step m (m - 1) ∙ ap₂ (λ y z. y * 2 + z) (ap (bitAnd (m / 2)) a ∙ and-self (m / 2)) (ap₂ min o b) in
     subst (Found (suc n) m) (sym (zeros-odd n m o)) (omega arith, odd-lowest m (bitAnd m (m - 1)) o (omega arith)))
+
+-- LAW: the number without it
+pub less-lt : (q : ℕ) → q < 2 ^ 64 → bitAnd q (q - 1) < 2 ^ 64
+less-lt q h = lt-of-le-of-lt (and-le-l q (q - 1)) h
+
+pub less : (q : ℕ) → 0 < q → bitAnd q (q - 1) < q
+less q h = let r = and-le-r q (q - 1) in omega arith

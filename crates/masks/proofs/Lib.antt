@@ -1,0 +1,6 @@
+pub mod Digits
+pub mod LowWords
+pub mod LowestBit
+pub mod Tracks
+pub mod PageMasks
+pub mod KindMasks
