@@ -12,14 +12,15 @@ use lib.ListN.{getD}
 use lib.Pow.{pow-pos}
 use borrow.Author.Tests.{ltb-false, ltb-true}
 use Rattle.base.specs.Logic.{test?}
-use Rattle.masks.proofs.Digits.{and-digit, zero-digits}
+use Rattle.masks.proofs.Digits.{zero-digits}
+use Rattle.masks.proofs.MaskPages.{and-pages}
 use Rattle.masks.proofs.LowWords.{low-bit}
 use Rattle.masks.proofs.Tracks.{holes-bit, stored-bit}
 use Rattle.masks.specs.Network.{down, gather, holesOf, kinds32, pairs, storedOf, up}
 use Rattle.masks.specs.Pages.{pageMask, pages}
 use Rattle.masks.specs.Raw.{wordsAt}
 use Rattle.packing.specs.Bitmap.{isOne, number-of}
-use Rattle.packing.specs.Bits.{bit, bit-and, bit-lt, bit-none, bit-not, bit-or}
+use Rattle.packing.specs.Bits.{bit, bit-lt, bit-none, bit-not, bit-or}
 use Rattle.packing.specs.Words.{Bytes, get-lt, getWord}
 use Rattle.rules.specs.State.{isStored, isUnmapped}
 use Rattle.tables.proofs.Codes.{entry-place, word-hole, word-stored, word-unmapped}
@@ -28,9 +29,6 @@ use Rattle.tables.specs.Layout.{readEntry}
 use Rattle.tables.specs.Packed.{unpack}
 
 -- ---- numbers and their bits
-
-and-pages : (x y p : ℕ) → pages (bitAnd x y) p ≡ (pages x p && pages y p)
-and-pages x y p = ap isOne (bit-and x y (63 - p)) ∙ and-digit (bit x (63 - p)) (bit y (63 - p)) (bit-lt x (63 - p)) (bit-lt y (63 - p))
 
 neither : (a b : ℕ) → a < 2 → b < 2 → isOne (1 - bitOr a b) ≡ isOne (1 - (a + b))
 neither zero zero h k = refl

@@ -10,14 +10,11 @@ use borrow.Author.Tests.{eq-eqb, eqb-true, not-true}
 use Rattle.base.specs.Count.{all, all-at, all-more, all-none, all-of}
 use Rattle.base.specs.Logic.{test?}
 use Rattle.packing.specs.Bitmap.{isOne, number-digits, number-of}
-use Rattle.packing.specs.Bits.{bit, bit-none, bit-not}
+use Rattle.packing.specs.Bits.{bit, bit-none}
 use Rattle.rules.specs.Reading.{someUnmapped}
 use Rattle.rules.specs.State.{Entry, isUnmapped}
+use Rattle.masks.proofs.MaskPages.{ones-digit}
 use Rattle.masks.specs.Pages.{pageMask}
-
--- every digit of the largest number of 64 digits is 1
-ones-digit : (k : ℕ) → k < 64 → isOne (bit 18446744073709551615 k) ≡ true
-ones-digit k h = ap isOne (bit-not 64 k 0 (pow-pos 64) h ∙ ap (λ (x : ℕ). 1 - x) (bit-none k))
 
 module _ (test : Entry ℕ → Bool) (map : ℕ → Entry ℕ) where
   -- LAW: page p is the digit 63 - p

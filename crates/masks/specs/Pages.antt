@@ -1,6 +1,7 @@
 -- Masks of the pages of a map: 64 binary digits, page 0 the most significant. Assumes nothing.
-use mathlib.Core.Bool.{Bool}
-use Prim.Native.Nat.{_-_, ℕ}
+use mathlib.Core.Bool.{Bool, false, true}
+use mathlib.Core.Path.{_≡_}
+use Prim.Native.Nat.{_+_, _-_, _<_, ℕ, _≤_}
 use Rattle.packing.specs.Bitmap.{isOne, number}
 use Rattle.packing.specs.Bits.{bit}
 use Rattle.rules.specs.State.{Entry, pageCount}
@@ -12,3 +13,8 @@ pages m p = isOne (bit m (63 - p))
 -- which pages of a map pass a test
 abbrev pub pageMask : (Entry ℕ → Bool) → (ℕ → Entry ℕ) → ℕ
 pageMask test map = number (λ p. test (map p)) 0 pageCount
+
+-- the mask has the pages first, .., first + n - 1 and no others
+pub record IsRange (m first n : ℕ) : Type 0 where
+  pub inside : (p : ℕ) → first ≤ p → p < first + n → pages m p ≡ true
+  pub outside : (p : ℕ) → p < pageCount → (first ≤ p → p < first + n → ⊥) → pages m p ≡ false

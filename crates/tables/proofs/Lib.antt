@@ -13,4 +13,5 @@ pub mod ZeroFiles
 pub mod Written
 pub mod FreeBlocks
 pub mod Pending
+pub mod KeptEntries
 pub mod FormedStore

@@ -11,7 +11,7 @@ use Rattle.base.specs.Update.{upd}
 use Rattle.packing.specs.Fields.{getField}
 use Rattle.rules.specs.Rules.{putEntry}
 use Rattle.rules.specs.State.{Entry, Files, SetRecord, State, Tables, fileCount, largestBlocks, pageCount, setCount, stored, unmapped}
-use Rattle.tables.specs.Layout.{entryWord, headWidths, headWord, headerWidths, headerWord, setWidths, setWord, tableBytes}
+use Rattle.tables.specs.Layout.{entryWord, headWidths, headWord, headerWidths, headerWord, readEntry, setWidths, setWord, tableBytes}
 use Rattle.tables.specs.Packed.{entryFormed, unpack}
 
 -- zero fields are zero, no kind is 3, the block is 0 unless stored
@@ -81,3 +81,10 @@ pendingOf l p = pendingIn (getD l p 65535)
 
 unfoldable pub nonePending : List ℕ
 nonePending = replicate 64 65535
+
+-- the entries of pages, in an array of 64 words
+unfoldable pub entriesOf : List ℕ → ℕ → Entry ℕ
+entriesOf l p = readEntry (getD l p 0)
+
+unfoldable pub allHoles : List ℕ
+allHoles = replicate 64 16384

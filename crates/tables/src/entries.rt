@@ -10,7 +10,7 @@ ghost use Rattle.rules.specs.State.{isUnmapped, isStored, stored};
 ghost use Rattle.tables.specs.Layout.{tableBytes, readEntry, writeEntry};
 ghost use Rattle.tables.specs.Packed.{unpack};
 ghost use Rattle.tables.specs.OneReading.{blockFits};
-ghost use Rattle.tables.specs.Views.{PackedTables, Turns, putEntryIn, putBitIn, HeaderIn, Took, pendingOf, nonePending};
+ghost use Rattle.tables.specs.Views.{PackedTables, Turns, putEntryIn, putBitIn, HeaderIn, Took, allHoles, entriesOf, pendingOf, nonePending};
 ghost use Rattle.tables.specs.Meaning.{entryMeant};
 use crate::header;
 use packing::bitmap;
@@ -177,4 +177,29 @@ pub fn held(pending: &[u16; 64], page: Page) -> Entry
         return Entry::Stored(Block(n));
     }
     Entry::Unmapped
+}
+
+// An array of entries that are all holes.
+pub fn all_holes() -> [u16; 64]
+    ensures { λ r. ⌜ r ≡ allHoles ⌝ }
+{
+    [16384; 64]
+}
+
+// Keeps the entry of a page of file f in set s.
+pub fn keep_entry(t: &[u8], f: usize, s: usize, page: Page, kept: &mut [u16; 64])
+    requires { ⌜ (length (now t) ≡ tableBytes) × (f < 16) × (s < 8) × (page .0 < 64) × (length (now kept) ≡ 64) ⌝ }
+    ensures { λ _. ⌜ (entriesOf (now (kept .exit)) ≡ upd (entriesOf (now (kept .entry))) (page .0) (unpack (now (t .entry)) .files f s .map (page .0))) × (length (now (kept .exit)) ≡ 64) ⌝ }
+{
+    let i = page.0;
+    kept[i] = words::read16(t, 544 + (s * 16 + f) * 132 + i * 2);
+}
+
+// The entry that is kept for a page.
+pub fn kept_entry(kept: &[u16; 64], page: Page) -> Entry
+    requires { ⌜ (page .0 < 64) × (length (now kept) ≡ 64) ⌝ }
+    ensures { λ r. ⌜ entryMeant r ≡ entriesOf (now (kept .entry)) (page .0) ⌝ }
+{
+    let i = page.0;
+    decode(kept[i])
 }
