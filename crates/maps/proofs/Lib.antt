@@ -1,3 +1,4 @@
 pub mod OutOfRange
 pub mod Steps
+pub mod ManyPages
 pub mod FourEntries

@@ -1,3 +1,4 @@
 pub mod Upward
+pub mod ManyPages
 pub mod FourEntries
 pub mod Mask

@@ -2,3 +2,4 @@
 // is right on any bytes of the tables' length: a link that leads to no set leads to one whose files are absent.
 pub mod marking;
 pub mod reading;
+pub mod resolving;
