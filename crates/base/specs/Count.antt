@@ -30,6 +30,12 @@ unfolding count
 count-le zero f = omega arith
 count-le (suc n) f = test? (f n) (λ e. rw e (omega (arith, count-le n f))) (λ e. rw e (omega (arith, count-le n f)))
 
+-- of more numbers as many pass, or more
+pub count-mono : (m n : ℕ) (f : ℕ → Bool) → m ≤ n → count m f ≤ count n f
+unfolding count
+count-mono m zero f l = let e : m ≡ 0 = omega arith in omega (arith, ap (λ k. count k f) e)
+count-mono m (suc n) f l = same? m (suc n) (λ e. omega (arith, ap (λ k. count k f) e)) (λ d. omega (arith, count-mono m n f (omega arith)))
+
 -- none passes
 pub count-none : (n : ℕ) (f : ℕ → Bool) → ((x : ℕ) → x < n → f x ≡ false) → count n f ≡ 0
 unfolding count

@@ -10,14 +10,14 @@ use native.Mathlib.Nat.{add-zero, add-suc}
 use native.Mathlib.Omega.{arith}
 use lib.Arith.{lt-one}
 use lib.Bits.{bitOr, bitAnd, or-zero-r, and-zero-r}
-use lib.Count.{ones, ones-step}
+use lib.Count.{ones, ones-cat, ones-step}
 use lib.ListN.{length, getD, set, length-set}
 use lib.Pow.{pow-lt}
 use lib.Seq.{getD-set-same, getD-set-other}
 use Rattle.base.specs.Logic.{same?, digit}
 use Rattle.base.specs.Update.{upd, upd-same, upd-other}
 use Rattle.base.specs.Count.{count, count-upd, count-upd-false}
-use Rattle.packing.specs.Words.{getWord, Bytes, Same}
+use Rattle.packing.specs.Words.{getWord, lowWord, Bytes, Same}
 use Rattle.packing.specs.Bits.{bit, bit-lt, bit-zero, bit-suc, bit-not, bit-mod, bit-shr, bit-or, bit-and, bit-pow-same, bit-pow-other}
 
 -- a binary digit as a Boolean
@@ -265,3 +265,20 @@ unfolding bitAt
 map-bits t at n f h b l =
     let e : b / 8 * 8 + b % 8 ≡ b = omega arith in
     ap (λ x. isOne (bit x (7 - b % 8))) (h (b / 8) (omega arith)) ∙ map-bit f (b / 8) (b % 8) (omega arith) ∙ ap f e
+
+-- ---- the ones of a word, whatever the order of its bytes
+
+-- LAW: the bytes i, .., i + m of the map add their ones to the count
+pub count-low : (m : ℕ) (t : List ℕ) (at i : ℕ) → Bytes t → count (8 * i + 8 * suc m) (bitAt t at) ≡ count (8 * i) (bitAt t at) + ones (lowWord m t (at + i))
+unfolding lowWord getWord
+count-low zero t at i bs = count-word (bitAt t at) (8 * i) 8 (getD t (at + i) 0) (bs (at + i)) (word-bit zero t at i bs)
+count-low (suc m) t at i bs =
+    let one = count-word (bitAt t at) (8 * i) 8 (getD t (at + i) 0) (bs (at + i)) (word-bit zero t at i bs) in
+    let e : 8 * i + 8 ≡ 8 * (i + 1) = omega arith in
+    let d : 8 * i + 8 * suc (suc m) ≡ 8 * (i + 1) + 8 * suc m = omega arith in
+    let p : at + i + 1 ≡ at + (i + 1) = omega arith in
+    let rest = count-low m t at (i + 1) bs in
+    let w = lowWord m t (at + i + 1) in
+    let x = getD t (at + i) 0 in
+    let swap : x + w * 256 ≡ w * 256 + x = omega arith in
+    omega (arith, ones-cat 8 w x (bs (at + i)), ap ones swap, ap (λ n. count n (bitAt t at)) d, ap (λ n. count n (bitAt t at)) e, ap (λ n. ones (lowWord m t n)) p)

@@ -22,6 +22,11 @@ unfoldable pub putWord : ℕ → List ℕ → ℕ → ℕ → List ℕ
 putWord zero t at v = set t at v
 putWord (suc m) t at v = set (putWord m t at (v / 256)) (at + suc m) (v % 256)
 
+-- the word of the bytes at, .., at + m whose first byte is the least significant
+unfoldable pub lowWord : ℕ → List ℕ → ℕ → ℕ
+lowWord zero t at = getD t at 0
+lowWord (suc m) t at = getD t at 0 + lowWord m t (at + 1) * 256
+
 -- every element is a byte
 abbrev pub Bytes : List ℕ → Type 0
 Bytes t = (i : ℕ) → getD t i 0 < 256
@@ -156,3 +161,22 @@ put-halves t at v =
     let d : v % 4294967296 / 256 % 256 ≡ v / 256 % 256 = omega arith in
     let e : v % 4294967296 % 256 ≡ v % 256 = omega arith in
     rw (i, j, k, a, b, c, d, e)
+
+-- ---- a word whose first byte is the least significant
+
+-- LAW: four bytes
+pub low-four : (t : List ℕ) (at : ℕ) → lowWord 3 t at ≡ getD t at 0 + getD t (at + 1) 0 * 256 + getD t (at + 2) 0 * 65536 + getD t (at + 3) 0 * 16777216
+unfolding lowWord
+low-four t at =
+    let a : at + 1 + 1 ≡ at + 2 = omega arith in
+    let b : at + 2 + 1 ≡ at + 3 = omega arith in
+    rw (a, b) (omega arith)
+
+-- LAW: two words of four bytes
+pub low-eight : (t : List ℕ) (at : ℕ) → lowWord 7 t at ≡ lowWord 3 t at + lowWord 3 t (at + 4) * 4294967296
+unfolding lowWord
+low-eight t at =
+    let a : at + 1 + 1 ≡ at + 2 = omega arith in
+    let b : at + 2 + 1 ≡ at + 3 = omega arith in
+    let c : at + 3 + 1 ≡ at + 4 = omega arith in
+    rw (a, b, c) (omega arith)

@@ -1,11 +1,14 @@
 // A map of bits in bytes, the most significant bit of each byte first. The map begins at byte `at` of the slice.
+ghost use mathlib.Core.Bool.{not};
 ghost use mathlib.Core.Path.{_≡_};
 ghost use Prim.Native.Nat.{_+_, _*_, _/_, _<_, _≤_};
+ghost use lib.Dec.{leb};
 ghost use lib.ListN.{length};
 ghost use Rattle.base.specs.Count.{count};
 ghost use Rattle.base.specs.Search.{firstFree};
 ghost use Rattle.packing.specs.Bitmap.{bitAt, setBit, clearBit};
 ghost use Rattle.packing.specs.FirstFree.{FoundIn, foundOf, scanned};
+use crate::words::low64;
 use crate::words::read64;
 
 // A bit that was found, or none.
@@ -45,10 +48,28 @@ pub fn count_set(t: &[u8], at: usize, words: usize) -> u32
     let mut n: u32 = 0;
     let mut i: usize = 0;
     while i < words {
-        n += u64::count_ones(read64(t, at + i * 8));
+        n += u64::count_ones(low64(t, at + i * 8));
         i += 1;
     }
     n
+}
+
+// Are `need` bits or more of the map's first words of 64 bits clear? The words after the one that decides are not looked
+// at.
+pub fn has_clear(t: &[u8], at: usize, words: usize, need: usize) -> bool
+    requires { ⌜ (words ≤ 64) × (at + words * 8 ≤ length (now t)) ⌝ }
+    ensures { λ r. ⌜ r ≡ leb need (count (64 * words) (λ b. not (bitAt (now (t .entry)) at b))) ⌝ }
+{
+    let mut n: usize = 0;
+    let mut j: usize = 0;
+    while j < words {
+        n += (64 - u64::count_ones(low64(t, at + j * 8))) as usize;
+        j += 1;
+        if need <= n {
+            return true;
+        }
+    }
+    need <= n
 }
 
 // How many bits of w in a row are set from bit s on, counted from the most significant.
@@ -81,11 +102,15 @@ fn find_in(t: &[u8], at: usize, lo: usize, hi: usize) -> usize
     hi
 }
 
-// The first clear bit below limit, from start on and then from 0.
+// The first clear bit below limit, from start on and then from 0. The bit at start is looked at alone first: it is mostly
+// clear, and its byte can be read at once after the last bit was set in it, where a word would have to wait.
 pub fn first_free(t: &[u8], at: usize, start: usize, limit: usize) -> Found
     requires { ⌜ (start < limit) × (limit ≤ 4096) × (at + (limit + 63) / 64 * 8 ≤ length (now t)) ⌝ }
     ensures { λ r. ⌜ r ≡ foundOf (firstFree limit (bitAt (now (t .entry)) at) start) ⌝ }
 {
+    if !bit_at(t, at, start) {
+        return Found::At(start);
+    }
     let a = find_in(t, at, start, limit);
     if a < limit {
         return Found::At(a);

@@ -1,8 +1,9 @@
-// Big-endian words of 16, 24, 32 and 64 bits at a byte offset of a slice.
+// Big-endian words of 16, 24, 32 and 64 bits at a byte offset of a slice, and words whose first byte is the least
+// significant.
 ghost use mathlib.Core.Path.{_≡_};
 ghost use Prim.Native.Nat.{_+_, _<_, _≤_};
 ghost use lib.ListN.{length};
-ghost use Rattle.packing.specs.Words.{getWord, putWord};
+ghost use Rattle.packing.specs.Words.{getWord, lowWord, putWord};
 ghost use Rattle.packing.specs.Zeros.{zeroBytes};
 
 // A byte as a wider number: the bound in the contract spares each caller a proof.
@@ -55,6 +56,31 @@ pub fn read64(t: &[u8], at: usize) -> u64
         + wide64(t[at + 3]);
     (((a * 256 + wide64(t[at + 4])) * 256 + wide64(t[at + 5])) * 256 + wide64(t[at + 6])) * 256
         + wide64(t[at + 7])
+}
+
+fn low32(t: &[u8], at: usize) -> u32
+    requires { ⌜ at + 3 < length (now t) ⌝ }
+    ensures { λ r. ⌜ (r ≡ lowWord 3 (now (t .entry)) at) × (r < 4294967296) ⌝ }
+{
+    wide32(t[at])
+        + wide32(t[at + 1]) * 256
+        + wide32(t[at + 2]) * 65536
+        + wide32(t[at + 3]) * 16777216
+}
+
+fn widest(x: u32) -> u64
+    ensures { λ r. ⌜ (r ≡ x) × (r < 4294967296) ⌝ }
+{
+    x as u64
+}
+
+// The 64 bits whose first byte is the least significant: for the number of ones, which no order of the bytes changes. It
+// is read by one load, and many at a time.
+pub fn low64(t: &[u8], at: usize) -> u64
+    requires { ⌜ at + 7 < length (now t) ⌝ }
+    ensures { λ r. ⌜ r ≡ lowWord 7 (now (t .entry)) at ⌝ }
+{
+    widest(low32(t, at)) + widest(low32(t, at + 4)) * 4294967296
 }
 
 // Are the n bytes from `at` on all zero? None is tested alone, so that many are looked at at once.

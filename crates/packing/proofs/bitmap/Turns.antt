@@ -1,19 +1,20 @@
 -- The turns of the map's loops, and the ends of its search, over plain numbers and lists. Assumes nothing.
 use mathlib.Core.Path.{_≡_, refl, sym, ap, _∙_}
-use mathlib.Core.Bool.{Bool, true, false}
+use mathlib.Core.Bool.{Bool, true, false, not}
 use mathlib.Core.List.{List}
 use Prim.Native.Nat.{ℕ, zero, suc, _+_, _-_, _*_, _/_, _%_, _^_, _<_, _≤_}
 use native.Mathlib.Decide.{decLt}
 use native.Mathlib.Omega.{arith}
 use lib.Count.{ones}
-use lib.Dec.{eqb}
+use lib.Dec.{eqb, leb}
 use lib.Pow.{shl-exact}
-use Rattle.base.specs.Count.{count}
+use borrow.Author.Tests.{le-leb}
+use Rattle.base.specs.Count.{count, count-mono, count-not}
 use Rattle.base.specs.Search.{firstFree, first-ahead, first-round, first-full}
 use Rattle.packing.specs.declared.bitmap.Found.the-variants.{At, Nothing}
-use Rattle.packing.specs.Words.{getWord, get-lt, Bytes}
+use Rattle.packing.specs.Words.{getWord, lowWord, get-lt, Bytes}
 use Rattle.packing.specs.Bits.{bit, bit-not, bit-mod, bit-shl, leading-clear, leading-set}
-use Rattle.packing.specs.Bitmap.{isOne, bitAt, word-bit, count-word}
+use Rattle.packing.specs.Bitmap.{isOne, bitAt, word-bit, count-low}
 use Rattle.packing.specs.FirstFree.{foundOf, FoundIn, scanned}
 
 -- ---- one bit
@@ -30,13 +31,27 @@ is-one (suc (suc d)) h = absurd (omega arith)
 
 -- ---- a word more is counted
 
-pub counted : (t : List ℕ) (at i n w : ℕ) → Bytes t → w ≡ getWord 7 t (at + i * 8) → n ≡ count (64 * i) (bitAt t at) → n + ones w ≡ count (64 * (i + 1)) (bitAt t at)
+pub counted : (t : List ℕ) (at i n w : ℕ) → Bytes t → w ≡ lowWord 7 t (at + i * 8) → n ≡ count (64 * i) (bitAt t at) → n + ones w ≡ count (64 * (i + 1)) (bitAt t at)
 counted t at i n w bs e h =
-    let here : (j : ℕ) → 8 * (i * 8) + j ≡ 64 * i + j = (λ j. omega arith) in
-    let next : 64 * (i + 1) ≡ 64 * i + 64 = omega arith in
-    let word = count-word (bitAt t at) (64 * i) 64 (getWord 7 t (at + i * 8)) (get-lt 7 t (at + i * 8) bs)
-    (λ j l. word-bit 7 t at (i * 8) bs j l ∙ ap (bitAt t at) (here j)) in
-    rw (e, next) (omega (arith, word))
+    let here : 8 * (i * 8) ≡ 64 * i = omega arith in
+    let next : 8 * (i * 8) + 64 ≡ 64 * (i + 1) = omega arith in
+    let word = count-low 7 t at (i * 8) bs in
+    omega (arith, ap ones e, ap (λ k. count k (bitAt t at)) here, ap (λ k. count k (bitAt t at)) next)
+
+-- ---- are enough bits clear: of the first 64 * i bits, n are
+
+module _ (f : ℕ → Bool) (i n need : ℕ) (h : n + count (64 * i) f ≡ 64 * i) where
+  clear-bits : count (64 * i) (λ b. not (f b)) ≡ n
+  clear-bits = omega (arith, count-not (64 * i) f)
+
+  -- enough, before the last word
+  pub clear-enough : (words : ℕ) → i ≤ words → need ≤ n → true ≡ leb need (count (64 * words) (λ b. not (f b)))
+  clear-enough words l e =
+      sym (le-leb need (count (64 * words) (λ b. not (f b))) (omega (arith, clear-bits, count-mono (64 * i) (64 * words) (λ b. not (f b)) (omega arith))))
+
+  -- after the last word
+  pub clear-all : (words : ℕ) → i ≡ words → leb need n ≡ leb need (count (64 * words) (λ b. not (f b)))
+  clear-all words e = ap (leb need) (sym clear-bits ∙ ap (λ k. count (64 * k) (λ b. not (f b))) e)
 
 -- ---- one word of the search
 
@@ -141,3 +156,8 @@ module _ (used : ℕ → Bool) (start limit a : ℕ) (k : FoundIn used start lim
       go : (c : ℕ) → c < limit → Dec (c < start) → used c ≡ true
       go c m (yes y) = j .passed c (omega arith) (omega arith)
       go c m (no n) = rest h c (omega arith) m
+
+-- the bit at start is clear
+pub at-once : (used : ℕ → Bool) (start limit : ℕ) → start < limit → used start ≡ false → At start ≡ foundOf (firstFree limit used start)
+at-once used start limit h e =
+    ahead used start limit start (record { low = omega arith; high = omega arith; passed = λ c l m. absurd (omega arith); free = λ _. e }) h

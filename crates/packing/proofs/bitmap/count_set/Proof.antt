@@ -20,15 +20,15 @@ unfolding count
 loop-holds c = omega arith
 
 add-n : tie.Need-add-n Inv-loop μ-loop
-add-n c = omega (arith, ones-le 64 (c .read64 .result) (omega arith))
+add-n c = omega (arith, ones-le 64 (c .low64 .result) (omega arith))
 
 loop-again : tie.Need-loop-again Inv-loop μ-loop
 loop-again c =
     let a = c .before .before .before in (
       omega arith,
-      omega (arith, ones-le 64 (c .read64 .result) (omega arith)),
-      counted (a .before .args .t .now) (a .before .args .at) (c .before .before .loop .i) (c .before .before .loop .n) (c .read64 .result)
-          (λ i. a .shared-slice-known .given i .fits) (c .read64 .ensures) (c .before .before .loop .inv .2),
+      omega (arith, ones-le 64 (c .low64 .result) (omega arith)),
+      counted (a .before .args .t .now) (a .before .args .at) (c .before .before .loop .i) (c .before .before .loop .n) (c .low64 .result)
+          (λ i. a .shared-slice-known .given i .fits) (c .low64 .ensures) (c .before .before .loop .inv .2),
     )
 
 returns : tie.Need-returns Inv-loop μ-loop
