@@ -5,8 +5,10 @@ use mathlib.Core.Path.{ap, refl, sym, _∙_, _≡_}
 use Prim.Native.Nat.{_%_, _*_, _+_, _-_, _/_, _<_, suc, zero, ℕ, _≤_}
 use native.Mathlib.Omega.{arith}
 use lib.Dec.{eqb}
+use lib.ListN.{getD, set}
+use lib.Seq.{set-getD}
 use Rattle.packing.specs.Bitmap.{isOne}
-use Rattle.packing.specs.Words.{getWord}
+use Rattle.packing.specs.Words.{Bytes, getWord, putWord}
 use Rattle.rules.specs.State.{SetRecord, State, fileCount, hole, marked, pageCount, setCount, stored, unmapped}
 use Rattle.tables.proofs.ReadParts.{read-blocks, read-map, read-next, read-set, read-size, read-state}
 use Rattle.tables.specs.Layout.{entryAt, fileAt, headerAt, readBlocks, readEntry, readNext, readSet, readSize, readState, setAt, stateNumber, stateOf, writeEntry, writeHead, writeHeader}
@@ -112,16 +114,38 @@ set-read t s w hs h = set-fields w (h .1) ∙ ap readSet (h .0) ∙ sym (read-se
 
 -- ---- the header
 
--- LAW: the block count and the next start that the code reads
-module _ (t : List ℕ) (w : ℕ) (e : w ≡ getWord 3 t headerAt) where
-  pub blocks-read : w / 524288 ≡ unpack t .blocks
-  unfolding readBlocks
-  blocks-read = ap readBlocks e ∙ sym (read-blocks t)
+-- LAW: the block count and the next start that the code reads, of the header's four bytes
+module _ (t : List ℕ) (bs : Bytes t) where
+  pub blocks-read : getD t 0 0 * 32 + getD t 1 0 / 8 ≡ unpack t .blocks
+  unfolding readBlocks getWord
+  blocks-read =
+      let q : getD t 0 0 * 32 + getD t 1 0 / 8 ≡ getWord 3 t headerAt / 524288 = omega (arith, bs 0, bs 1, bs 2, bs 3) in
+      q ∙ sym (read-blocks t)
 
-  pub next-read : w / 128 % 4096 ≡ unpack t .next
-  unfolding readNext
-  next-read = let q : w / 128 % 4096 ≡ readNext w = omega arith in q ∙ ap readNext e ∙ sym (read-next t)
+  pub blocks-lt : unpack t .blocks < 8192
+  blocks-lt = omega (arith, bs 0, bs 1, blocks-read)
+
+  pub next-read : getD t 1 0 % 8 * 512 + getD t 2 0 * 2 + getD t 3 0 / 128 ≡ unpack t .next
+  unfolding readNext getWord
+  next-read =
+      let q : getD t 1 0 % 8 * 512 + getD t 2 0 * 2 + getD t 3 0 / 128 ≡ readNext (getWord 3 t headerAt) = omega (arith, bs 0, bs 1, bs 2, bs 3) in
+      q ∙ sym (read-next t)
 
 pub header-word : (b n : ℕ) → (b * 4096 + n) * 128 ≡ writeHeader b n
 unfolding writeHeader
 header-word b n = omega arith
+
+-- LAW: the three bytes that hold the next start, and the word of the whole header
+pub next-bytes : (t : List ℕ) (n : ℕ) → Bytes t → n < 4096
+    → set (set (set t 1 (getD t 1 0 / 8 * 8 + n / 512)) 2 (n / 2 % 256)) 3 (n % 2 * 128) ≡ putWord 3 t headerAt (writeHeader (unpack t .blocks) n)
+unfolding putWord
+next-bytes t n bs h =
+    let w = writeHeader (unpack t .blocks) n in
+    let x = getD t 0 0 in
+    let y = getD t 1 0 in
+    let v : w ≡ ((x * 32 + y / 8) * 4096 + n) * 128 = sym (header-word (unpack t .blocks) n) ∙ ap (λ b. (b * 4096 + n) * 128) (sym (blocks-read t bs)) in
+    let a : w / 256 / 256 / 256 ≡ x = ap (λ z. z / 256 / 256 / 256) v ∙ omega (arith, bs 0, bs 1) in
+    let b : w / 256 / 256 % 256 ≡ y / 8 * 8 + n / 512 = ap (λ z. z / 256 / 256 % 256) v ∙ omega (arith, bs 0, bs 1) in
+    let c : w / 256 % 256 ≡ n / 2 % 256 = ap (λ z. z / 256 % 256) v ∙ omega (arith, bs 0, bs 1) in
+    let d : w % 256 ≡ n % 2 * 128 = ap (λ z. z % 256) v ∙ omega (arith, bs 0, bs 1) in
+    sym ((λ i. set (set (set (set t 0 (a i)) 1 (b i)) 2 (c i)) 3 (d i)) ∙ ap (λ (l : List ℕ). set (set (set l 1 (y / 8 * 8 + n / 512)) 2 (n / 2 % 256)) 3 (n % 2 * 128)) (set-getD t 0 0))

@@ -6,8 +6,10 @@ use mathlib.Core.Path.{ap, refl, sym, _∙_, _≡_}
 use Prim.Native.Nat.{_%_, _+_, _<_, suc, zero, ℕ, _≤_}
 use native.Mathlib.Nat.{mod-lt}
 use native.Mathlib.Omega.{arith}
+use lib.Dec.{leb}
+use borrow.Author.Tests.{le-leb, leb-false, leb-true, lt-leb}
 use Rattle.base.specs.Count.{count, count-not, count-same}
-use Rattle.base.specs.Logic.{same?}
+use Rattle.base.specs.Logic.{same?, test?}
 use Rattle.base.specs.Search.{Free, first-found, first-says, firstFree, searchFrom}
 use Rattle.packing.specs.Bitmap.{bitAt, setBit}
 use Rattle.packing.specs.FirstFree.{found-at, found-none, foundOf}
@@ -48,6 +50,20 @@ free-count t n all most out =
     let a = count-same n (unpack t .bits) (bitAt t bitmapAt) (λ b l. sym (read-bit t b (omega arith))) in
     let e = count-cut n (unpack t .blocks) (unpack t .bits) all out in
     omega (arith, count-not (unpack t .blocks) (unpack t .bits))
+
+-- as much more is asked as there is
+leb-more : (a x d a′ x′ : ℕ) → a′ ≡ a + d → x′ ≡ x + d → leb a′ x′ ≡ leb a x
+leb-more a x d a′ x′ ea ex =
+    test? (leb a x) (λ e. le-leb a′ x′ (omega (arith, leb-true a x e)) ∙ sym e) (λ e. lt-leb a′ x′ (omega (arith, leb-false a x e)) ∙ sym e)
+
+pub none-needed : (need x : ℕ) → need ≡ 0 → true ≡ leb need x
+none-needed need x e = sym (le-leb need x (omega arith))
+
+-- LAW: the clear bits of the map's first n blocks are enough for the need and for those from B on exactly where the free blocks are enough for the need
+pub enough-free : (t : List ℕ) (n d need : ℕ) → n ≡ unpack t .blocks + d → n ≤ largestBlocks → ((b : ℕ) → unpack t .blocks ≤ b → unpack t .bits b ≡ false)
+    → leb (need + d) (count n (λ b. not (bitAt t bitmapAt b))) ≡ leb need (count (unpack t .blocks) (λ b. not (unpack t .bits b)))
+enough-free t n d need e most out =
+    leb-more need _ d _ _ refl (omega (arith, count-not n (bitAt t bitmapAt), free-count t n (omega arith) most out))
 
 -- the block that the code finds, in the words of the state
 module _ (t : List ℕ) (limit start : ℕ) (r : Found) (h : HeaderIn (unpack t)) (el : limit ≡ unpack t .blocks) (es : start ≡ unpack t .next)

@@ -1,12 +1,13 @@
 -- What the code stores is a change of the state: the laws of Stores, for the words and the places that the code computes. Assumes nothing.
 use mathlib.Core.Bool.{false, true}
 use mathlib.Core.List.{List}
-use mathlib.Core.Path.{ap, subst, sym, _∙_, _≡_}
-use Prim.Native.Nat.{_*_, _+_, _<_, ℕ}
+use mathlib.Core.Path.{ap, refl, subst, sym, _∙_, _≡_}
+use Prim.Native.Nat.{_%_, _*_, _+_, _/_, _<_, ℕ}
+use lib.ListN.{getD, set}
 use Rattle.packing.specs.Bitmap.{clearBit, setBit}
 use Rattle.packing.specs.Words.{Bytes, putWord}
 use Rattle.rules.specs.State.{Entry, SetRecord, State, Tables, fileCount, largestBlocks, pageCount, setCount}
-use Rattle.tables.proofs.Codes.{entry-place, head-word, header-word}
+use Rattle.tables.proofs.Codes.{blocks-lt, entry-place, head-word, next-bytes}
 use Rattle.tables.proofs.PackUnpack.{pack-unpack}
 use Rattle.tables.proofs.Stores.{clear-bit-turns, entry-turns, head-turns, next-turns, set-bit-turns, set-turns}
 use Rattle.tables.specs.Layout.{bitmapAt, fileAt, headerAt, setAt, stateNumber, writeEntry, writeSet}
@@ -37,10 +38,10 @@ module _ (t t′ : List ℕ) where
       → w ≡ writeSet r → t′ ≡ putWord 2 t (setAt s) w → Turns t t′ (putSetIn s r)
   set-written s w r h word put = turns-of t _ t′ _ (put ∙ ap (putWord 2 t (setAt s)) word) (set-turns t (h .0) s r (h .1) (h .2))
 
-  pub next-written : (b n : ℕ) → PackedTables t × (n < 4096) → (b ≡ unpack t .blocks) × (b < 8192)
-      → t′ ≡ putWord 3 t headerAt ((b * 4096 + n) * 128) → Turns t t′ (putNextIn n)
-  next-written b n h blocks put =
-      turns-of t _ t′ _ (put ∙ ap (putWord 3 t headerAt) (header-word b n)) (next-turns t (h .0) b n (blocks .0) (blocks .1) (h .1))
+  pub next-written : (n : ℕ) → PackedTables t × (n < 4096) → Bytes t
+      → t′ ≡ set (set (set t 1 (getD t 1 0 / 8 * 8 + n / 512)) 2 (n / 2 % 256)) 3 (n % 2 * 128) → Turns t t′ (putNextIn n)
+  next-written n h bs put =
+      turns-of t _ t′ _ (put ∙ next-bytes t n bs (h .1)) (next-turns t (h .0) (unpack t .blocks) n refl (blocks-lt t bs) (h .1))
 
   pub bit-set : (b : ℕ) → PackedTables t × (b < largestBlocks) → t′ ≡ setBit t bitmapAt b → Turns t t′ (putBitIn b true)
   bit-set b h put = turns-of t _ t′ _ put (set-bit-turns t (h .0) b (h .1))
