@@ -6,7 +6,7 @@ use Prim.Native.Nat.{_+_, _<_, suc, ℕ, _≤_}
 use native.Mathlib.Omega.{arith}
 use lib.Dec.{eqb, leb, ltb}
 use lib.ListN.{length}
-use borrow.Author.Tests.{le-ltb, lt-ltb, ltb-true, not-false}
+use borrow.Author.Tests.{le-ltb, leb-false, leb-true, lt-ltb, ltb-true, not-false}
 use Rattle.base.specs.Count.{count}
 use Rattle.base.specs.Logic.{and-left, and-right, test?}
 use Rattle.rules.specs.Calls.{Store, viewOf}
@@ -162,26 +162,26 @@ first-applies a b h = rw h
 pub neither-applies : (a b : Bool) → a ≡ false → b ≡ false → (a || b) ≡ false
 neither-applies a b h k = rw (h, k)
 
--- ---- 7 and 8: the end, and the need, where r blocks are free and m are needed
+-- ---- 7 and 8: the end, and the need, where r says whether m blocks are free
 
 module _ (st : Store real) (end need : ℕ) where
   pub over-end : ltb 32768 end ≡ true → 7 ≡ lowest (endOrNeedOver (viewOf real true true st) end need)
   over-end h = here _ 7 (needOver (viewOf real true true st) need ∷ []) h
 
-  module _ (low : ltb 32768 end ≡ false) (r m : ℕ) (free : r ≡ count (st .memory .blocks) (λ b. not (st .memory .bits b))) (needed : m ≡ need) where
-    too-few : r < m → ltb (freeBlocks (st .memory)) need ≡ true
+  module _ (low : ltb 32768 end ≡ false) (r : Bool) (m : ℕ) (free : r ≡ leb m (count (st .memory .blocks) (λ b. not (st .memory .bits b)))) (needed : m ≡ need) where
+    too-few : r ≡ false → ltb (freeBlocks (st .memory)) need ≡ true
     unfolding freeBlocks
-    too-few l = lt-ltb (count (st .memory .blocks) (λ b. not (st .memory .bits b))) need (omega arith)
+    too-few h = let n = count (st .memory .blocks) (λ b. not (st .memory .bits b)) in lt-ltb n need (omega (arith, leb-false m n (sym free ∙ h)))
 
-    enough : m ≤ r → ltb (freeBlocks (st .memory)) need ≡ false
+    enough : r ≡ true → ltb (freeBlocks (st .memory)) need ≡ false
     unfolding freeBlocks
-    enough l = le-ltb (count (st .memory .blocks) (λ b. not (st .memory .bits b))) need (omega arith)
+    enough h = let n = count (st .memory .blocks) (λ b. not (st .memory .bits b)) in le-ltb n need (omega (arith, leb-true m n (sym free ∙ h)))
 
-    pub over-need : r < m → 8 ≡ lowest (endOrNeedOver (viewOf real true true st) end need)
-    over-need l = past (ltb 32768 end) 7 8 (needOver (viewOf real true true st) need ∷ []) low (here _ 8 [] (too-few l))
+    pub over-need : r ≡ false → 8 ≡ lowest (endOrNeedOver (viewOf real true true st) end need)
+    over-need h = past (ltb 32768 end) 7 8 (needOver (viewOf real true true st) need ∷ []) low (here _ 8 [] (too-few h))
 
-    pub not-over : m ≤ r → 0 ≡ lowest (endOrNeedOver (viewOf real true true st) end need)
-    not-over l = past (ltb 32768 end) 7 0 (needOver (viewOf real true true st) need ∷ []) low (past _ 8 0 [] (enough l) none-left)
+    pub not-over : r ≡ true → 0 ≡ lowest (endOrNeedOver (viewOf real true true st) end need)
+    not-over h = past (ltb 32768 end) 7 0 (needOver (viewOf real true true st) need ∷ []) low (past _ 8 0 [] (enough h) none-left)
 
 -- ---- children
 

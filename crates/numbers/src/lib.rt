@@ -213,7 +213,7 @@ pub fn of_write(t: &[u8], p: &[u8], set: u32, file: u32, offset: u32, data: &[u8
         return 7;
     }
     let need = write_need(t, file as usize, set as usize, offset as usize, data.len());
-    if header::free_blocks(t) < need {
+    if !header::has_free(t, need) {
         return 8;
     }
     0
@@ -243,7 +243,7 @@ pub fn of_truncate(t: &[u8], p: &[u8], set: u32, file: u32, size: u32) -> u32
         return 7;
     }
     let own = truncate_need(t, file as usize, set as usize, size as usize);
-    if header::free_blocks(t) < own {
+    if !header::has_free(t, own) {
         return 8;
     }
     0

@@ -1,7 +1,7 @@
 -- `numbers::of_truncate` meets its contract. Assumes nothing.
 use mathlib.Core.List.{_∷_, []}
 use borrow.Author.Needs.{needs}
-use borrow.Author.Tests.{le-ltb, lt-ltb}
+use borrow.Author.Tests.{le-ltb, lt-ltb, not-false, not-true}
 use Rattle.rules.specs.Numbers.{View, fileAbsent, fileMarked, readOnly}
 use Rattle.tables.specs.Calls.{storeOf}
 use Rattle.numbers.specs.Shared.{viewIn}
@@ -41,7 +41,7 @@ returns-3 c =
     let a = i .before .before .before .before .args in
     let st = storeOf (a .t .now) (a .p .now) in
     truncate-then st (a .set) (a .file) _ (i .before .not-changeable .ensures) (a .size) (i .if1 .left) 8
-    (over-need st (a .size) _ (le-ltb 32768 (a .size) (j .if2 .left)) _ _ (b .free-blocks .ensures .0) (k .truncate-need .ensures) (c .if3 .taken))
+    (over-need st (a .size) _ (le-ltb 32768 (a .size) (j .if2 .left)) _ _ (b .has-free .ensures) (k .truncate-need .ensures) (not-true (b .has-free .result) (c .if3 .taken)))
 
 returns-4 : tie.Need-returns-4
 returns-4 c =
@@ -52,7 +52,7 @@ returns-4 c =
     let a = i .before .before .before .before .args in
     let st = storeOf (a .t .now) (a .p .now) in
     truncate-then st (a .set) (a .file) _ (i .before .not-changeable .ensures) (a .size) (i .if1 .left) 0
-    (not-over st (a .size) _ (le-ltb 32768 (a .size) (j .if2 .left)) _ _ (b .free-blocks .ensures .0) (k .truncate-need .ensures) (c .if3 .left))
+    (not-over st (a .size) _ (le-ltb 32768 (a .size) (j .if2 .left)) _ _ (b .has-free .ensures) (k .truncate-need .ensures) (not-false (b .has-free .result) (c .if3 .left)))
 
 pub of-truncate-spec : {M : Type 1} → statement M
 of-truncate-spec =

@@ -4,7 +4,7 @@ use mathlib.Core.Path.{sym, _∙_}
 use Prim.Native.Nat.{_+_}
 use lib.ListN.{length}
 use borrow.Author.Needs.{needs}
-use borrow.Author.Tests.{ltb-false}
+use borrow.Author.Tests.{ltb-false, not-false, not-true}
 use Rattle.rules.specs.Numbers.{View, fileAbsent, fileMarked, readOnly}
 use Rattle.tables.specs.Calls.{storeOf}
 use Rattle.numbers.specs.Shared.{viewIn}
@@ -48,7 +48,7 @@ returns-3 c =
     let st = storeOf (a .t .now) (a .p .now) in
     write-then st (a .set) (a .file) _ (i .before .not-changeable .ensures) (a .offset) (a .«data» .now) (i .if1 .left) 8
     (over-need st (a .offset + length (a .«data» .now)) _ (sym (e .end-over .ensures) ∙ j .if2 .left) _ _
-    (b .free-blocks .ensures .0) (k .write-need .ensures) (c .if3 .taken))
+    (b .has-free .ensures) (k .write-need .ensures) (not-true (b .has-free .result) (c .if3 .taken)))
 
 returns-4 : tie.Need-returns-4
 returns-4 c =
@@ -61,7 +61,7 @@ returns-4 c =
     let st = storeOf (a .t .now) (a .p .now) in
     write-then st (a .set) (a .file) _ (i .before .not-changeable .ensures) (a .offset) (a .«data» .now) (i .if1 .left) 0
     (not-over st (a .offset + length (a .«data» .now)) _ (sym (e .end-over .ensures) ∙ j .if2 .left) _ _
-    (b .free-blocks .ensures .0) (k .write-need .ensures) (c .if3 .left))
+    (b .has-free .ensures) (k .write-need .ensures) (not-false (b .has-free .result) (c .if3 .left)))
 
 pub of-write-spec : {M : Type 1} → statement M
 of-write-spec =
