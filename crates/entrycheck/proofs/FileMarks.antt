@@ -13,9 +13,8 @@ use Rattle.base.specs.Logic.{and-both, and-left, and-right, digit, test?}
 use Rattle.entrycheck.specs.Plain.{plain, plainAt}
 use Rattle.masks.proofs.KindMasks.{no-three, read-page, some-three, stored-mask, stored-page, unmapped-mask, word-lt}
 use Rattle.masks.proofs.PageMasks.{mask-all, mask-none}
-use Rattle.masks.specs.Network.{holesOf, storedOf}
+use Rattle.masks.specs.Network.{holesOf, storedOf, wordsAt}
 use Rattle.masks.specs.Pages.{pages}
-use Rattle.masks.specs.Raw.{wordsAt}
 use Rattle.entrycheck.proofs.Counts.{counts-none, counts-some}
 use Rattle.entrycheck.proofs.EntriesFormed.{file-counts, good, hit}
 use Rattle.entrycheck.proofs.MovedPages.{moved-ok, moved-then, times-none}

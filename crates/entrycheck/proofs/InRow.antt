@@ -4,10 +4,8 @@ use mathlib.Core.Path.{ap, refl, sym, _∙_, _≡_}
 use Prim.Native.Nat.{_%_, _*_, _+_, _/_, _<_, suc, zero, ℕ}
 use native.Mathlib.Omega.{arith}
 use lib.ListN.{getD}
-use Rattle.masks.proofs.LowWords.{low-eight, low-four}
-use Rattle.masks.specs.Raw.{lowWord}
 use Rattle.entrycheck.specs.Moving.{FourInARow}
-use Rattle.packing.specs.Words.{Bytes, getWord}
+use Rattle.packing.specs.Words.{Bytes, getWord, low-eight, low-four, lowWord}
 
 -- numbers of two digits are the same where their digits are
 two-parts : (x y x′ y′ : ℕ) → x < 4294967296 → x′ < 4294967296 → x + y * 4294967296 ≡ x′ + y′ * 4294967296 → (x ≡ x′) × (y ≡ y′)

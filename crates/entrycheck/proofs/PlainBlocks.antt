@@ -14,10 +14,9 @@ use Rattle.base.specs.Count.{all, all-more, all-none}
 use Rattle.base.specs.Logic.{test?}
 use Rattle.entrycheck.specs.Plain.{plain, plainAt}
 use Rattle.masks.proofs.Digits.{and-digit, or-digit, zero-digits}
-use Rattle.masks.specs.Raw.{lowWord}
 use Rattle.packing.specs.Bitmap.{isOne}
 use Rattle.packing.specs.Bits.{bit, bit-and, bit-lt, bit-none, bit-or}
-use Rattle.packing.specs.Words.{Bytes, getWord}
+use Rattle.packing.specs.Words.{Bytes, getWord, lowWord}
 
 -- ---- a mask of words that are joined
 

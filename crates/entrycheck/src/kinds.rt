@@ -6,7 +6,7 @@ ghost use lib.Dec.{ltb};
 ghost use lib.ListN.{length};
 ghost use Rattle.base.specs.Count.{all};
 ghost use Rattle.entrycheck.specs.Plain.{plainAt};
-use masks::raw;
+use packing::words;
 
 // The entry e, its first byte the least significant, unless it is stored.
 fn unless_stored(e: u16) -> u16
@@ -27,7 +27,7 @@ pub fn blocks_plain(t: &[u8], at: usize) -> bool
     let mut plain: u16 = 0;
     let mut i: usize = 0;
     while i < 64 {
-        let e = raw::raw16(t, at + i * 2);
+        let e = words::low16(t, at + i * 2);
         any = any | e;
         plain = plain | unless_stored(e);
         i += 1;

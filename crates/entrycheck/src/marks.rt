@@ -10,7 +10,6 @@ ghost use Rattle.entrycheck.specs.Marking.{Marks, markNamed, through};
 ghost use Rattle.masks.specs.Pages.{pages};
 ghost use Rattle.entrycheck.specs.Moving.{FourInARow, Full, Moved, RowMoved, blockAt, noPage, rows};
 use masks::lowest;
-use masks::raw;
 use packing::words;
 
 fn wide(x: u16) -> usize
@@ -25,7 +24,7 @@ fn block_of(t: &[u8], at: usize) -> usize
     requires { ⌜ at + 1 < length (now t) ⌝ }
     ensures { λ r. ⌜ (r ≡ getWord 1 (now (t .entry)) at % 4096) × (r < 4096) ⌝ }
 {
-    let e = raw::raw16(t, at);
+    let e = words::low16(t, at);
     wide(e % 16 * 256 + e / 256)
 }
 
@@ -92,11 +91,11 @@ fn in_row(t: &[u8], at: usize) -> bool
     requires { ⌜ at + 7 < length (now t) ⌝ }
     ensures { λ r. ⌜ (r ≡ true → FourInARow (now (t .entry)) at) ⌝ }
 {
-    let e = raw::raw16(t, at);
+    let e = words::low16(t, at);
     if e / 256 % 64 > 60 {
         return false;
     }
-    raw::raw64(t, at) == long(e) * 0x0001_0001_0001_0001 + 0x0300_0200_0100_0000
+    words::low64(t, at) == long(e) * 0x0001_0001_0001_0001 + 0x0300_0200_0100_0000
 }
 
 // Whether the blocks could be marked, and the pages that are left.

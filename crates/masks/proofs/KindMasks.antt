@@ -16,9 +16,8 @@ use Rattle.masks.proofs.Digits.{zero-digits}
 use Rattle.masks.proofs.MaskPages.{and-pages}
 use Rattle.masks.proofs.LowWords.{low-bit}
 use Rattle.masks.proofs.Tracks.{holes-bit, stored-bit}
-use Rattle.masks.specs.Network.{down, gather, holesOf, kinds32, pairs, storedOf, up}
+use Rattle.masks.specs.Network.{down, gather, holesOf, kinds32, pairs, storedOf, up, wordsAt}
 use Rattle.masks.specs.Pages.{pageMask, pages}
-use Rattle.masks.specs.Raw.{wordsAt}
 use Rattle.packing.specs.Bitmap.{isOne, number-of}
 use Rattle.packing.specs.Bits.{bit, bit-lt, bit-none, bit-not, bit-or}
 use Rattle.packing.specs.Words.{Bytes, get-lt, getWord}

@@ -1,13 +1,12 @@
--- Words whose first byte is the least significant: their bits, and how they are put together. Assumes nothing.
+-- Words whose first byte is the least significant: their bits, and the block of an entry. Assumes nothing.
 use mathlib.Core.List.{List}
 use mathlib.Core.Path.{ap, sym, _∙_, _≡_}
 use Prim.Native.Nat.{_%_, _*_, _+_, _-_, _/_, _<_, suc, zero, ℕ}
 use native.Mathlib.Decide.{decLt}
 use native.Mathlib.Omega.{arith}
 use lib.ListN.{getD}
-use Rattle.masks.specs.Raw.{lowWord}
 use Rattle.packing.specs.Bits.{bit, bit-mod, bit-shr}
-use Rattle.packing.specs.Words.{Bytes, getWord}
+use Rattle.packing.specs.Words.{Bytes, getWord, lowWord}
 
 -- LAW: bit k is bit k % 8 of byte k / 8
 pub low-bit : (m : ℕ) (t : List ℕ) (at k : ℕ) → Bytes t → k < 8 * suc m → bit (lowWord m t at) k ≡ bit (getD t (at + k / 8) 0) (k % 8)
@@ -33,23 +32,6 @@ low-bit (suc m) t at k bs h = go (λ j l. low-bit m t (at + 1) j bs l) (decLt k 
         let q : (getD t at 0 + lowWord m t (at + 1) * 256) / 256 ≡ lowWord m t (at + 1) = omega (arith, bs at) in
         ap (bit (getD t at 0 + lowWord m t (at + 1) * 256)) c ∙ sym (bit-shr (getD t at 0 + lowWord m t (at + 1) * 256) 8 j) ∙ ap (λ y. bit y j) q ∙ ih j (omega arith)
         ∙ sym (ap (λ y. bit (getD t y 0) (k % 8)) e ∙ ap (bit (getD t (at + 1 + j / 8) 0)) d)
-
--- LAW: four bytes
-pub low-four : (t : List ℕ) (at : ℕ) → lowWord 3 t at ≡ getD t at 0 + getD t (at + 1) 0 * 256 + getD t (at + 2) 0 * 65536 + getD t (at + 3) 0 * 16777216
-unfolding lowWord
-low-four t at =
-    let a : at + 1 + 1 ≡ at + 2 = omega arith in
-    let b : at + 2 + 1 ≡ at + 3 = omega arith in
-    rw (a, b) (omega arith)
-
--- LAW: two words of four bytes
-pub low-eight : (t : List ℕ) (at : ℕ) → lowWord 7 t at ≡ lowWord 3 t at + lowWord 3 t (at + 4) * 4294967296
-unfolding lowWord
-low-eight t at =
-    let a : at + 1 + 1 ≡ at + 2 = omega arith in
-    let b : at + 2 + 1 ≡ at + 3 = omega arith in
-    let c : at + 3 + 1 ≡ at + 4 = omega arith in
-    rw (a, b, c) (omega arith)
 
 -- LAW: an entry, and its word
 low-entry : (t : List ℕ) (at : ℕ) → Bytes t → (getWord 1 t at ≡ lowWord 1 t at % 256 * 256 + lowWord 1 t at / 256)

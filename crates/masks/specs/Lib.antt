@@ -1,3 +1,2 @@
-pub mod Raw
 pub mod Network
 pub mod Pages

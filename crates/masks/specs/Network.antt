@@ -1,7 +1,13 @@
 -- The masks of the pages of a map, as the code computes them: W i is word i of the map, whose four entries stand in 16 bits each, the kind in bits 7 and 6.
 -- What they come to is shown in proofs/Tracks.antt. Assumes nothing.
+use mathlib.Core.List.{List}
 use Prim.Native.Nat.{_%_, _*_, _+_, _/_, _^_, ℕ}
 use lib.Bits.{bitAnd, bitOr}
+use Rattle.packing.specs.Words.{lowWord}
+
+-- the words of 64 bits from byte `at` on, the first byte of each the least significant
+abbrev pub wordsAt : List ℕ → ℕ → ℕ → ℕ
+wordsAt t at i = lowWord 7 t (at + i * 8)
 
 -- 64 bits moved up and down
 abbrev pub up : ℕ → ℕ → ℕ

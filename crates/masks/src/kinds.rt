@@ -3,19 +3,18 @@
 ghost use mathlib.Core.Path.{_≡_};
 ghost use Prim.Native.Nat.{_+_, _<_, _≤_};
 ghost use lib.ListN.{length};
-ghost use Rattle.masks.specs.Network.{gather, holesOf, kinds16, kinds32, storedOf};
-ghost use Rattle.masks.specs.Raw.{wordsAt};
-use crate::raw;
+ghost use Rattle.masks.specs.Network.{gather, holesOf, kinds16, kinds32, storedOf, wordsAt};
+use packing::words;
 
 // The kinds of the 16 entries of the words i to i + 3, in two fields of 16 bits.
 fn kinds_16(t: &[u8], at: usize, i: usize) -> u64
     requires { ⌜ (i < 13) × (at + 128 ≤ length (now t)) ⌝ }
     ensures { λ r. ⌜ r ≡ kinds16 (wordsAt (now (t .entry)) at) i ⌝ }
 {
-    let a = raw::raw64(t, at + i * 8) >> 6 & 0x0003_0003_0003_0003;
-    let b = raw::raw64(t, at + (i + 1) * 8) >> 6 & 0x0003_0003_0003_0003;
-    let c = raw::raw64(t, at + (i + 2) * 8) >> 6 & 0x0003_0003_0003_0003;
-    let d = raw::raw64(t, at + (i + 3) * 8) >> 6 & 0x0003_0003_0003_0003;
+    let a = words::low64(t, at + i * 8) >> 6 & 0x0003_0003_0003_0003;
+    let b = words::low64(t, at + (i + 1) * 8) >> 6 & 0x0003_0003_0003_0003;
+    let c = words::low64(t, at + (i + 2) * 8) >> 6 & 0x0003_0003_0003_0003;
+    let d = words::low64(t, at + (i + 3) * 8) >> 6 & 0x0003_0003_0003_0003;
     let k = a << 12 | b << 8 | c << 4 | d;
     (k << 2 | k >> 16) & 0x0000_FFFF_0000_FFFF
 }

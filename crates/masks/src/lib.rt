@@ -12,7 +12,6 @@ ghost use Rattle.masks.specs.Pages.{IsRange, pageMask, pages};
 use crate::kinds::kind_masks;
 
 pub mod kinds;
-pub mod raw;
 
 // The lowest bit of m that is set.
 pub fn lowest(m: u64) -> usize

@@ -58,6 +58,14 @@ pub fn read64(t: &[u8], at: usize) -> u64
         + wide64(t[at + 7])
 }
 
+// Words whose first byte is the least significant: each is read by one load, and many at a time.
+pub fn low16(t: &[u8], at: usize) -> u16
+    requires { ⌜ at + 1 < length (now t) ⌝ }
+    ensures { λ r. ⌜ (r ≡ lowWord 1 (now (t .entry)) at) × (r < 65536) ⌝ }
+{
+    wide16(t[at]) + wide16(t[at + 1]) * 256
+}
+
 fn low32(t: &[u8], at: usize) -> u32
     requires { ⌜ at + 3 < length (now t) ⌝ }
     ensures { λ r. ⌜ (r ≡ lowWord 3 (now (t .entry)) at) × (r < 4294967296) ⌝ }
@@ -74,8 +82,6 @@ fn widest(x: u32) -> u64
     x as u64
 }
 
-// The 64 bits whose first byte is the least significant: for the number of ones, which no order of the bytes changes. It
-// is read by one load, and many at a time.
 pub fn low64(t: &[u8], at: usize) -> u64
     requires { ⌜ at + 7 < length (now t) ⌝ }
     ensures { λ r. ⌜ r ≡ lowWord 7 (now (t .entry)) at ⌝ }

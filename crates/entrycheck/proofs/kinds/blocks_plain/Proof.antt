@@ -21,7 +21,7 @@ loop-holds c = (omega arith, omega arith, omega arith, clean-none _ (λ i. c .sh
 loop-again : tie.Need-loop-again Inv-loop μ-loop
 loop-again c =
     let u = c .unless-stored in
-    let r = c .before .raw16 in
+    let r = c .before .low16 in
     let l = c .before .before .before .loop in
     let k = c .before .before .before .before in
     let lu = subst (λ z. z < 65536) (sym (u .ensures)) (unless-lt (r .result) (r .ensures .1)) in (

@@ -8,7 +8,7 @@ use Rattle.entrycheck.proofs.marks.block_of.Tie as tie
 
 returns : tie.Need-returns
 returns c =
-    let r = c .before .raw16 in
+    let r = c .before .low16 in
     (c .wide .ensures ∙ low-block _ _ (r .result) (λ i. c .before .before .shared-slice-known .given i .fits) (r .ensures .0) (r .ensures .1), omega arith)
 
 pub block-of-spec : {M : Type 1} → statement M

@@ -15,9 +15,9 @@ returns c = λ e. absurd (true≢false (sym e))
 returns-2 : tie.Need-returns-2
 returns-2 c =
     let g = c .long in
-    let w = c .before .raw64 in
+    let w = c .before .low64 in
     let i1 = c .before .before in
-    let r = i1 .before .raw16 in
+    let r = i1 .before .low16 in
     let k = i1 .before .before in
     λ e. in-a-row _ (λ i. k .shared-slice-known .given i .fits) _
     (subst (λ z. z / 256 % 64 < 61) (r .ensures .0) (omega (arith, i1 .if1 .left)))
