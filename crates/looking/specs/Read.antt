@@ -2,14 +2,15 @@
 use mathlib.Core.Bool.{true}
 use mathlib.Core.List.{List}
 use mathlib.Core.Path.{_≡_}
-use Prim.Native.Nat.{_*_, suc, ℕ, _≤_}
+use Prim.Native.Nat.{_%_, _*_, _+_, _/_, _<_, suc, ℕ, _≤_}
 use lib.ListN.{length}
 use Rattle.rules.specs.Calls.{readCount, readInto}
 use Rattle.rules.specs.Reading.{sizeByReading}
 use Rattle.rules.specs.Rules.{countIn, touched}
-use Rattle.rules.specs.State.{treeOf}
-use Rattle.tables.specs.Calls.{storeOf}
+use Rattle.rules.specs.State.{Entry, hole, pageBytes, pageCount, stored, treeOf, unmapped}
+use Rattle.tables.specs.Calls.{pagesOf, storeOf}
 use Rattle.tables.specs.Packed.{unpack}
+use Rattle.tables.specs.Views.{entriesOf}
 
 -- file f of set s is read from byte off on; the buffer holds `before`, and then `after`
 pub record ReadDone (t p : List ℕ) (s f off : ℕ) (before after : List ℕ) (bytes looks : ℕ) : Type 0 where
@@ -19,3 +20,18 @@ pub record ReadDone (t p : List ℕ) (s f off : ℕ) (before after : List ℕ) (
   pub counted : bytes ≡ readCount (length before) off (sizeByReading (treeOf (unpack t .sets)) (unpack t .files f) s)
   -- "the maps looked at, at most pages read × (level + 1)"
   pub looked : looks ≤ countIn (touched off bytes) (λ q. true) * suc (unpack t .sets s .level)
+
+-- byte i of a page with an entry, of the pages p
+abbrev pub byteAt : List ℕ → Entry ℕ → ℕ → ℕ
+byteAt p unmapped i = 0
+byteAt p hole i = 0
+byteAt p (stored b) i = pagesOf p b i
+
+-- byte i of a file, where the entries of its pages are kept
+unfoldable pub byteKept : List ℕ → List ℕ → ℕ → ℕ
+byteKept kept p i = byteAt p (entriesOf kept (i / pageBytes)) (i % pageBytes)
+
+-- the entries that are kept name blocks of the pages p
+pub record EntriesIn (kept p : List ℕ) : Type 0 where
+  pub len : length kept ≡ pageCount
+  pub blocks : (q b : ℕ) → q < pageCount → entriesOf kept q ≡ stored b → b * pageBytes + pageBytes ≤ length p
