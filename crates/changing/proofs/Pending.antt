@@ -1,14 +1,17 @@
 -- Own blocks reserved, and pages entered, as the rules say, with the blocks pending in an array. Assumes nothing.
-use mathlib.Core.Bool.{Bool, cond, false, not}
+use mathlib.Core.Bool.{_&&_, Bool, cond, false, not, true}
 use mathlib.Core.List.{List}
-use mathlib.Core.Path.{_≡_, ap, refl, subst, sym, _∙_}
+use mathlib.Core.Path.{_≡_, ap, fun-ext, refl, subst, sym, _∙_}
 use Prim.Native.Nat.{_*_, _+_, _-_, _<_, suc, zero, ℕ, _≤_}
 use native.Mathlib.Numerals.{add-one, sub-one}
 use native.Mathlib.Omega.{arith}
+use lib.Dec.{leb, ltb}
 use lib.ListN.{length}
+use borrow.Author.Tests.{le-leb, le-ltb, leb-true, lt-ltb, ltb-false, ltb-true}
 use Rattle.base.specs.Count.{count}
-use Rattle.base.specs.Update.{upd, upd-all, upd-same, upd-upd}
-use Rattle.changing.specs.Pending.{PendingIn, Reserved, Reserves, StepAt, TakenFor, bytesOf, entersAs, oneTaken}
+use Rattle.base.specs.Logic.{and-left, and-right, test?}
+use Rattle.base.specs.Update.{upd, upd-all, upd-same, upd-self, upd-upd}
+use Rattle.changing.specs.Pending.{Carried, PendingIn, Reserved, Reserves, StepAt, TakenFor, bytesOf, entersAs, oneTaken}
 use Rattle.copying.proofs.Chains.{pages-more, pages-out, upPages}
 use Rattle.copying.proofs.Kept.{entered-block, sound-took, stored-is, took-own, took-same}
 use Rattle.copying.specs.Work.{Ready, Rest, Sound, Step, memoryOf, rest, work}
@@ -16,7 +19,7 @@ use Rattle.copying.specs.declared.giving.Counts.{Counts}
 use Rattle.rules.specs.Reading.{resolve}
 use Rattle.rules.specs.Rules.{Work, countIn, enter, enterAs, from, ownNeed, pageOf, reserve, reserveAs, takeOwn}
 use Rattle.rules.specs.State.{Entry, Files, SetRecord, Tables, Tree, hole, isStored, stored, treeOf, unmapped}
-use Rattle.rules.specs.Storage.{Memory, PageData, real}
+use Rattle.rules.specs.Storage.{Memory, PageData, overlay, real}
 use Rattle.tables.specs.Calls.{pagesOf}
 use Rattle.tables.specs.Packed.{unpack}
 use Rattle.tables.specs.Views.{PackedTables, Took, Turns, pendingOf, putEntryIn}
@@ -171,6 +174,45 @@ page-is m (stored a) = refl
 pub laid : (pg pg₁ pg₂ : ℕ → PageData) (b : ℕ) (v : PageData) (g : PageData → PageData) → pg₁ ≡ upd pg b v → pg₂ ≡ upd pg₁ b (g (pg₁ b)) → pg₂ ≡ upd pg b (g v)
 laid pg pg₁ pg₂ b v g e₁ e₂ =
     e₂ ∙ ap (λ (y : ℕ → PageData). upd y b (g (y b))) e₁ ∙ ap (λ (y : PageData). upd (upd pg b v) b (g y)) (upd-same pg b v) ∙ upd-upd pg b v (g v)
+
+-- LAW: what bytes cover a page whole, does not depend on what was there
+covered : (off : ℕ) (bs : List ℕ) (q : ℕ) (v w : PageData) → off ≤ q * 512 → q * 512 + 512 ≤ off + length bs → ((i : ℕ) → 512 ≤ i → v i ≡ w i) → overlay off bs q v ≡ overlay off bs q w
+unfolding overlay
+covered off bs q v w lo hi past = fun-ext (λ i. test? (ltb i 512)
+    (λ e. let l = ltb-true i 512 e in
+    rw (e, le-leb off (q * 512 + i) (omega arith), lt-ltb (q * 512 + i) (off + length bs) (omega arith)))
+    (λ e. rw e (past i (ltb-false i 512 e))))
+
+-- a page has no bytes from 512 on
+page-past : (p : List ℕ) (b i : ℕ) → 512 ≤ i → pagesOf p b i ≡ 0
+unfolding pagesOf
+page-past p b i h = rw (le-ltb i 512 h)
+
+bytes-past : (p : List ℕ) (e : Entry ℕ) (i : ℕ) → 512 ≤ i → bytesOf (pagesOf p) e i ≡ 0
+unfolding bytesOf
+bytes-past p unmapped i h = refl
+bytes-past p hole i h = refl
+bytes-past p (stored a) i h = page-past p a i h
+
+-- LAW: nothing need be carried where the bytes cover the page
+pub carried-none : (p : List ℕ) (b q off n : ℕ) (e : Entry ℕ) (r : Bool) → r ≡ (leb off (q * 512) && leb (q * 512 + 512) (off + n)) → r ≡ true → Carried (pagesOf p) (pagesOf p) b q off n e
+carried-none p b q off n e r er h =
+    let lo = leb-true off (q * 512) (and-left (leb off (q * 512)) (leb (q * 512 + 512) (off + n)) (sym er ∙ h)) in
+    let hi = leb-true (q * 512 + 512) (off + n) (and-right (leb off (q * 512)) (leb (q * 512 + 512) (off + n)) (sym er ∙ h)) in
+    record {
+      bytes = pagesOf p b;
+      pages = sym (upd-self (pagesOf p) b);
+      laid = λ bs len. covered off bs q (pagesOf p b) (bytesOf (pagesOf p) e) lo (omega arith) (λ i l. page-past p b i l ∙ sym (bytes-past p e i l));
+    }
+
+-- LAW: the old bytes are carried
+pub carried-all : (pg pg′ : ℕ → PageData) (b q off n : ℕ) (x e : Entry ℕ) → x ≡ e → pg′ ≡ upd pg b (bytesOf pg x) → Carried pg pg′ b q off n e
+carried-all pg pg′ b q off n x e ex h = record { bytes = bytesOf pg x; pages = h; laid = λ bs len. ap (λ (y : Entry ℕ). overlay off bs q (bytesOf pg y)) ex }
+
+-- LAW: carried, then laid over
+pub carried-laid : (pg pg₁ pg₂ : ℕ → PageData) (b q off : ℕ) (bs : List ℕ) (e : Entry ℕ) → Carried pg pg₁ b q off (length bs) e → pg₂ ≡ upd pg₁ b (overlay off bs q (pg₁ b))
+    → pg₂ ≡ upd pg b (overlay off bs q (bytesOf pg e))
+carried-laid pg pg₁ pg₂ b q off bs e c h = laid pg pg₁ pg₂ b (c .bytes) (overlay off bs q) (c .pages) h ∙ ap (λ (v : PageData). upd pg b v) (c .laid bs refl)
 
 -- LAW: its bytes prepared from those of e, changed by g, and the block entered
 pub enters : {t t₁ p p₁ : List ℕ} {f : ℕ} {k : Counts} (s q b : ℕ) (e : Entry ℕ) (g : PageData → PageData) → Turns t t₁ (putEntryIn f s q (stored b))

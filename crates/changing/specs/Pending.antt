@@ -7,7 +7,7 @@ use lib.ListN.{length}
 use Rattle.base.specs.Update.{upd}
 use Rattle.rules.specs.Rules.{Work, enterAs, pageOf, reserve}
 use Rattle.rules.specs.State.{Entry, Tree, hole, isStored, stored, treeOf, unmapped}
-use Rattle.rules.specs.Storage.{PageData, real}
+use Rattle.rules.specs.Storage.{PageData, overlay, real}
 use Rattle.tables.specs.Calls.{pagesOf}
 use Rattle.tables.specs.Packed.{unpack}
 use Rattle.tables.specs.Views.{PackedTables, Took, pendingOf}
@@ -49,6 +49,12 @@ unfoldable pub bytesOf : (ℕ → PageData) → Entry ℕ → PageData
 bytesOf pg unmapped = λ i. 0
 bytesOf pg hole = λ i. 0
 bytesOf pg (stored a) = pg a
+
+-- block b has bytes that are, once n bytes from off on are laid over page p, those of the page, which resolved to e; no other block is changed
+pub record Carried (pg pg′ : ℕ → PageData) (b p off n : ℕ) (e : Entry ℕ) : Type 0 where
+  pub bytes : PageData
+  pub pages : pg′ ≡ upd pg b bytes
+  pub laid : (bs : List ℕ) → length bs ≡ n → overlay off bs p bytes ≡ overlay off bs p (bytesOf pg e)
 
 -- block b enters for page p of set s, which resolved to e, its bytes changed by g
 abbrev pub entersAs : Tree → Entry ℕ → ℕ → ℕ → ℕ → (PageData → PageData) → Work real → Work real

@@ -1,9 +1,12 @@
 // Step 5, for the pages that have a block pending: "Old bytes are carried to own pages, new bytes laid over", and the block
 // enters the map.
+ghost use mathlib.Core.Bool.{_&&_};
 ghost use mathlib.Core.Path.{_≡_};
 ghost use Prim.Native.Nat.{ℕ, _*_, _+_, _<_, _≤_};
+ghost use lib.Dec.{leb};
 ghost use lib.ListN.{length};
 ghost use Rattle.base.specs.Update.{upd};
+ghost use Rattle.rules.specs.Reading.{resolve};
 ghost use Rattle.rules.specs.Rules as Rules;
 ghost use Rattle.rules.specs.State.{stored, treeOf};
 ghost use Rattle.rules.specs.Storage.{overlay, real};
@@ -12,7 +15,7 @@ ghost use Rattle.tables.specs.Packed.{unpack};
 ghost use Rattle.tables.specs.Meaning.{entryMeant};
 ghost use Rattle.tables.specs.Views.{pendingOf};
 ghost use Rattle.copying.specs.Work.{Ready, Step};
-ghost use Rattle.changing.specs.Pending.{PendingIn, StepAt, bytesOf, entersAs};
+ghost use Rattle.changing.specs.Pending.{Carried, PendingIn, StepAt, bytesOf, entersAs};
 use copying::giving::Counts;
 use maps::reading;
 use tables::entries;
@@ -32,23 +35,57 @@ pub fn prepare(p: &mut [u8], e: Entry, b: Block)
     }
 }
 
-// A page, which resolved to e, gets block b and the bytes of data that fall on it.
+// Do n bytes from byte `off` of the file on cover the page whole?
+fn covers(page: Page, off: usize, n: usize) -> bool
+    requires { ⌜ (page .0 < 64) × (off + n ≤ 32768) ⌝ }
+    ensures { λ r. ⌜ r ≡ (leb off (page .0 * 512) && leb (page .0 * 512 + 512) (off + n)) ⌝ }
+{
+    let start = page.number() * 512;
+    if start < off {
+        return false;
+    }
+    start + 512 <= off + n
+}
+
+// Old bytes are carried to block b, unless the n bytes from `off` on that will be laid over the page cover it whole.
+fn carry(
+    t: &[u8],
+    p: &mut [u8],
+    f: usize,
+    s: usize,
+    page: Page,
+    b: Block,
+    off: usize,
+    n: usize,
+    k: Counts,
+)
+    requires { ⌜ Ready (now t) (now p) f k × (s < 8) × (page .0 < 64) × (b .0 < unpack (now t) .blocks) × (off + n ≤ 32768) ⌝ }
+    ensures { λ _. ⌜ Carried (pagesOf (now (p .entry))) (pagesOf (now (p .exit))) (b .0) (page .0) off n (resolve (treeOf (unpack (now (t .entry)) .sets)) (unpack (now (t .entry)) .files f) s (page .0)) ⌝ }
+{
+    if covers(page, off, n) {
+        return;
+    }
+    let r = reading::resolve_in(t, f, page, s);
+    let old = r.entry;
+    prepare(p, old, b);
+}
+
+// A page gets block b and the bytes of data that fall on it.
 fn enter_block(
     t: &mut [u8],
     p: &mut [u8],
     f: usize,
     s: usize,
     page: Page,
-    e: Entry,
     b: Block,
     off: usize,
     data: &[u8],
     k: Counts,
 )
-    requires { ⌜ Ready (now t) (now p) f k × (s < 8) × (page .0 < 64) × (b .0 < unpack (now t) .blocks) × ((a : ℕ) → entryMeant e ≡ stored a → a < unpack (now t) .blocks) × (off + length (now «data») ≤ 32768) ⌝ }
-    ensures { λ _. ⌜ Step (now (t .entry)) (now (p .entry)) (now (t .exit)) (now (p .exit)) f k k (entersAs (treeOf (unpack (now (t .entry)) .sets)) (entryMeant e) (b .0) s (page .0) (overlay off (now («data» .entry)) (page .0))) ⌝ }
+    requires { ⌜ Ready (now t) (now p) f k × (s < 8) × (page .0 < 64) × (b .0 < unpack (now t) .blocks) × (off + length (now «data») ≤ 32768) ⌝ }
+    ensures { λ _. ⌜ Step (now (t .entry)) (now (p .entry)) (now (t .exit)) (now (p .exit)) f k k (entersAs (treeOf (unpack (now (t .entry)) .sets)) (resolve (treeOf (unpack (now (t .entry)) .sets)) (unpack (now (t .entry)) .files f) s (page .0)) (b .0) s (page .0) (overlay off (now («data» .entry)) (page .0))) ⌝ }
 {
-    prepare(p, e, b);
+    carry(&*t, p, f, s, page, b, off, data.len(), k);
     pages::lay_bytes(p, b, page, off, data);
     entries::put_entry(t, f, s, page, Entry::Stored(b));
 }
@@ -72,11 +109,7 @@ pub fn enter(
     match e {
         Entry::Unmapped => {}
         Entry::Hole => {}
-        Entry::Stored(b) => {
-            let r = reading::resolve_in(&*t, f, page, s);
-            let old = r.entry;
-            enter_block(t, p, f, s, page, old, b, off, data, k);
-        }
+        Entry::Stored(b) => enter_block(t, p, f, s, page, b, off, data, k),
     }
 }
 

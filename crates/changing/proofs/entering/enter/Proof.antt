@@ -1,10 +1,9 @@
 -- `changing::entering::enter` meets its contract. Assumes nothing.
-use mathlib.Core.Path.{ap, sym, _∙_}
+use mathlib.Core.Path.{ap, refl, sym, _∙_}
 use borrow.Author.Needs.{needs}
 use Rattle.rules.specs.State.{isStored}
 use Rattle.rules.specs.Storage.{overlay}
 use Rattle.tables.specs.Meaning.{entryMeant}
-use Rattle.copying.proofs.Given.{resolve-below}
 use Rattle.changing.proofs.Pending.{enter-none, enter-some}
 use Rattle.changing.proofs.entering.enter.Statement.{statement}
 use Rattle.changing.proofs.entering.enter.Tie as tie
@@ -12,18 +11,11 @@ use Rattle.changing.proofs.entering.enter.Tie as tie
 enter-block-requires : tie.Need-enter-block-requires
 unfolding entryMeant
 enter-block-requires c κs =
-    let r = c .before .before in
-    let d = r .before .before .before in
+    let d = c .before .before .before in
     let e = d .before .before in
     let s = e .before .before .before .before in
-    let a = s .args in (
-      s .pre .0,
-      s .pre .2,
-      s .pre .3,
-      s .pre .1 .below (a .page .0) _ (sym (e .held .ensures) ∙ ap entryMeant (d .e .given .1)),
-      resolve-below (s .pre .0) (a .s) (a .page .0) (r .resolve-in .ensures .0),
-      s .pre .4,
-    )
+    let a = s .args in
+    (s .pre .0, s .pre .2, s .pre .3, s .pre .1 .below (a .page .0) _ (sym (e .held .ensures) ∙ ap entryMeant (d .e .given .1)), s .pre .4)
 
 returns : tie.Need-returns
 unfolding entryMeant
@@ -45,16 +37,15 @@ returns-3 : tie.Need-returns-3
 unfolding entryMeant
 returns-3 c =
     let u = c .before .before .before .before in
-    let r = u .before .before .before in
-    let d = r .before .before .before in
+    let d = u .before .before .before .before in
     let e = d .before .before in
     let s = e .before .before .before .before in
     let a = s .args in
-    enter-some (a .pending .now) (a .s) (a .page .0) (overlay (a .off) (a .«data» .now)) _ (entryMeant (r .resolve-in .result .entry))
-    (sym (e .held .ensures) ∙ ap entryMeant (d .e .given .1)) (r .resolve-in .ensures .0) (u .enter-block .ensures)
+    enter-some (a .pending .now) (a .s) (a .page .0) (overlay (a .off) (a .«data» .now)) _ _
+    (sym (e .held .ensures) ∙ ap entryMeant (d .e .given .1)) refl (u .enter-block .ensures)
 
 pub enter-spec : {M : Type 1} → statement M
 enter-spec =
     tie.close
     (tie.spec
-    (λ c κs. search needs) (λ c. search needs) (λ c. search needs) (λ c. search needs) (λ c κs. search needs) enter-block-requires returns returns-2 (λ c. search needs) (λ c. search needs) returns-3)
+    (λ c κs. search needs) (λ c. search needs) (λ c. search needs) (λ c. search needs) enter-block-requires returns returns-2 (λ c. search needs) (λ c. search needs) returns-3)

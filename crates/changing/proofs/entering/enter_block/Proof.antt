@@ -2,24 +2,22 @@
 use mathlib.Core.Path.{_∙_}
 use native.Mathlib.Omega.{arith}
 use borrow.Author.Needs.{needs}
+use Rattle.rules.specs.Reading.{resolve}
 use Rattle.rules.specs.State.{treeOf}
 use Rattle.rules.specs.Storage.{overlay}
 use Rattle.tables.specs.Meaning.{entryMeant}
 use Rattle.tables.specs.Packed.{unpack}
 use Rattle.tables.specs.Calls.{pagesOf}
-use Rattle.changing.specs.Pending.{bytesOf}
-use Rattle.changing.proofs.Pending.{enters, laid}
+use Rattle.changing.proofs.Pending.{carried-laid, enters}
 use Rattle.changing.proofs.entering.enter_block.Statement.{statement}
 use Rattle.changing.proofs.entering.enter_block.Tie as tie
 
-prepare-requires : tie.Need-prepare-requires
-prepare-requires c κs =
-    let s = c .before .before .before .before in
-    (omega (arith, s .pre .0 .size, s .pre .3), λ x h. omega (arith, s .pre .0 .size, s .pre .4 x h))
-
 put-entry-requires : tie.Need-put-entry-requires
 unfolding entryMeant
-put-entry-requires c κs = search needs
+put-entry-requires c κs =
+    let s = c .before .before .before .before .before .before .before .before .before .before .before .before .before in
+    let re = s .pre .0 in
+    (re .packed, re .file, s .pre .1, s .pre .2, omega (arith, s .pre .3, re .sound .header .most))
 
 returns : tie.Need-returns
 unfolding entryMeant
@@ -27,15 +25,16 @@ returns c =
     let u = c .before .before in
     let l = u .before .before .before .before in
     let r = l .before .before .before .before in
-    let s = r .before .before .before .before .before in
+    let s = r .before .before .before .before .before .before in
     let a = s .args in
-    let g = overlay (a .off) (a .«data» .now) (a .page .0) in
-    enters (a .s) (a .page .0) (a .b .0) (entryMeant (a .e)) g (u .put-entry .ensures)
-    (laid (pagesOf (a .p .now)) _ _ (a .b .0) (bytesOf (pagesOf (a .p .now)) (entryMeant (a .e))) g (r .prepare .ensures) (l .lay-bytes .ensures))
-    (l .lay-bytes .kept .0 ∙ r .prepare .kept .0) (s .pre .0) (s .pre .3) (treeOf (unpack (a .t .now) .sets))
+    let tree = treeOf (unpack (a .t .now) .sets) in
+    let e = resolve tree (unpack (a .t .now) .files (a .f)) (a .s) (a .page .0) in
+    enters (a .s) (a .page .0) (a .b .0) e (overlay (a .off) (a .«data» .now) (a .page .0)) (u .put-entry .ensures)
+    (carried-laid (pagesOf (a .p .now)) _ _ (a .b .0) (a .page .0) (a .off) (a .«data» .now) e (r .carry .ensures) (l .lay-bytes .ensures))
+    (l .lay-bytes .kept .0 ∙ r .carry .kept .1 .0) (s .pre .0) (s .pre .3) tree
 
 pub enter-block-spec : {M : Type 1} → statement M
 enter-block-spec =
     tie.close
     (tie.spec
-    prepare-requires (λ c κs. search needs) put-entry-requires (λ c. search needs) (λ c. search needs) returns)
+    (λ c κs. search needs) (λ c κs. search needs) put-entry-requires (λ c. search needs) (λ c. search needs) returns)
