@@ -11,7 +11,7 @@ use Rattle.calls.proofs.CallCases.{call-accepted, numberIn, onStore}
 use Rattle.pages.proofs.Whole.{pages-packed}
 use Rattle.calls.specs.Outcomes.{answerMeant, outcome}
 use Rattle.packing.specs.Words.{Bytes}
-use Rattle.rules.proofs.Accepted.{passed-create, passed-make, passed-remove}
+use Rattle.rules.proofs.Whole.Accepted.{passed-create, passed-make, passed-remove}
 use Rattle.rules.specs.Calls.{Store, accepted, done, viewOf}
 use Rattle.rules.specs.Numbers.{Answer, Call, create, make, noCounts, refusal, remove}
 use Rattle.rules.specs.State.{Tables, absentFile}

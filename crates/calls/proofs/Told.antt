@@ -11,7 +11,7 @@ use Rattle.calls.specs.Outcomes.{answerMeant, outcome, readOutcome}
 use Rattle.looking.proofs.Outcome.{free-outcome, read-looks, read-outcome, size-outcome, tells}
 use Rattle.looking.specs.Read.{ReadDone}
 use Rattle.packing.specs.Bitmap.{number}
-use Rattle.rules.proofs.Accepted.{passed-size}
+use Rattle.rules.proofs.Whole.Accepted.{passed-size}
 use Rattle.rules.specs.Calls.{Store, viewOf}
 use Rattle.rules.specs.Numbers.{Answer, conditions, lowest, numberOf, read, refusal, tellFree, tellSize}
 use Rattle.rules.specs.Reading.{sizeByReading}

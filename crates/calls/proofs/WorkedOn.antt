@@ -15,8 +15,8 @@ use Rattle.changing.specs.Whole.{Changed}
 use Rattle.copying.specs.Work.{Rest, rest, work}
 use Rattle.packing.specs.Bitmap.{number}
 use Rattle.packing.specs.Words.{Bytes}
-use Rattle.rules.proofs.Accepted.{passed-delete, passed-truncate, passed-write}
-use Rattle.rules.proofs.WriterSteps.{bytes}
+use Rattle.rules.proofs.Whole.Accepted.{passed-delete, passed-truncate, passed-write}
+use Rattle.rules.proofs.Steps.WriterSteps.{bytes}
 use Rattle.rules.specs.Calls.{accepted, begin, finish, tablesOf, viewOf, worked}
 use Rattle.rules.specs.Numbers.{Answer, Call, delete, refusal, truncate, write}
 use Rattle.rules.specs.Rules.{Work, deleteFile, ownNeed, touched, truncateFile, truncateNeed, writeFile}

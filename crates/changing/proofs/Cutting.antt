@@ -16,7 +16,7 @@ use Rattle.changing.specs.Whole.{Changed, ChangedAlone, startCounts}
 use Rattle.copying.specs.Changes.{settled}
 use Rattle.copying.specs.Work.{Alone, Ready, Rest, Step, settleChildren, work}
 use Rattle.copying.specs.declared.giving.Counts.{Counts}
-use Rattle.rules.proofs.Shape.{size-most}
+use Rattle.rules.proofs.Formed.Shape.{size-most}
 use Rattle.rules.specs.Reading.{resolve, sizeByReading}
 use Rattle.rules.specs.Rules.{Work, change, cutPages, dropPage, droppedPages, each, enter, from, giveAll, keptPages, ownNeed, reserve, resize, settle, truncateAs, truncateFile, truncateNeed}
 use Rattle.rules.specs.State.{Entry, Files, Tree, isStored, treeOf, unmapped}

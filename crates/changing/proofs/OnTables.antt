@@ -8,7 +8,7 @@ use Rattle.copying.proofs.Kept.{changed-does, entered-does, putEntry-all, relea
 use Rattle.copying.proofs.Steps.{does-as, does-then}
 use Rattle.copying.specs.Work.{Does, Rest, onFiles, rest, work}
 use Rattle.copying.specs.declared.giving.Counts.{Counts}
-use Rattle.rules.proofs.GoodWork.{not-stored}
+use Rattle.rules.proofs.Blocks.GoodWork.{not-stored}
 use Rattle.rules.specs.Rules.{Work, dropPage, freeEntry, putEntry, resize}
 use Rattle.rules.specs.State.{Entry, Files, SetRecord, Tables, Tree, hole, own, stored, treeOf, unmapped}
 use Rattle.rules.specs.Storage.{PageData, real}

@@ -16,8 +16,8 @@ use Rattle.copying.proofs.Settled.{settled-sets, settled-step}
 use Rattle.copying.specs.Changes.{settled}
 use Rattle.copying.specs.Work.{Alone, Ready, Rest, Step, memoryOf, rest, settleChildren, work, workOf}
 use Rattle.copying.specs.declared.giving.Counts.{Counts}
-use Rattle.rules.proofs.GoodWork.{not-stored}
-use Rattle.rules.proofs.Sim.{settle-ent}
+use Rattle.rules.proofs.Blocks.GoodWork.{not-stored}
+use Rattle.rules.proofs.Storages.Sim.{settle-ent}
 use Rattle.rules.specs.Rules.{Work, change, countIn, deleteAs, deleteFile, each, enter, eraseFile, from, giveAll, ownNeed, reserve, resize, settle, touched, writeFile}
 use Rattle.rules.specs.State.{Entry, SetRecord, Tables, Tree, absentFile, isStored, live, treeOf, unmapped}
 use Rattle.rules.specs.Storage.{Memory, PageData, overlay, real}

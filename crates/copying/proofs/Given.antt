@@ -9,8 +9,8 @@ use Rattle.copying.proofs.Chains.{upPages}
 use Rattle.copying.proofs.Kept.{entered}
 use Rattle.copying.proofs.Steps.{going-as, going-start, step-as, step-none}
 use Rattle.copying.specs.Work.{Going, Ready, Step, giveChildren, work}
-use Rattle.rules.proofs.GoodWork.{not-stored}
-use Rattle.rules.proofs.Tidy.{resolve-named}
+use Rattle.rules.proofs.Blocks.GoodWork.{not-stored}
+use Rattle.rules.proofs.Blocks.Tidy.{resolve-named}
 use Rattle.rules.specs.Reading.{needs, resolve}
 use Rattle.rules.specs.Rules.{Work, copy, from, give, giveAll, mark, supply}
 use Rattle.rules.specs.State.{Entry, Files, SetRecord, hole, live, stored, treeOf, unmapped}

@@ -13,7 +13,7 @@ use Rattle.base.specs.Logic.{pick, same?, test?}
 use Rattle.base.specs.Search.{firstFree}
 use Rattle.base.specs.Update.{upd, upd-all, upd-keeps, upd-other, upd-same, upd-upd}
 use Rattle.copying.specs.Work.{Does, Ready, Rest, Sound, Step, memoryOf, onFiles, rest, work, workOf}
-use Rattle.rules.proofs.OneStep.{putEntry-state}
+use Rattle.rules.proofs.Steps.OneStep.{putEntry-state}
 use Rattle.rules.specs.Rules.{Work, copy, enterAs, putEntry, takeOwn}
 use Rattle.rules.specs.State.{Entry, File, Files, State, Tables, Tree, absentFile, live, stored, treeOf}
 use Rattle.rules.specs.Storage.{PageData, real, takeBlock}

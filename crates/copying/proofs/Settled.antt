@@ -8,7 +8,7 @@ use Rattle.base.specs.Update.{upd, upd-keeps, upd-self}
 use Rattle.copying.proofs.Kept.{changed, sound-files}
 use Rattle.copying.specs.Changes.{settled}
 use Rattle.copying.specs.Work.{Alone, Ready, Step}
-use Rattle.rules.proofs.Sim.{settle-ent}
+use Rattle.rules.proofs.Storages.Sim.{settle-ent}
 use Rattle.rules.specs.Reading.{sizeByReading}
 use Rattle.rules.specs.Rules.{settle, settleAs, settleFile}
 use Rattle.rules.specs.State.{File, Files, State, Tables, Tree, absent, isVirgin, live, marked, own, treeOf, virgin}

@@ -12,8 +12,8 @@ use Rattle.base.specs.Count.{all, all-at, all-of, count, sum}
 use Rattle.base.specs.Logic.{and-both, and-left, and-right, digit, test?}
 use Rattle.entrycheck.proofs.Counts.{Counts, digit-most, digit-same, entry-counts, through-counts}
 use Rattle.entrycheck.specs.Marking.{Seen, entriesFormed, formedBy, markAll, markEntry, markFile, markNumber, noneSeen, same-bits-at, same-bits-of, sameBits}
-use Rattle.rules.proofs.BitsFormed.{all-files-at, all-files-of}
-use Rattle.rules.proofs.Sums.{count-sum, sum-same, sum-zero}
+use Rattle.rules.proofs.Formed.BitsFormed.{all-files-at, all-files-of}
+use Rattle.rules.proofs.Blocks.Sums.{count-sum, sum-same, sum-zero}
 use Rattle.rules.specs.WellFormed.{allFiles, allPages, bitsFormed, blockBelow, names, timesNamed}
 use Rattle.tables.proofs.ReadParts.{read-map}
 use Rattle.tables.specs.Layout.{entryWord, readEntry}

@@ -23,7 +23,7 @@ use Rattle.entrycheck.specs.Moving.{Moved, blockAt, noPage, timesLeft}
 use Rattle.packing.specs.Bitmap.{bitAt, isOne}
 use Rattle.packing.specs.Words.{Bytes, getWord}
 use Rattle.packing.specs.Zeros.{zero-at, zeroBytes}
-use Rattle.rules.proofs.Sums.{count-sum, sum-same, sum-zero}
+use Rattle.rules.proofs.Blocks.Sums.{count-sum, sum-same, sum-zero}
 use Rattle.rules.specs.State.{isStored, isUnmapped, unmapped}
 use Rattle.rules.specs.WellFormed.{blockBelow, names}
 use Rattle.tables.proofs.Codes.{entry-place, word-hole, word-stored, word-unmapped}

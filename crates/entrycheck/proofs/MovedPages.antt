@@ -15,7 +15,7 @@ use Rattle.entrycheck.proofs.Runs.{above-run, in-run, inRun, not-in-run
 use Rattle.entrycheck.specs.Marking.{Marks}
 use Rattle.entrycheck.specs.Moving.{Moved, timesLeft}
 use Rattle.packing.specs.Bitmap.{bitAt}
-use Rattle.rules.proofs.Sums.{sum-same}
+use Rattle.rules.proofs.Blocks.Sums.{sum-same}
 
 -- the pages left without p, .., p + n - 1
 abbrev pub without : ℕ → ℕ → (ℕ → Bool) → ℕ → Bool

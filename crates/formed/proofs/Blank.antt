@@ -18,9 +18,9 @@ use Rattle.formed.specs.Files.{fileAlone, fileLinked}
 use Rattle.formed.specs.Pass.{BlankFrom, UnusedFrom, onlyIf, passFile, passSets}
 use Rattle.packing.specs.Words.{Bytes}
 use Rattle.packing.specs.Zeros.{zero-at, zero-of, zeroBytes}
-use Rattle.rules.proofs.FilesFormed.{unmapped-is}
-use Rattle.rules.proofs.Shape.{absent-is}
-use Rattle.rules.proofs.Tests.{and-4, files-at, not-then, or-then, pages-at}
+use Rattle.rules.proofs.Formed.FilesFormed.{unmapped-is}
+use Rattle.rules.proofs.Formed.Shape.{absent-is}
+use Rattle.rules.proofs.Formed.Tests.{and-4, files-at, not-then, or-then, pages-at}
 use Rattle.rules.specs.Reading.{dependent}
 use Rattle.rules.specs.State.{Entry, File, SetRecord, absentFile, hole, isAbsent, isStored, isUnmapped, stored, unmapped}
 use Rattle.rules.specs.WellFormed.{aboveFormed, allFiles, allPages, bitsFormed, filesFormed, pastFormed, zeroFile}

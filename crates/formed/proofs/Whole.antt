@@ -19,8 +19,8 @@ use Rattle.formed.specs.Files.{Falling, fileAlone, fileLinked, numberFor
 use Rattle.formed.specs.Pass.{onlyIf, passNumber}
 use Rattle.packing.specs.Bitmap.{bitAt}
 use Rattle.packing.specs.Fields.{getField}
-use Rattle.rules.proofs.SetsOk.{SetsOk, used-below}
-use Rattle.rules.proofs.Tests.{all-4, and-4, and-5, files-at, files-of, not-of, not-then}
+use Rattle.rules.proofs.Tree.SetsOk.{SetsOk, used-below}
+use Rattle.rules.proofs.Formed.Tests.{all-4, and-4, and-5, files-at, files-of, not-of, not-then}
 use Rattle.rules.specs.State.{SetRecord, isAbsent}
 use Rattle.rules.specs.WellFormed.{aboveFormed, allFiles, bitsFormed, filesFormed, headerFormed, pastFormed, rootFileFormed, sizeFormed, virginFormed, zeroFile}
 use Rattle.setcheck.proofs.Rules.{header-in, records-sets, well-formed-parts}

@@ -10,10 +10,10 @@ use borrow.Author.Tests.{eqb-true, le-leb, leb-true}
 use Rattle.base.specs.Logic.{and-left, and-right}
 use Rattle.history.proofs.Image.{image-formed, image-length, image-store, imageOf}
 use Rattle.history.specs.Demand3.{Demand3, Image, after, afterAll, bothAfter, gave, gaveAll, imageAfter}
-use Rattle.rules.proofs.Holds.{Holds, holds-step}
-use Rattle.rules.proofs.HoldsMeans.{agrees-plain, agrees-tally}
-use Rattle.rules.proofs.StateTheorem.{given-run, holds-run, holds-start}
-use Rattle.rules.proofs.WriterSteps.{bytes}
+use Rattle.rules.proofs.Whole.Holds.{Holds, holds-step}
+use Rattle.rules.proofs.Whole.HoldsMeans.{agrees-plain, agrees-tally}
+use Rattle.rules.proofs.Whole.StateTheorem.{given-run, holds-run, holds-start}
+use Rattle.rules.proofs.Steps.WriterSteps.{bytes}
 use Rattle.rules.specs.Agreement.{AgreesPlain, AgreesTally, bufferAfter, bufferOf, front, frontOf, storeGive, storeGiven, storeRun}
 use Rattle.rules.specs.Calls.{Store, accepted, blankMemory, formatted, readInto, resultOf, step, tablesOf, viewOf, worked}
 use Rattle.rules.specs.Numbers.{Call, Look, View, bytesAsked, conditions, create, delete, format, lookOf, lowest, make, noCounts, noneAsked, numberOf, read, refusal, remove, sizeAsked, tellFree, tellSize, truncate, write}

@@ -11,11 +11,11 @@ use borrow.Author.Tests.{ltb-false, ltb-true}
 use Rattle.base.specs.Logic.{same?, test?}
 use Rattle.base.specs.Tabulate.{getD-tab, length-tab}
 use Rattle.history.specs.Demand3.{Image}
-use Rattle.rules.proofs.FilesFormed.{StateOk}
-use Rattle.rules.proofs.Holds.{Holds}
-use Rattle.rules.proofs.SetsOk.{SetsOk, first-used, next-used, parent-below, used-below}
-use Rattle.rules.proofs.Shape.{FileFits}
-use Rattle.rules.proofs.StateTheorem.{holds-blocks, holds-sets, holds-state}
+use Rattle.rules.proofs.Formed.FilesFormed.{StateOk}
+use Rattle.rules.proofs.Whole.Holds.{Holds}
+use Rattle.rules.proofs.Tree.SetsOk.{SetsOk, first-used, next-used, parent-below, used-below}
+use Rattle.rules.proofs.Formed.Shape.{FileFits}
+use Rattle.rules.proofs.Whole.StateTheorem.{holds-blocks, holds-sets, holds-state}
 use Rattle.rules.specs.Calls.{Store, tablesOf, treeIn}
 use Rattle.rules.specs.Plain.{Plain}
 use Rattle.rules.specs.State.{Entry, File, absentFile, hole, isAbsent, noSet, stored, unmapped}

@@ -6,9 +6,9 @@ use Prim.Native.Nat.{_+_, _<_, suc, zero, ℕ, _≤_}
 use native.Mathlib.Omega.{arith}
 use lib.ListN.{length}
 use Rattle.listing.specs.Listing.{inTurn}
-use Rattle.rules.proofs.Chains.{few-below}
-use Rattle.rules.proofs.SetsOk.{SetsOk, child-below, children-once}
-use Rattle.rules.proofs.WriterSteps.{NoDup}
+use Rattle.rules.proofs.Tree.Chains.{few-below}
+use Rattle.rules.proofs.Tree.SetsOk.{SetsOk, child-below, children-once}
+use Rattle.rules.proofs.Steps.WriterSteps.{NoDup}
 use Rattle.rules.specs.State.{SetRecord, childrenOf}
 
 -- LISTS

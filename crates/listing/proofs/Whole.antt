@@ -11,8 +11,8 @@ use Rattle.listing.proofs.Order.{order, order-most, order-some}
 use Rattle.listing.proofs.Visits.{chain-step, no-set, none-left, set-step}
 use Rattle.listing.specs.Listing.{inTurn, listSet, listing, setText}
 use Rattle.listing.specs.Written.{Visit, behind, visitChain, visitSet}
-use Rattle.rules.proofs.Chains.{Follows}
-use Rattle.rules.proofs.SetsOk.{SetsOk}
+use Rattle.rules.proofs.Tree.Chains.{Follows}
+use Rattle.rules.proofs.Tree.SetsOk.{SetsOk}
 use Rattle.rules.specs.State.{Tables, childrenOf}
 
 abbrev visit : List ℕ → ℕ → Visit

@@ -12,8 +12,8 @@ use Rattle.base.specs.Logic.{test?}
 use Rattle.base.specs.Tabulate.{tab}
 use Rattle.maps.specs.ManyPages.{RangeResolved}
 use Rattle.pages.specs.Run.{run, run-front, run-none, run-same, run-then}
-use Rattle.rules.proofs.Shape.{size-most}
-use Rattle.rules.proofs.Tidy.{resolve-named}
+use Rattle.rules.proofs.Formed.Shape.{size-most}
+use Rattle.rules.proofs.Blocks.Tidy.{resolve-named}
 use Rattle.rules.specs.Calls.{byteByReading, readCount, readInto}
 use Rattle.rules.specs.Reading.{resolve, sizeByReading}
 use Rattle.rules.specs.Rules.{countIn, from, pageOf, touched}

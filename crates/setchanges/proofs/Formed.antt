@@ -9,9 +9,9 @@ use lib.Pow.{low}
 use borrow.Author.Tests.{eqb-true, leb-true, ltb-false, ltb-true}
 use Rattle.base.specs.Count.{all}
 use Rattle.base.specs.Logic.{and-left, and-right, digit, test?}
-use Rattle.rules.proofs.FilesFormed.{unmapped-is}
-use Rattle.rules.proofs.Shape.{absent-is}
-use Rattle.rules.proofs.Tests.{and-3, and-4, files-at, not-then, or-then, pages-at}
+use Rattle.rules.proofs.Formed.FilesFormed.{unmapped-is}
+use Rattle.rules.proofs.Formed.Shape.{absent-is}
+use Rattle.rules.proofs.Formed.Tests.{and-3, and-4, files-at, not-then, or-then, pages-at}
 use Rattle.rules.specs.State.{Entry, File, absentFile, fileCount, hole, isAbsent, isUnmapped, largestBlocks, pageBytes, pageCount, setCount, stored, unmapped}
 use Rattle.rules.specs.WellFormed.{allFiles, allPages, allSets, bitsFormed, blockBelow, blocksFormed, filesFormed, headerFormed, setsFormed, timesNamed, treeFormed, zeroFile, zeroSet, zerosFormed}
 use Rattle.setchanges.proofs.Turning.{no-page}

@@ -9,7 +9,7 @@ use lib.Dec.{eqb, ltb}
 use borrow.Author.Tests.{eq-eqb, le-ltb, lt-ltb, ltb-false, ltb-true, ne-eqb}
 use Rattle.base.specs.Logic.{same?, test?}
 use Rattle.base.specs.Update.{upd, upd-other, upd-same}
-use Rattle.rules.proofs.Chains.{unlink-other}
+use Rattle.rules.proofs.Tree.Chains.{unlink-other}
 use Rattle.rules.specs.Sets.{unlinkSet, withFirstChild, withNextSibling}
 use Rattle.rules.specs.State.{SetRecord, Tables, setCount, unusedSet}
 use Rattle.setchanges.proofs.Turning.{turns-as, turns-more, turns-start}

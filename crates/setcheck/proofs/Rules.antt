@@ -9,9 +9,9 @@ use lib.ListN.{length}
 use borrow.Author.Tests.{eqb-true, leb-true, ltb-true}
 use Rattle.base.specs.Logic.{and-false, and-left, and-right}
 use Rattle.packing.specs.Fields.{getField}
-use Rattle.rules.proofs.SetsFormed.{sets-formed}
-use Rattle.rules.proofs.SetsOk.{SetsOk}
-use Rattle.rules.proofs.Tests.{and-4, sets-at}
+use Rattle.rules.proofs.Tree.SetsFormed.{sets-formed}
+use Rattle.rules.proofs.Tree.SetsOk.{SetsOk}
+use Rattle.rules.proofs.Formed.Tests.{and-4, sets-at}
 use Rattle.rules.specs.State.{Tables, isAbsent, largestBlocks, pageBytes, setCount}
 use Rattle.rules.specs.WellFormed.{allFiles, allSets, bitsFormed, filesFormed, headerFormed, treeFormed, zeroFile, zeroSet, zerosFormed}
 use Rattle.setcheck.specs.Records.{fileRecordsFormed, headerZero, setRecordsFormed, setZero, unusedZero, zerosOfSets}

@@ -9,12 +9,12 @@ use lib.ListN.{length}
 use borrow.Author.Tests.{eqb-true, le-ltb, leb-true, ltb-true}
 use Rattle.base.specs.Logic.{and-false, and-left, and-right, test?}
 use Rattle.packing.specs.Bits.{bit}
-use Rattle.rules.proofs.BitsFormed.{AbsentBeyond, EmptyBeyond, blocks-formed}
-use Rattle.rules.proofs.FilesFormed.{Ranged, formed-state}
-use Rattle.rules.proofs.RealStore.{BlocksOk}
-use Rattle.rules.proofs.SetsOk.{SetsOk}
-use Rattle.rules.proofs.Shape.{FilesFormed}
-use Rattle.rules.proofs.TallyLoops.{no-pages}
+use Rattle.rules.proofs.Formed.BitsFormed.{AbsentBeyond, EmptyBeyond, blocks-formed}
+use Rattle.rules.proofs.Formed.FilesFormed.{Ranged, formed-state}
+use Rattle.rules.proofs.Blocks.RealStore.{BlocksOk}
+use Rattle.rules.proofs.Tree.SetsOk.{SetsOk}
+use Rattle.rules.proofs.Formed.Shape.{FilesFormed}
+use Rattle.rules.proofs.Tally.TallyLoops.{no-pages}
 use Rattle.rules.specs.State.{File, SetRecord, Tables, absentFile, pageBytes, treeOf}
 use Rattle.rules.specs.WellFormed.{bitsFormed, blocksFormed, filesFormed, headerFormed, setsFormed, treeFormed, zerosFormed}
 use Rattle.tables.proofs.OneReading.{formed-packed}

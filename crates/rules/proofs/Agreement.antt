@@ -1,0 +1,9 @@
+-- The model agrees with the plain store, call by call.
+pub mod Agree
+pub mod Change
+pub mod Truncate
+pub mod Delete
+pub mod Remove
+pub mod Sets
+pub mod AgreeCalls
+pub mod Frames

@@ -1,0 +1,216 @@
+-- When a file becomes marked in an accepted call: exactly at a turn of step 4 that is a needed copy which finds none free, and in a set that is made where it is marked in the parent.
+-- Steps 2, 3 and 5 mark nothing, nor does any other call. Assumes nothing.
+use mathlib.Core.Bool.{Bool, cond, false, true, true≢false}
+use mathlib.Core.List.{List, _∷_, []}
+use mathlib.Core.Logic.{inl, inr, _↔_, _⊎_, ⊎-elim}
+use mathlib.Core.Path.{ap, refl, subst, sym, _∙_, _≡_}
+use Prim.Native.Nat.{_-_, _<_, ℕ, _≤_}
+use native.Mathlib.Omega.{arith}
+use lib.Dec.{eqb, ltb}
+use lib.ListN.{length}
+use borrow.Author.Tests.{eqb-false, eqb-true, ltb-false, ltb-true}
+use Rattle.base.specs.Logic.{same?, test?}
+use Rattle.base.specs.Update.{upd, upd-keeps, upd-other, upd-same}
+use Rattle.rules.proofs.Marking.MarkingRun.{MarkingTurn, run-marks}
+use Rattle.rules.proofs.Steps.OneStep.{TreeOk}
+use Rattle.rules.proofs.Tally.TallyWriter.{turns-self}
+use Rattle.rules.specs.Numbers.{Call, create, delete, format, make, read, refusal, remove, tellFree, tellSize, truncate, write}
+use Rattle.rules.specs.State.{State, Tree, absent, isMarked, isVirgin, live, marked, own, setCount, virgin}
+use Rattle.rules.specs.Tally.{Tally, TallyFile, TallyFiles, TallyResult, Turn, eachChild, tallyCall, tallyChild, tallyCut, tallyDelete, tallyFormat, tallyGrow, tallyLeaves, tallySettle, tallySize, tallyTold, tallyTruncate, tallyTruncateNeed, tallyTurns, tallyWrite, tallyWriteNeed, truncateTouches, writeTouches}
+
+-- STEP 2 marks nothing
+settle-mark : (t : Tree) (c : ℕ) (fs : TallyFiles) (y : ℕ) → isMarked (tallySettle t c fs y .state) ≡ isMarked (fs y .state)
+unfolding tallySettle
+settle-mark t c fs y = go (fs c .state) refl
+  where
+    go : (l : State) → fs c .state ≡ l → isMarked (cond (isVirgin l) (upd fs c (record { state = own; size = tallySize t fs c; map = fs c .map })) fs y .state) ≡ isMarked (fs y .state)
+    go absent e = refl
+    go own e = refl
+    go virgin e = upd-keeps (λ (x : TallyFile). isMarked (x .state)) fs c _ (sym (ap isMarked e)) y
+    go marked e = refl
+
+pub settle-marks : (t : Tree) (cs : List ℕ) (fs : TallyFiles) (y : ℕ) → isMarked (eachChild (tallySettle t) cs fs y .state) ≡ isMarked (fs y .state)
+unfolding eachChild
+settle-marks t [] fs y = refl
+settle-marks t (c ∷ cs) fs y = settle-marks t cs (tallySettle t c fs) y ∙ settle-mark t c fs y
+
+-- what the turns of step 4 begin with, after steps 2 and 3: step 3 takes blocks and leaves every file
+abbrev pub turnsStart : Tally → ℕ → List ℕ → ℕ → Turn
+turnsStart ta f cs taken = record { files = eachChild (tallySettle (ta .tree)) cs (ta .files f); free = ta .free - taken; copies = 0; marks = 0 }
+
+module _ (ta : Tally) (f s taken : ℕ) (x : Turn) (z : TallyFile) (m : ℕ) where
+  leaves-here : tallyLeaves ta f s taken x z m .tally .files f s ≡ z
+  unfolding tallyLeaves
+  leaves-here = ap (λ (g : TallyFiles). g s) (upd-same (ta .files) f _) ∙ upd-same (x .files) s z
+
+  leaves-there : (y : ℕ) → (s ≡ y → ⊥) → tallyLeaves ta f s taken x z m .tally .files f y ≡ x .files y
+  unfolding tallyLeaves
+  leaves-there y n = ap (λ (g : TallyFiles). g y) (upd-same (ta .files) f _) ∙ upd-other (x .files) s z y n
+
+  leaves-other : (g : ℕ) → (f ≡ g → ⊥) → tallyLeaves ta f s taken x z m .tally .files g ≡ ta .files g
+  unfolding tallyLeaves
+  leaves-other g n = upd-other (ta .files) f _ g n
+
+-- A CHANGING CALL: steps 2 to 5, where z is the file that step 5 leaves in set s
+module _ (ta : Tally) (ok : TreeOk (ta .tree)) (shallow : (x : ℕ) → ta .tree .level x ≤ setCount)
+    (f s taken : ℕ) (cs : List ℕ) (touches : ℕ → Bool) (z : TallyFile) (m : ℕ) (fine : isMarked (z .state) ≡ false) where
+  abbrev turns : Turn
+  turns = tallyTurns ta f s cs taken touches
+
+  abbrev after : TallyResult
+  after = tallyLeaves ta f s taken turns z m
+
+  turns-mark : (y : ℕ) → (isMarked (turns .files y .state) ≡ true) ↔ ((isMarked (ta .files f y .state) ≡ true) ⊎ MarkingTurn (ta .tree) s touches (turnsStart ta f cs taken) y)
+  unfolding tallyTurns
+  turns-mark y =
+      let r = run-marks (ta .tree) ok shallow s y touches (turnsStart ta f cs taken) in
+      let e = settle-marks (ta .tree) cs (ta .files f) y in
+      (λ h. ⊎-elim (λ a. inl (sym e ∙ a)) inr (r .0 h), λ h. r .1 (⊎-elim (λ a. inl (e ∙ a)) inr h))
+
+  own-mark : isMarked (turns .files s .state) ≡ isMarked (ta .files f s .state)
+  unfolding tallyTurns
+  own-mark = ap (λ (x : TallyFile). isMarked (x .state)) (turns-self (ta .tree) ok s touches (turnsStart ta f cs taken)) ∙ settle-marks (ta .tree) cs (ta .files f) s
+
+  -- STEP 5 marks nothing
+  pub last-marks : (y : ℕ) → isMarked (ta .files f y .state) ≡ false → isMarked (after .tally .files f y .state) ≡ isMarked (turns .files y .state)
+  last-marks y h =
+      same? s y
+      (λ e. subst (λ y. isMarked (ta .files f y .state) ≡ false → isMarked (after .tally .files f y .state) ≡ isMarked (turns .files y .state)) e
+      (λ h. ap (λ (x : TallyFile). isMarked (x .state)) (leaves-here ta f s taken turns z m) ∙ fine ∙ sym (own-mark ∙ h)) h)
+      (λ n. ap (λ (x : TallyFile). isMarked (x .state)) (leaves-there ta f s taken turns z m y n))
+
+  change-marks-here : (y : ℕ) → isMarked (ta .files f y .state) ≡ false → (isMarked (after .tally .files f y .state) ≡ true) ↔ MarkingTurn (ta .tree) s touches (turnsStart ta f cs taken) y
+  change-marks-here y h =
+      (λ a. ⊎-elim (λ b. absurd (true≢false (sym b ∙ h))) (λ r. r) (turns-mark y .0 (sym (last-marks y h) ∙ a)), λ r. last-marks y h ∙ turns-mark y .1 (inr r))
+
+  pub change-marks : (g y : ℕ) → isMarked (ta .files g y .state) ≡ false →
+      (isMarked (after .tally .files g y .state) ≡ true) ↔ ((f ≡ g) × MarkingTurn (ta .tree) s touches (turnsStart ta f cs taken) y)
+  change-marks g y h =
+      same? f g
+      (λ e. let r = change-marks-here y (ap (λ g. isMarked (ta .files g y .state)) e ∙ h) in
+      let q = ap (λ g. isMarked (after .tally .files g y .state)) e in
+      (λ a. (e, r .0 (q ∙ a)), λ b. sym q ∙ r .1 (b .1)))
+      (λ n. (λ a. absurd (true≢false (sym a ∙ ap (λ (w : TallyFiles). isMarked (w y .state)) (leaves-other ta f s taken turns z m g n) ∙ h)), λ b. absurd (n (b .0))))
+
+-- IN A SET THAT IS MADE a file is marked exactly when it is marked in the parent
+pub child-mark : (x : TallyFile) → isMarked (tallyChild x .state) ≡ isMarked (x .state)
+unfolding tallyChild
+child-mark x = go (x .state)
+  where
+    go : (l : State) → isMarked (cond (live l) virgin l) ≡ isMarked l
+    go absent = refl
+    go own = refl
+    go virgin = refl
+    go marked = refl
+
+-- a truncate: to the size, above it, below it
+pub truncate-cases : (P : TallyResult → Type 0) (ta : Tally) (s f n : ℕ) → let z = tallySize (ta .tree) (ta .files f) s in
+    (n ≡ z → P (record { answer = refusal 0; tally = ta })) → (z < n → P (tallyGrow s f n ta)) → (n < z → P (tallyCut s f n z ta)) → P (tallyTruncate s f n ta)
+unfolding tallyTruncate
+truncate-cases P ta s f n a b c =
+    let z : ℕ = tallySize (ta .tree) (ta .files f) s in
+    test? (eqb n z) (λ d. rw d (a (eqb-true n z d)))
+    (λ d. test? (ltb z n) (λ e. rw (d, e) (b (ltb-true z n e))) (λ e. let l = ltb-false z n e in let m = eqb-false n z d in rw (d, e) (c (omega arith))))
+
+-- WHY FILE g OF SET y BECOMES MARKED in an accepted call on the tally ta
+abbrev pub BecomesMarked : Tally → Call → ℕ → ℕ → Type 0
+BecomesMarked ta format g y = ⊥
+BecomesMarked ta (create s f) g y = ⊥
+BecomesMarked ta (write s f off bs) g y =
+    (f ≡ g) × MarkingTurn (ta .tree) s (writeTouches off (length bs)) (turnsStart ta f (s ∷ ta .tree .children s) (tallyWriteNeed (ta .files f) s off (length bs))) y
+BecomesMarked ta (read s f off buffer) g y = ⊥
+BecomesMarked ta (truncate s f n) g y =
+    (n < tallySize (ta .tree) (ta .files f) s) × ((f ≡ g) × MarkingTurn (ta .tree) s (truncateTouches n (tallySize (ta .tree) (ta .files f) s))
+    (turnsStart ta f (s ∷ ta .tree .children s) (tallyTruncateNeed (ta .tree) (ta .files f) s n)) y)
+BecomesMarked ta (delete s f) g y =
+    (f ≡ g) × MarkingTurn (ta .tree) s (λ p. live (ta .files f s .state)) (turnsStart ta f (cond (live (ta .files f s .state)) (ta .tree .children s) []) 0) y
+BecomesMarked ta (make s c w) g y = (c ≡ y) × (isMarked (ta .files g s .state) ≡ true)
+BecomesMarked ta (remove s) g y = ⊥
+BecomesMarked ta (tellSize s f) g y = ⊥
+BecomesMarked ta tellFree g y = ⊥
+
+never : (b : Bool) → b ≡ false → (b ≡ true) ↔ ⊥
+never b h = (λ a. true≢false (sym a ∙ h), λ r. absurd r)
+
+-- one file put, which is not marked
+put-mark : (fs : TallyFiles) (s : ℕ) (z : TallyFile) (y : ℕ) → isMarked (z .state) ≡ false → isMarked (fs y .state) ≡ false → isMarked (upd fs s z y .state) ≡ false
+put-mark fs s z y a b =
+    same? s y
+    (λ e. ap (λ y. isMarked (upd fs s z y .state)) (sym e) ∙ ap (λ (x : TallyFile). isMarked (x .state)) (upd-same fs s z) ∙ a)
+    (λ n. ap (λ (x : TallyFile). isMarked (x .state)) (upd-other fs s z y n) ∙ b)
+
+put-file-mark : (files : ℕ → TallyFiles) (f s : ℕ) (z : TallyFile) (g y : ℕ) → isMarked (z .state) ≡ false → isMarked (files g y .state) ≡ false →
+    isMarked (upd files f (upd (files f) s z) g y .state) ≡ false
+put-file-mark files f s z g y a b =
+    same? f g
+    (λ e. subst (λ g. isMarked (files g y .state) ≡ false → isMarked (upd files f (upd (files f) s z) g y .state) ≡ false) e
+    (λ b. ap (λ (w : TallyFiles). isMarked (w y .state)) (upd-same files f (upd (files f) s z)) ∙ put-mark (files f) s z y a b) b)
+    (λ n. ap (λ (w : TallyFiles). isMarked (w y .state)) (upd-other files f (upd (files f) s z) g n) ∙ b)
+
+-- nothing is touched, no turn marks
+no-turn : (t : Tree) (s : ℕ) (touches : ℕ → Bool) (x : Turn) (y : ℕ) → ((p : ℕ) → touches p ≡ false) → MarkingTurn t s touches x y → ⊥
+no-turn t s touches x y h r = true≢false (sym (r .touched) ∙ h (r .page))
+
+module _ (ta : Tally) (ok : TreeOk (ta .tree)) (shallow : (x : ℕ) → ta .tree .level x ≤ setCount) (blocks g y : ℕ) (h : isMarked (ta .files g y .state) ≡ false) where
+  abbrev marksIn : Call → Type 0
+  marksIn c = (isMarked (tallyCall blocks c ta .tally .files g y .state) ≡ true) ↔ BecomesMarked ta c g y
+
+  write-marks : (s f off : ℕ) (bs : List ℕ) → marksIn (write s f off bs)
+  unfolding tallyCall tallyTold tallyWrite writeTouches
+  write-marks s f off [] = (λ a. absurd (true≢false (sym a ∙ h)), λ r. absurd (no-turn (ta .tree) s _ _ y (λ p. refl) (r .1)))
+  write-marks s f off (b ∷ bs) =
+      change-marks ta ok shallow f s _ (s ∷ ta .tree .children s) (writeTouches off (length (b ∷ bs))) _ 0 refl g y h
+
+  truncate-marks : (s f n : ℕ) → marksIn (truncate s f n)
+  unfolding tallyCall tallyGrow tallyCut
+  truncate-marks s f n =
+      truncate-cases (λ r. (isMarked (r .tally .files g y .state) ≡ true) ↔ BecomesMarked ta (truncate s f n) g y) ta s f n
+      (λ e. (λ a. absurd (true≢false (sym a ∙ h)), λ b. let l = b .0 in absurd (omega arith)))
+      (λ e. let r = change-marks ta ok shallow f s 0 (s ∷ ta .tree .children s) (λ p. false) _ 0 refl g y h in
+      (λ a. absurd (no-turn (ta .tree) s _ _ y (λ p. refl) (r .0 a .1)), λ b. let l = b .0 in absurd (omega arith)))
+      (λ e. let r = change-marks ta ok shallow f s _ (s ∷ ta .tree .children s) (truncateTouches n (tallySize (ta .tree) (ta .files f) s)) _ _ refl g y h in
+      (λ a. (e, r .0 a), λ b. r .1 (b .1)))
+
+  delete-marks : (s f : ℕ) → marksIn (delete s f)
+  unfolding tallyCall tallyDelete
+  delete-marks s f = change-marks ta ok shallow f s 0 _ _ _ _ refl g y h
+
+  make-marks : (s c : ℕ) (w : Bool) → marksIn (make s c w)
+  unfolding tallyCall tallyTold
+  make-marks s c w =
+      same? c y
+      (λ e. let q = ap (λ y. isMarked (upd (ta .files g) c (tallyChild (ta .files g s)) y .state)) e in
+      let k = ap (λ (x : TallyFile). isMarked (x .state)) (upd-same (ta .files g) c (tallyChild (ta .files g s))) ∙ child-mark (ta .files g s) in
+      (λ a. (e, sym k ∙ q ∙ a), λ r. sym q ∙ k ∙ r .1))
+      (λ n. (λ a. absurd (true≢false (sym a ∙ ap (λ (x : TallyFile). isMarked (x .state)) (upd-other (ta .files g) c _ y n) ∙ h)), λ r. absurd (n (r .0))))
+
+  remove-marks : (s : ℕ) → marksIn (remove s)
+  unfolding tallyCall tallyTold
+  remove-marks s = never _ (put-mark (ta .files g) s _ y refl h)
+
+  create-marks : (s f : ℕ) → marksIn (create s f)
+  unfolding tallyCall tallyTold
+  create-marks s f = never _ (put-file-mark (ta .files) f s _ g y refl h)
+
+  -- AN ACCEPTED CALL: a file that is not marked is marked afterwards exactly for one of these reasons
+  pub becomes-marked : (c : Call) → (isMarked (tallyCall blocks c ta .tally .files g y .state) ≡ true) ↔ BecomesMarked ta c g y
+  unfolding tallyCall tallyTold tallyFormat
+  becomes-marked format = never _ refl
+  becomes-marked (create s f) = create-marks s f
+  becomes-marked (write s f off bs) = write-marks s f off bs
+  becomes-marked (read s f off buffer) = never _ h
+  becomes-marked (truncate s f n) = truncate-marks s f n
+  becomes-marked (delete s f) = delete-marks s f
+  becomes-marked (make s c w) = make-marks s c w
+  becomes-marked (remove s) = remove-marks s
+  becomes-marked (tellSize s f) = never _ h
+  becomes-marked tellFree = never _ h
+
+-- DELETE AND REMOVE leave the file absent
+pub delete-absent : (ta : Tally) (blocks s f : ℕ) → tallyCall blocks (delete s f) ta .tally .files f s .state ≡ absent
+unfolding tallyCall tallyDelete
+delete-absent ta blocks s f = ap (λ (x : TallyFile). x .state) (leaves-here ta f s 0 _ _ _)
+
+pub remove-absent : (ta : Tally) (blocks s f : ℕ) → tallyCall blocks (remove s) ta .tally .files f s .state ≡ absent
+unfolding tallyCall tallyTold
+remove-absent ta blocks s f = ap (λ (x : TallyFile). x .state) (upd-same (ta .files f) s _)

@@ -1,0 +1,135 @@
+-- The third count of write, truncate and delete is the number of sets in which the file is newly marked. Assumes nothing.
+use mathlib.Core.Bool.{_&&_, Bool, cond, false, not, true, true≢false, _||_}
+use mathlib.Core.List.{List, _∷_, []}
+use mathlib.Core.Logic.{inl}
+use mathlib.Core.Path.{ap, refl, sym, _∙_, _≡_}
+use Prim.Native.Nat.{_+_, suc, zero, ℕ, _≤_}
+use native.Mathlib.Nat.{add-zero, zero-add}
+use native.Mathlib.Omega.{arith}
+use lib.Dec.{eqb}
+use lib.ListN.{length}
+use Rattle.base.specs.Count.{count, count-none, count-same}
+use Rattle.base.specs.Logic.{and-false, and-left, and-right, test?}
+use Rattle.rules.proofs.Marking.Marking.{MarkedDown, finds-none, findsNone, mark-below, mark-itself, marked-down, turn-test}
+use Rattle.rules.proofs.Marking.MarkingCalls.{last-marks, settle-marks, truncate-cases, turnsStart}
+use Rattle.rules.proofs.Marking.MarkingRun.{run-marks}
+use Rattle.rules.proofs.Steps.OneStep.{TreeOk}
+use Rattle.rules.proofs.Tally.TallyWriter.{turns-inv}
+use Rattle.rules.specs.Numbers.{delete, truncate, write}
+use Rattle.rules.specs.State.{State, Tree, absent, hole, isMarked, isStored, isUnmapped, live, marked, own, setCount, stored, unmapped, virgin}
+use Rattle.rules.specs.Tally.{Kind, Tally, TallyFile, TallyFiles, Turn, childPage, childTurn, kindAt, markedWith, neededCopy, tallyCall, tallyCut, tallyDelete, tallyGive, tallyGrow, tallyLeaves, tallySize, tallyTold, tallyTurns, tallyWrite, truncateTouches, writeTouches}
+
+-- numbers that pass one test or another, none both; and those that pass the one and not the other
+count-or : (n : ℕ) (f g : ℕ → Bool) → ((y : ℕ) → f y ≡ true → g y ≡ true → ⊥) → count n (λ y. f y || g y) ≡ count n f + count n g
+unfolding count
+count-or zero f g h = refl
+count-or (suc n) f g h =
+    let r = count-or n f g h in
+    test? (f n) (λ a. test? (g n) (λ b. absurd (h n a b)) (λ b. rw (a, b) (omega arith))) (λ a. test? (g n) (λ b. rw (a, b) (omega arith)) (λ b. rw (a, b) (omega arith)))
+
+count-new : (n : ℕ) (f g : ℕ → Bool) → ((y : ℕ) → f y ≡ true → g y ≡ true) → count n g ≡ count n f + count n (λ y. g y && not (f y))
+unfolding count
+count-new zero f g h = refl
+count-new (suc n) f g h =
+    let r = count-new n f g h in
+    test? (f n) (λ a. rw (a, h n a) (omega arith)) (λ a. test? (g n) (λ b. rw (a, b) (omega arith)) (λ b. rw (a, b) (omega arith)))
+
+count-if : (n : ℕ) (b : Bool) (f : ℕ → Bool) → count n (λ y. b && f y) ≡ cond b (count n f) 0
+count-if n true f = refl
+count-if n false f = count-none n _ (λ x l. refl)
+
+live-unmarked : (l : State) → live l ≡ true → isMarked l ≡ true → ⊥
+live-unmarked absent h k = true≢false (sym h)
+live-unmarked own h k = true≢false (sym k)
+live-unmarked virgin h k = true≢false (sym k)
+live-unmarked marked h k = true≢false (sym h)
+
+-- who is marked with an own or virgin file is own or virgin
+live-down : (t : Tree) (fs : TallyFiles) (c y : ℕ) → live (fs c .state) ≡ true → MarkedDown t fs y c → live (fs y .state) ≡ true
+live-down t fs c y h (mark-itself e) = ap (λ z. live (fs z .state)) (sym e) ∙ h
+live-down t fs c y h (mark-below d p m a l u r) = live-down t fs d y a r
+
+-- the sets below 8 whose file is marked
+abbrev pub markedSets : TallyFiles → ℕ
+markedSets fs = count setCount (λ y. isMarked (fs y .state))
+
+-- the sets below 8 whose file is marked in gs and not in fs
+abbrev pub newlyMarked : TallyFiles → TallyFiles → ℕ
+newlyMarked fs gs = count setCount (λ y. isMarked (gs y .state) && not (isMarked (fs y .state)))
+
+module _ (t : Tree) (ok : TreeOk t) (shallow : (x : ℕ) → t .level x ≤ setCount) (s : ℕ) where
+  turn-adds : (p c : ℕ) (x : Turn) → childTurn t s p c x .marks ≡ x .marks + cond (findsNone t s p c x) (count setCount (markedWith t (x .files) c)) 0
+  unfolding childTurn childPage neededCopy findsNone
+  turn-adds p c x = test? (live (x .files c .state) && isUnmapped (x .files c .map p)) (λ e. rw e (go (kindAt t (x .files) s p))) (λ e. rw e (sym (add-zero _)))
+    where
+      go : (k : Kind) → childPage t k p c x .marks ≡ x .marks + cond (isStored k && eqb (x .free) 0) (count setCount (markedWith t (x .files) c)) 0
+      go unmapped = sym (add-zero (x .marks))
+      go hole = sym (add-zero (x .marks))
+      go (stored b) = test? (eqb (x .free) 0) (λ e. rw e) (λ e. rw e (sym (add-zero (x .marks))))
+
+  turn-counts : (p c : ℕ) (x : Turn) → markedSets (childTurn t s p c x .files) ≡ markedSets (x .files) + cond (findsNone t s p c x) (count setCount (markedWith t (x .files) c)) 0
+  turn-counts p c x =
+      count-same setCount _ _ (λ y l. turn-test t s p c x y)
+      ∙ count-or setCount (λ y. isMarked (x .files y .state)) (λ y. findsNone t s p c x && markedWith t (x .files) c y)
+      (λ y a b. live-unmarked (x .files y .state)
+      (live-down t (x .files) c y (finds-none t s p c x (and-left _ (markedWith t (x .files) c y) b) .present)
+      (marked-down t (x .files) ok shallow c y .0 (and-right (findsNone t s p c x) _ b))) a)
+      ∙ ap (λ n. markedSets (x .files) + n) (count-if setCount (findsNone t s p c x) (markedWith t (x .files) c))
+
+  run-counts : (touches : ℕ → Bool) (x : Turn) → tallyGive t s touches x .marks + markedSets (x .files) ≡ x .marks + markedSets (tallyGive t s touches x .files)
+  run-counts touches x =
+      turns-inv t s touches (λ z. z .marks + markedSets (x .files) ≡ x .marks + markedSets (z .files))
+      (λ p c z l e m i. let a = turn-adds p c z in let b = turn-counts p c z in omega arith) x refl
+
+  -- THE RUN counts the files newly marked
+  pub run-newly : (touches : ℕ → Bool) (x : Turn) → tallyGive t s touches x .marks ≡ x .marks + newlyMarked (x .files) (tallyGive t s touches x .files)
+  run-newly touches x =
+      let a = run-counts touches x in
+      let b = count-new setCount (λ y. isMarked (x .files y .state)) (λ y. isMarked (tallyGive t s touches x .files y .state)) (λ y h. run-marks t ok shallow s y touches x .1 (inl h)) in
+      omega arith
+
+-- A CHANGING CALL
+newly-none : (fs : TallyFiles) → newlyMarked fs fs ≡ 0
+newly-none fs = count-none setCount _ (λ y l. go (isMarked (fs y .state)))
+  where
+    go : (b : Bool) → (b && not b) ≡ false
+    go true = refl
+    go false = refl
+
+new-same : (a b was : Bool) → (was ≡ false → a ≡ b) → (a && not was) ≡ (b && not was)
+new-same a b true h = and-false a ∙ sym (and-false b)
+new-same a b false h = ap (λ x. x && true) (h refl)
+
+leaves-third : (ta : Tally) (f s taken : ℕ) (x : Turn) (z : TallyFile) (m : ℕ) → tallyLeaves ta f s taken x z m .answer .third ≡ x .marks
+unfolding tallyLeaves
+leaves-third ta f s taken x z m = refl
+
+module _ (ta : Tally) (ok : TreeOk (ta .tree)) (shallow : (x : ℕ) → ta .tree .level x ≤ setCount) where
+  change-newly : (f s taken : ℕ) (cs : List ℕ) (touches : ℕ → Bool) (z : TallyFile) (m : ℕ) → isMarked (z .state) ≡ false →
+      let r = tallyLeaves ta f s taken (tallyTurns ta f s cs taken touches) z m in r .answer .third ≡ newlyMarked (ta .files f) (r .tally .files f)
+  unfolding tallyTurns
+  change-newly f s taken cs touches z m fine =
+      let x : Turn = tallyTurns ta f s cs taken touches in
+      leaves-third ta f s taken x z m ∙ run-newly (ta .tree) ok shallow s touches (turnsStart ta f cs taken) ∙ zero-add _
+      ∙ count-same setCount (λ y. isMarked (tallyLeaves ta f s taken x z m .tally .files f y .state) && not (isMarked (ta .files f y .state)))
+      (λ y. isMarked (x .files y .state) && not (isMarked (turnsStart ta f cs taken .files y .state)))
+      (λ y l. ap (λ b. isMarked (x .files y .state) && not b) (settle-marks (ta .tree) cs (ta .files f) y)
+      ∙ new-same _ _ (isMarked (ta .files f y .state)) (λ e. sym (last-marks ta ok shallow f s taken cs touches z m fine y e)))
+
+  -- the third count of an accepted write, truncate, delete
+  pub write-newly : (blocks s f off : ℕ) (bs : List ℕ) → let r = tallyCall blocks (write s f off bs) ta in r .answer .third ≡ newlyMarked (ta .files f) (r .tally .files f)
+  unfolding tallyCall tallyTold tallyWrite
+  write-newly blocks s f off [] = sym (newly-none (ta .files f))
+  write-newly blocks s f off (b ∷ bs) = change-newly f s _ (s ∷ ta .tree .children s) (writeTouches off (length (b ∷ bs))) _ 0 refl
+
+  pub truncate-newly : (blocks s f n : ℕ) → let r = tallyCall blocks (truncate s f n) ta in r .answer .third ≡ newlyMarked (ta .files f) (r .tally .files f)
+  unfolding tallyCall tallyGrow tallyCut
+  truncate-newly blocks s f n =
+      truncate-cases (λ r. r .answer .third ≡ newlyMarked (ta .files f) (r .tally .files f)) ta s f n
+      (λ e. sym (newly-none (ta .files f)))
+      (λ e. change-newly f s 0 (s ∷ ta .tree .children s) (λ p. false) _ 0 refl)
+      (λ e. change-newly f s _ (s ∷ ta .tree .children s) (truncateTouches n (tallySize (ta .tree) (ta .files f) s)) _ _ refl)
+
+  pub delete-newly : (blocks s f : ℕ) → let r = tallyCall blocks (delete s f) ta in r .answer .third ≡ newlyMarked (ta .files f) (r .tally .files f)
+  unfolding tallyCall tallyDelete
+  delete-newly blocks s f = change-newly f s 0 _ _ _ _ refl

@@ -1,0 +1,121 @@
+-- The run of the turns of step 4: a file becomes marked in it exactly at a turn that is a needed copy which finds none free. Assumes nothing.
+use mathlib.Core.Bool.{Bool, cond, true}
+use mathlib.Core.List.{_++_, List, _∷_, []}
+use mathlib.Core.Logic.{inl, inr, _↔_, _⊎_, ⊎-elim}
+use mathlib.Core.Path.{ap, refl, subst, _≡_}
+use Prim.Native.Nat.{_<_, suc, zero, ℕ, _≤_}
+use native.Mathlib.Omega.{arith}
+use Rattle.base.specs.Logic.{same?, test?}
+use Rattle.rules.proofs.Marking.Marking.{FindsNone, MarkedDown, turn-marks}
+use Rattle.rules.proofs.Steps.OneStep.{TreeOk}
+use Rattle.rules.proofs.Tally.TallyLoops.{page-inv}
+use Rattle.rules.specs.State.{Tree, isMarked, pageCount, setCount}
+use Rattle.rules.specs.Tally.{Turn, childTurn, eachChild, eachPage, tallyGive}
+
+-- the turns at page p, if it is touched
+abbrev pub pageTurns : Tree → ℕ → (ℕ → Bool) → ℕ → Turn → Turn
+pageTurns t s touches p x = cond (touches p) (eachChild (childTurn t s p) (t .children s) x) x
+
+-- what the turn of a child at page p finds, in the run that begins with x: the touched pages below p are done, and at page p the children before it
+unfoldable pub turnBefore : Tree → ℕ → (ℕ → Bool) → Turn → ℕ → List ℕ → Turn
+turnBefore t s touches x p earlier = eachChild (childTurn t s p) earlier (eachPage (pageTurns t s touches) p x)
+
+-- A TURN OF THE RUN, of a child at a touched page, that is a needed copy which finds none free; the file of set y is marked with the child's
+pub record MarkingTurn (t : Tree) (s : ℕ) (touches : ℕ → Bool) (x : Turn) (y : ℕ) : Type 0 where
+  pub page : ℕ
+  pub child : ℕ
+  pub earlier : List ℕ
+  pub later : List ℕ
+  pub under : page < pageCount
+  pub touched : touches page ≡ true
+  pub order : t .children s ≡ earlier ++ (child ∷ later)
+  pub fails : FindsNone t s page child (turnBefore t s touches x page earlier)
+  pub reached : MarkedDown t (turnBefore t s touches x page earlier .files) y child
+
+each-append : {W : Type 0} (f : ℕ → W → W) (cs ds : List ℕ) (w : W) → eachChild f (cs ++ ds) w ≡ eachChild f ds (eachChild f cs w)
+unfolding eachChild
+each-append f [] ds w = refl
+each-append f (c ∷ cs) ds w = each-append f cs ds (f c w)
+
+module _ (t : Tree) (ok : TreeOk t) (shallow : (x : ℕ) → t .level x ≤ setCount) (s y : ℕ) where
+  -- who is marked stays so
+  abbrev Marked : Turn → Type 0
+  Marked x = isMarked (x .files y .state) ≡ true
+
+  turn-stays : (p c : ℕ) (x : Turn) → Marked x → Marked (childTurn t s p c x)
+  turn-stays p c x h = turn-marks t s p c x ok shallow y .1 (inl h)
+
+  children-stay : (p : ℕ) (cs : List ℕ) (x : Turn) → Marked x → Marked (eachChild (childTurn t s p) cs x)
+  unfolding eachChild
+  children-stay p [] x h = h
+  children-stay p (c ∷ cs) x h = children-stay p cs (childTurn t s p c x) (turn-stays p c x h)
+
+  page-stays : (touches : ℕ → Bool) (p : ℕ) (x : Turn) → Marked x → Marked (pageTurns t s touches p x)
+  page-stays touches p x h = test? (touches p) (λ e. rw e (children-stay p (t .children s) x h)) (λ e. rw e h)
+
+  -- the turns at one page
+  record AtChild (p : ℕ) (cs : List ℕ) (x : Turn) : Type 0 where
+    child : ℕ
+    earlier : List ℕ
+    later : List ℕ
+    order : cs ≡ earlier ++ (child ∷ later)
+    fails : FindsNone t s p child (eachChild (childTurn t s p) earlier x)
+    reached : MarkedDown t (eachChild (childTurn t s p) earlier x .files) y child
+
+  children-mark : (p : ℕ) (cs : List ℕ) (x : Turn) → Marked (eachChild (childTurn t s p) cs x) → Marked x ⊎ AtChild p cs x
+  unfolding eachChild
+  children-mark p [] x h = inl h
+  children-mark p (c ∷ cs) x h =
+      ⊎-elim
+      (λ a. ⊎-elim inl (λ r. inr (record { child = c; earlier = []; later = cs; order = refl; fails = r .0; reached = r .1 })) (turn-marks t s p c x ok shallow y .0 a))
+      (λ r. inr (record { child = r .child; earlier = c ∷ r .earlier; later = r .later; order = ap (λ l. c ∷ l) (r .order); fails = r .fails; reached = r .reached }))
+      (children-mark p cs (childTurn t s p c x) h)
+
+  child-marks : (p : ℕ) (cs : List ℕ) (x : Turn) → AtChild p cs x → Marked (eachChild (childTurn t s p) cs x)
+  unfolding eachChild
+  child-marks p cs x r =
+      rw (r .order, each-append (childTurn t s p) (r .earlier) (r .child ∷ r .later) x)
+      (children-stay p (r .later) _ (turn-marks t s p (r .child) (eachChild (childTurn t s p) (r .earlier) x) ok shallow y .1 (inr (r .fails, r .reached))))
+
+  module _ (touches : ℕ → Bool) (x : Turn) where
+    pages-mark : (n : ℕ) → n ≤ pageCount → Marked (eachPage (pageTurns t s touches) n x) → Marked x ⊎ MarkingTurn t s touches x y
+    unfolding eachPage turnBefore
+    pages-mark zero l h = inl h
+    pages-mark (suc n) l h =
+        test? (touches n)
+        (λ e. ⊎-elim (λ a. pages-mark n (omega arith) a)
+        (λ r. inr (record {
+          page = n;
+          child = r .child;
+          earlier = r .earlier;
+          later = r .later;
+          under = omega arith;
+          touched = e;
+          order = r .order;
+          fails = r .fails;
+          reached = r .reached;
+        }))
+        (children-mark n (t .children s) (eachPage (pageTurns t s touches) n x) (rw e at h)))
+        (λ e. pages-mark n (omega arith) (rw e at h))
+
+    page-marks : (n p : ℕ) → p < n → Marked (eachPage (pageTurns t s touches) (suc p) x) → Marked (eachPage (pageTurns t s touches) n x)
+    unfolding eachPage
+    page-marks zero p l h = absurd (omega arith)
+    page-marks (suc n) p l h = same? p n (λ e. subst (λ q. Marked (eachPage (pageTurns t s touches) (suc q) x)) e h) (λ e. page-stays touches n _ (page-marks n p (omega arith) h))
+
+    at-page : (r : MarkingTurn t s touches x y) → Marked (eachPage (pageTurns t s touches) (suc (r .page)) x)
+    unfolding eachPage turnBefore
+    at-page r =
+        rw (r .touched)
+        (child-marks (r .page) (t .children s) (eachPage (pageTurns t s touches) (r .page) x)
+        (record { child = r .child; earlier = r .earlier; later = r .later; order = r .order; fails = r .fails; reached = r .reached }))
+
+    -- THE RUN: marked afterwards is who was marked before, or is marked at a turn of the run
+    pub run-marks : (isMarked (tallyGive t s touches x .files y .state) ≡ true) ↔ ((isMarked (x .files y .state) ≡ true) ⊎ MarkingTurn t s touches x y)
+    unfolding tallyGive turnBefore
+    run-marks = (
+      pages-mark pageCount (omega arith),
+      ⊎-elim
+          (λ h. page-inv (pageTurns t s touches) Marked pageCount (λ p z l. page-stays touches p z) x h)
+          (λ r. page-marks pageCount (r .page) (r .under) (at-page r)),
+    )

@@ -1,0 +1,7 @@
+-- What single steps of the rules do to the files of one number.
+pub mod Walk
+pub mod OneStep
+pub mod StepFour
+pub mod WriterSteps
+pub mod Pending
+pub mod Erased

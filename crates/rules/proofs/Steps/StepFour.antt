@@ -1,0 +1,224 @@
+-- One step of step 4 (a page, a child), over the model, where an entry holds its bytes; and the loops.
+use mathlib.Core.Bool.{_&&_, Bool, false, true}
+use mathlib.Core.List.{List, List·Memᴰ, List·Memᴰ·head, List·Memᴰ·tail, _∷_, []}
+use mathlib.Core.Option.{some}
+use mathlib.Core.Path.{_≡_, ap, refl, subst, subst₂, sym, _∙_}
+use Prim.Native.Nat.{_<_, suc, zero, ℕ}
+use native.Mathlib.Omega.{arith}
+use lib.Dec.{eqb}
+use borrow.Author.Tests.{eq-eqb, ne-eqb}
+use Rattle.base.specs.Logic.{and-false, and-left, same?, test?}
+use Rattle.rules.proofs.Storages.Model.{model}
+use Rattle.rules.proofs.Steps.OneStep.{Alive, FilesOk, Keep, TreeOk, fill-keep, fill-ok, keep-refl, keep-trans, mark-keep, mark-ok, mark-same, marked-by, putEntry-ent, putEntry-other, putEntry-page, putEntry-state, resolve-shown}
+use Rattle.rules.specs.Reading.{dependent, dependsOn, needs, reaches, resolve, shownEntry}
+use Rattle.rules.specs.Rules.{Work, copy, each, give, giveAll, mark, markDown, markFile, putEntry, supply}
+use Rattle.rules.specs.State.{Entry, File, Files, Tree, hole, isUnmapped, live, stored, unmapped, virgin}
+use Rattle.rules.specs.Storage.{PageData}
+
+-- loops
+module _ {A W : Type 0} (f : A → W → W) where
+  pub each-inv : (I : W → Type 0) (xs : List A) → ((x : A) (w : W) → List·Memᴰ x xs → I w → I (f x w)) → (w : W) → I w → I (each f xs w)
+  unfolding each
+  each-inv I [] h w i = i
+  each-inv I (x ∷ xs) h w i = each-inv I xs (λ y v m. h y v (List·Memᴰ·tail m)) (f x w) (h x w (List·Memᴰ·head refl) i)
+
+  -- what is reached at an element stays
+  pub each-all : (I : W → Type 0) (P : A → W → Type 0) (xs : List A) →
+      ((x : A) (w : W) → List·Memᴰ x xs → I w → I (f x w)) →
+      ((x : A) (w : W) → List·Memᴰ x xs → I w → P x (f x w)) →
+      ((x y : A) (w : W) → List·Memᴰ y xs → I w → P x w → P x (f y w)) →
+      (w : W) → I w → (x : A) → List·Memᴰ x xs → P x (each f xs w)
+  unfolding each
+  each-all I P (y ∷ xs) h d k w i x (List·Memᴰ·head e) =
+      each-inv (λ v. I v × P x v) xs (λ z v m j. (h z v (List·Memᴰ·tail m) (j .0), k x z v (List·Memᴰ·tail m) (j .0) (j .1))) (f y w)
+      (h y w (List·Memᴰ·head refl) i, subst (λ z. P z (f y w)) (sym e) (d y w (List·Memᴰ·head refl) i)) .1
+  each-all I P (y ∷ xs) h d k w i x (List·Memᴰ·tail m) =
+      each-all I P xs (λ z v m. h z v (List·Memᴰ·tail m)) (λ z v m. d z v (List·Memᴰ·tail m)) (λ z y v m. k z y v (List·Memᴰ·tail m)) (f y w) (h y w (List·Memᴰ·head refl) i) x m
+
+module _ {K : Type 0} where
+  -- what one page and one child of s get, seen on the files
+  pub record Given (t : Tree) (s : ℕ) (files files′ : Files K) : Type 0 where
+    pub ok′ : FilesOk t files′
+    pub keep : Keep t files files′
+    pub less : (c p : ℕ) → needs files c p ≡ false → needs files′ c p ≡ false
+    pub self : files′ s ≡ files s
+    pub calm : (c : ℕ) → files′ c .state ≡ virgin → files c .state ≡ virgin
+
+  pub given-refl : {t : Tree} {s : ℕ} {files : Files K} → FilesOk t files → Given t s files files
+  given-refl {t} {s} {files} k = record { ok′ = k; keep = keep-refl t files; less = λ c p h. h; self = refl; calm = λ c h. h }
+
+  pub given-trans : {t : Tree} {s : ℕ} {a b c : Files K} → Given t s a b → Given t s b c → Given t s a c
+  given-trans h k = record {
+    ok′ = k .ok′;
+    keep = keep-trans (h .keep) (k .keep);
+    less = λ c p x. k .less c p (h .less c p x);
+    self = k .self ∙ h .self;
+    calm = λ c x. h .calm c (k .calm c x);
+  }
+
+  needs-shown : (files : Files K) (c p : ℕ) → shownEntry (files c .map p) ≡ some (files c .map p) → needs files c p ≡ false
+  unfolding needs
+  needs-shown files c p h = go (live (files c .state)) (files c .map p) h
+    where
+      go : (b : Bool) (e : Entry K) → shownEntry e ≡ some e → (b && isUnmapped e) ≡ false
+      go false e h = refl
+      go true unmapped h = cc
+      go true hole h = refl
+      go true (stored b) h = refl
+
+  needs-same : (files files′ : Files K) (c p : ℕ) → files′ c .state ≡ files c .state → files′ c .map p ≡ files c .map p → needs files c p ≡ false → needs files′ c p ≡ false
+  unfolding needs
+  needs-same files files′ c p h e n = rw (h, e) n
+
+  needs-dead : (files : Files K) (c p : ℕ) → live (files c .state) ≡ false → needs files c p ≡ false
+  unfolding needs
+  needs-dead files c p h = rw h
+
+  pub needs-alive : (files : Files K) (c p : ℕ) → needs files c p ≡ true → Alive files c
+  unfolding needs
+  needs-alive files c p h = and-left (live (files c .state)) _ h
+
+  pub needs-unmapped : (files : Files K) (c p : ℕ) → needs files c p ≡ true → files c .map p ≡ unmapped
+  unfolding needs
+  needs-unmapped files c p h = go (live (files c .state)) (files c .map p) h
+    where
+      go : (b : Bool) (e : Entry K) → (b && isUnmapped e) ≡ true → e ≡ unmapped
+      go false e h = cc
+      go true unmapped h = refl
+      go true hole h = cc
+      go true (stored b) h = cc
+
+  module _ (t : Tree) (ok : TreeOk t) (s : ℕ) (files : Files K) (k : FilesOk t files) (c : ℕ) (kid : List·Memᴰ c (t .children s)) where
+    differ : c ≡ s → ⊥
+    differ q =
+        let e : t .level c ≡ t .level s = ap (t .level) q in
+        omega (arith, ok .kid-lvl s c kid)
+
+    kid-at : t .level c ≡ suc (t .level (t .parent c))
+    kid-at = rw (ok .kid-par s c kid) (ok .kid-lvl s c kid)
+
+    pub fill-done : (p : ℕ) (e : Entry K) → shownEntry e ≡ some e → needs (putEntry files c p e) c p ≡ false
+    fill-done p e h = needs-shown (putEntry files c p e) c p (rw putEntry-ent h)
+
+    -- the entry is filled with what it is in s
+    pub fill-given : (p : ℕ) (e : Entry K) → (files c .state ≡ virgin → ⊥) → needs files c p ≡ true → resolve t files s p ≡ e → Given t s files (putEntry files c p e)
+    fill-given p e nv n r = subst (λ x. Given t s files (putEntry files c p x)) (ap (λ x. resolve t files x p) (ok .kid-par s c kid) ∙ r) (record {
+      ok′ = fill-ok t ok files c p kid-at u nv k;
+      keep = fill-keep t ok files c p kid-at u;
+      less = λ c′ p′ h.
+          same? p p′
+          (λ q. same? c c′
+          (λ r. subst₂ (λ x y. needs (putEntry files c p (resolve t files (t .parent c) p)) x y ≡ false) r q (fill-done p _ (resolve-shown t files (t .parent c) p)))
+          (λ r. needs-same files _ c′ p′ (putEntry-state files c p _ c′) (ap (λ (x : File K). x .map p′) (putEntry-other files c p _ c′ r)) h))
+          (λ q. needs-same files _ c′ p′ (putEntry-state files c p _ c′) (putEntry-page files c p _ c′ p′ q) h);
+      self = putEntry-other files c p _ s differ;
+      calm = λ c′ h. rw putEntry-state at h;
+    })
+      where
+        u : files c .map p ≡ unmapped
+        u = needs-unmapped files c p n
+
+    -- it and those that read through it are marked
+    low : (n x : ℕ) → t .level x ≡ n → n < t .level c → dependsOn t files c n x ≡ false
+    unfolding dependsOn
+    low zero x e l = ne-eqb c x (λ q. let e′ : t .level c ≡ t .level x = ap (t .level) q in omega arith)
+    low (suc n) x e l =
+        rw (ne-eqb c x (λ q. let e′ : t .level c ≡ t .level x = ap (t .level) q in omega arith), low n (t .parent x) (ok .lower x n e) (omega arith)) (and-false (dependent (files x)))
+
+    reaches-self : (n : ℕ) → dependsOn t files c n c ≡ true
+    unfolding dependsOn
+    reaches-self zero = eq-eqb c c refl
+    reaches-self (suc n) = rw (eq-eqb c c refl)
+
+    missed : reaches t files c s ≡ false
+    unfolding reaches
+    missed = low (t .level s) s refl (omega (arith, ok .kid-lvl s c kid))
+
+    dead : (x : ℕ) → reaches t files c x ≡ true → live (markDown t files c x .state) ≡ false
+    unfolding markFile
+    dead x e = ap (λ (x : File K). live (x .state)) (marked-by t ok files k c x true e)
+
+    pub mark-given : Alive files c → Given t s files (markDown t files c)
+    mark-given al = record {
+      ok′ = mark-ok t ok files k c;
+      keep = mark-keep t ok files k c al;
+      less = λ c′ p′ h. test? (reaches t files c c′)
+          (λ e. needs-dead (markDown t files c) c′ p′ (dead c′ e))
+          (λ e. let m : markDown t files c c′ ≡ files c′ = marked-by t ok files k c c′ false e in needs-same files (markDown t files c) c′ p′ (ap (λ (x : File K). x .state) m) (ap (λ (x : File K). x .map p′) m) h);
+      self = marked-by t ok files k c s false (missed);
+      calm = λ c′ h. ap (λ (x : File K). x .state) (sym (mark-same t ok files k c c′ (ap live h))) ∙ h;
+    }
+
+    pub mark-done : (p : ℕ) → needs (markDown t files c) c p ≡ false
+    unfolding reaches
+    mark-done p = needs-dead (markDown t files c) c p (dead c (reaches-self (t .level c)))
+
+-- one turn of step 4 over the model
+module _ (t : Tree) (ok : TreeOk t) (s : ℕ) where
+  give-yes : (p c : ℕ) (w : Work model) → needs (w .files) c p ≡ true → give model t s p c w ≡ supply model t (resolve t (w .files) s p) c p w
+  unfolding give
+  give-yes p c w h = rw h
+
+  give-no : (p c : ℕ) (w : Work model) → needs (w .files) c p ≡ false → give model t s p c w ≡ w
+  unfolding give
+  give-no p c w h = rw h
+
+  pub record Turn (p c : ℕ) (w v : Work model) : Type 0 where
+    pub given : Given t s (w .files) (v .files)
+    pub done : needs (v .files) c p ≡ false
+    pub pending : v .pending ≡ w .pending
+
+  module _ (p c : ℕ) (w : Work model) (kid : List·Memᴰ c (t .children s)) (k : FilesOk t (w .files)) (nv : w .files c .state ≡ virgin → ⊥) where
+    supply-turn : (e : Entry PageData) → needs (w .files) c p ≡ true → resolve t (w .files) s p ≡ e → Turn p c w (supply model t e c p w)
+    unfolding supply copy mark
+    supply-turn unmapped n r = let z : _≡_ {A = ℕ} 0 1 = cc (resolve-shown t (w .files) s p) in absurd (omega arith)
+    supply-turn hole n r = record {
+      given = fill-given t ok s (w .files) k c kid p hole nv n r;
+      done = fill-done t ok s (w .files) k c kid p hole refl;
+      pending = refl;
+    }
+    supply-turn (stored b) n r =
+        test? {P = Turn p c w (supply model t (stored b) c p w)} (eqb (w .memory) 0)
+        (λ z. rw (z, supply) (record { given = mark-given t ok s (w .files) k c kid (needs-alive (w .files) c p n); done = mark-done t ok s (w .files) k c kid p; pending = refl }))
+        (λ z. rw (z, supply) (record { given = fill-given t ok s (w .files) k c kid p (stored b) nv n r; done = fill-done t ok s (w .files) k c kid p (stored b) refl; pending = refl }))
+
+    give-turn : Turn p c w (give model t s p c w)
+    give-turn =
+        test? (needs (w .files) c p)
+        (λ n. rw (give-yes p c w n) (supply-turn (resolve t (w .files) s p) n refl))
+        (λ n. rw (give-no p c w n) (record { given = given-refl k; done = n; pending = refl }))
+
+  -- all of step 4
+  pub record Going (w v : Work model) : Type 0 where
+    pub given : Given t s (w .files) (v .files)
+    pub pending : v .pending ≡ w .pending
+
+  module _ (w : Work model) (calm : (c : ℕ) → List·Memᴰ c (t .children s) → w .files c .state ≡ virgin → ⊥) where
+    turn : (p c : ℕ) (v : Work model) → List·Memᴰ c (t .children s) → Going w v → Turn p c v (give model t s p c v)
+    turn p c v m g = give-turn p c v m (g .given .ok′) (λ h. calm c m (g .given .calm c h))
+
+    going : (p c : ℕ) (v : Work model) → List·Memᴰ c (t .children s) → Going w v → Going w (give model t s p c v)
+    going p c v m g = record { given = given-trans (g .given) (turn p c v m g .given); pending = turn p c v m g .pending ∙ g .pending }
+
+    page-going : (p : ℕ) (v : Work model) → Going w v → Going w (each (give model t s p) (t .children s) v)
+    page-going p v g = each-inv (give model t s p) (Going w) (t .children s) (λ c u m. going p c u m) v g
+
+    page-done : (p : ℕ) (v : Work model) → Going w v → (c : ℕ) → List·Memᴰ c (t .children s) → needs (each (give model t s p) (t .children s) v .files) c p ≡ false
+    page-done p v g =
+        each-all (give model t s p) (Going w) (λ c u. needs (u .files) c p ≡ false) (t .children s)
+        (λ c u m. going p c u m) (λ c u m g. turn p c u m g .done) (λ c c′ u m g h. turn p c′ u m g .given .less c p h) v g
+
+    page-less : (p q c : ℕ) (v : Work model) → Going w v → needs (v .files) c q ≡ false → needs (each (give model t s p) (t .children s) v .files) c q ≡ false
+    page-less p q c v g h =
+        each-inv (give model t s p) (λ u. Going w u × (needs (u .files) c q ≡ false)) (t .children s)
+        (λ c′ u m i. (going p c′ u m (i .0), turn p c′ u m (i .0) .given .less c q (i .1))) v (g, h) .1
+
+    pub giveAll-going : (ps : List ℕ) → Going w w → Going w (giveAll model t s ps w)
+    unfolding giveAll
+    giveAll-going ps g = each-inv _ (Going w) ps (λ p v m. page-going p v) w g
+
+    pub giveAll-done : (ps : List ℕ) → Going w w → (p : ℕ) → List·Memᴰ p ps → (c : ℕ) → List·Memᴰ c (t .children s) → needs (giveAll model t s ps w .files) c p ≡ false
+    unfolding giveAll
+    giveAll-done ps g =
+        each-all _ (Going w) (λ p v. (c : ℕ) → List·Memᴰ c (t .children s) → needs (v .files) c p ≡ false) ps
+        (λ p v m. page-going p v) (λ p v m. page-done p v) (λ p q v m g h c k. page-less q p c v g (h c k)) w g

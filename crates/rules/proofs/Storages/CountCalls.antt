@@ -1,0 +1,84 @@
+-- The model and the counting store go together through every call; so do the store and the counting store. Assumes nothing.
+use mathlib.Core.Bool.{Bool}
+use mathlib.Core.Path.{ap, refl, _∙_, _≡_}
+use Prim.Native.Nat.{ℕ}
+use Rattle.rules.proofs.Storages.CountSim.{bytesForgotten, noDemands, toCount}
+use Rattle.rules.proofs.Storages.MapBlocks.{mapEntry, mapFiles}
+use Rattle.rules.proofs.Storages.Model.{counting, model}
+use Rattle.rules.proofs.Blocks.RealCalls.{Stands}
+use Rattle.rules.proofs.Blocks.RealStore.{good-begin, kept-finish}
+use Rattle.rules.proofs.Storages.StoreSim.{Standing, StoreSim, calls-same, view-same}
+use Rattle.rules.specs.Calls.{Result, Store, step, treeIn, viewOf}
+use Rattle.rules.specs.Numbers.{Call, numberOf}
+use Rattle.rules.specs.State.{Entry, Files, Tree, hole, stored, unmapped}
+use Rattle.rules.specs.Storage.{PageData, freeBlocks, real}
+
+-- THE MODEL AND THE COUNT: the bytes are forgotten
+abbrev pub Counted : Store model → Store counting → Type 0
+Counted m k = Standing bytesForgotten m k
+
+countStore : (B : ℕ) → StoreSim bytesForgotten B B (λ (m : Store model). Unit {0}) (λ (t : Tree). Unit {0})
+countStore B = record {
+  demands = λ m f s. noDemands;
+  sim = λ m f s. toCount (treeIn model m) s;
+  free = λ m k. refl;
+  fresh-same = refl;
+  kid = λ m f s p c l. tt;
+  good-begin = λ m f s k. tt;
+  frame = λ m f s w g j x p b n e. refl;
+  kept-finish = λ m f s w k l u g d. tt;
+  kept-format = tt;
+  kept-create = λ m s f k u a. tt;
+  kept-make = λ m s c w k l u. tt;
+  kept-unlink = λ m c k o. tt;
+}
+
+pub count-number : (m : Store model) (k : Store counting) → Counted m k → (formed formats : Bool) (c : Call) →
+    numberOf (viewOf counting formed formats k) c ≡ numberOf (viewOf model formed formats m) c
+count-number m k h formed formats c = ap (λ v. numberOf v c) (view-same bytesForgotten m k h refl formed formats)
+
+-- EVERY CALL: the answers are the same, and the stores go together again
+pub record CountedResult (o : Result model) (o′ : Result counting) : Type 0 where
+  pub answer : o′ .answer ≡ o .answer
+  pub counted : Counted (o .store) (o′ .store)
+
+pub step-counted : (B : ℕ) (m : Store model) (k : Store counting) → Counted m k → (c : Call) → CountedResult (step model B c m) (step counting B c k)
+step-counted B m k h c = let q = calls-same (countStore B) m k h tt tt c in record { answer = q .answer; counted = q .stands }
+
+-- a block is forgotten
+abbrev pub forget : {K : Type 0} → K → Unit {0}
+forget b = tt
+
+-- THE STORE AND THE COUNT: sets, free blocks, and files without their block numbers
+pub record CountsFor (r : Store real) (k : Store counting) : Type 0 where
+  pub sets : k .sets ≡ r .sets
+  pub memory : k .memory ≡ freeBlocks (r .memory)
+  pub files : (f : ℕ) → k .files f ≡ mapFiles forget (r .files f)
+
+forget-map : (g : ℕ → PageData) (c : Files ℕ) → mapFiles forget (mapFiles g c) ≡ mapFiles forget c
+forget-map g c = λ i s. record { state = c s .state; size = c s .size; map = λ p. go (c s .map p) i }
+  where
+    go : (e : Entry ℕ) → mapEntry forget (mapEntry g e) ≡ mapEntry forget e
+    go unmapped = refl
+    go hole = refl
+    go (stored b) = refl
+
+pub counts-for : (r : Store real) (m : Store model) (k : Store counting) → Stands r m → Counted m k → CountsFor r k
+counts-for r m k h c = record {
+  sets = c .sets ∙ h .sets;
+  memory = c .memory ∙ h .memory;
+  files = λ f. c .files f ∙ ap (mapFiles forget) (h .files f) ∙ forget-map (r .memory .pages) (r .files f);
+}
+
+-- the model and the count of a store
+abbrev pub modelOf : Store real → Store model
+modelOf r = record { memory = freeBlocks (r .memory); sets = r .sets; files = λ f. mapFiles (r .memory .pages) (r .files f) }
+
+pub model-stands : (r : Store real) → Stands r (modelOf r)
+model-stands r = record { sets = refl; memory = refl; files = λ f. refl }
+
+abbrev pub countOf : Store model → Store counting
+countOf m = record { memory = m .memory; sets = m .sets; files = λ f. mapFiles forget (m .files f) }
+
+pub count-counted : (m : Store model) → Counted m (countOf m)
+count-counted m = record { sets = refl; memory = refl; files = λ f. refl }

@@ -1,0 +1,8 @@
+-- The store without blocks and bytes and the tally do the same.
+pub mod TallyReach
+pub mod TallyLoops
+pub mod TallySteps
+pub mod TallyWriter
+pub mod TallyChange
+pub mod TallyNumbers
+pub mod TallyCalls

@@ -1,0 +1,312 @@
+-- Every accepted call: the store's rules over `counting` and the tally give the same answer and leave a store and its tally. Assumes nothing.
+use mathlib.Core.Bool.{_&&_, Bool, cond, false, not, true, true≢false}
+use mathlib.Core.List.{List·Memᴰ, _∷_, []}
+use mathlib.Core.Path.{ap, fun-ext, refl, sym, _∙_, _≡_}
+use Prim.Native.Nat.{_%_, _+_, _-_, _/_, _<_, max, suc, zero, ℕ, _≤_}
+use native.Mathlib.Nat.{add-zero}
+use native.Mathlib.Omega.{arith}
+use lib.Dec.{eqb, ltb}
+use lib.ListN.{length}
+use borrow.Author.Tests.{eq-eqb, eqb-false, lt-ltb, ltb-false, ne-eqb, not-true}
+use Rattle.base.specs.Count.{count, sum}
+use Rattle.base.specs.Logic.{and-left, and-right, pick, same?}
+use Rattle.base.specs.Update.{upd, upd-self}
+use Rattle.rules.proofs.Storages.Model.{counting}
+use Rattle.rules.proofs.Tally.TallyChange.{change-leaves, changeLeaves, newKinds}
+use Rattle.rules.proofs.Tally.TallyLoops.{PagesOf, all-pages, count-pages, cut-pages, dropped-pages, kept-pages, no-pages, pages-once, pages-passed, put-pages, sum-loop, write-pages}
+use Rattle.rules.proofs.Tally.TallyNumbers.{Tallies, TallyOrderly, kept-need, same-numbers, tallies-is, tallies-of, tallyOf, write-need}
+use Rattle.rules.proofs.Whole.Accepted.{passed-write}
+use Rattle.rules.proofs.Tally.TallyReach.{NoVirginRoot, kind-resolve, no-virgin-root, size-reading}
+use Rattle.rules.proofs.Tally.TallySteps.{give-all, settle-all, settle-maps, withTurn}
+use Rattle.rules.proofs.Tally.TallyWriter.{free-map, turns-inv, turns-self}
+use Rattle.rules.specs.Calls.{Result, Store, accepted, begin, created, formatted, made, readCount, removed, resultOf, step, treeIn, viewOf, worked}
+use Rattle.rules.specs.Numbers.{Call, create, delete, format, make, numberOf, read, refusal, remove, tellFree, tellSize, truncate, write}
+use Rattle.rules.specs.Plain.{Plain}
+use Rattle.rules.specs.Reading.{resolve, shownSize, sizeByReading, walk}
+use Rattle.rules.specs.Rules.{Work, change, countIn, cutPages, deleteAs, deleteFile, droppedPages, each, eraseFile, freeMap, from, giveAll, holes, keptPages, ownNeed, touched, truncateAs, truncateFile, withFiles, writeFile}
+use Rattle.rules.specs.Sets.{appendSet, childFile, childState, rootAlone, unlinkSet}
+use Rattle.rules.specs.State.{SetRecord, State, Tree, absent, absentFile, chain, childrenOf, fileCount, hole, isStored, largestSize, live, marked, own, pageBytes, pageCount, setCount, stored, treeOf, unmapped, unusedSet, virgin}
+use Rattle.rules.specs.Tally.{Both, Kind, Tally, TallyFile, TallyFiles, TallyResult, Turn, bothAs, bothStep, cutKinds, eachChild, kindAt, partPage, storedPages, tallyCall, tallyChild, tallyCut, tallyDelete, tallyFormat, tallyGive, tallyGrow, tallyLeaves, tallySettle, tallySize, tallyTold, tallyTruncate, tallyTruncateNeed, tallyTurns, tallyWrite, truncateTouches, writeTouches}
+use Rattle.rules.specs.Trees.{addChild, rootTree, takeAway}
+
+-- a result of the store as one of the tally
+abbrev pub resultOfTally : Result counting → TallyResult
+resultOfTally r = record { answer = r .answer; tally = tallyOf (r .store) }
+
+module _ (k : Store counting) (f s : ℕ) where
+  worked-leaves : (x : Turn) (n : ℕ) (y : TallyFile) (m : ℕ) (h : ℕ → Kind) →
+      resultOfTally (worked counting k f (changeLeaves (begin counting k f) s x n y m h)) ≡ tallyLeaves (tallyOf k) f s n x y m
+  unfolding worked tallyLeaves
+  worked-leaves x n y m h = λ i. record {
+    answer = record { number = 0; first = add-zero n i; second = x .copies; third = x .marks };
+    tally = record { tree = treeIn counting k; files = upd (k .files) f (upd (x .files) s y); free = x .free + m };
+  }
+
+-- the turns where none is touched
+turns-none : (t : Tree) (s : ℕ) (x : Turn) → tallyGive t s (λ p. false) x ≡ x
+turns-none t s x = turns-inv t s (λ p. false) (λ y. y ≡ x) (λ p c y l e m i. absurd (true≢false (sym e))) x refl
+
+-- the kinds after a truncate
+module _ (n z : ℕ) (l : n < z) (h : z ≤ largestSize) (e : Kind) where
+  cut-apart : (p : ℕ) → List·Memᴰ p (droppedPages n z) → List·Memᴰ p (keptPages n e) → ⊥
+  cut-apart p a b =
+      let d = not-true (partPage n p) (and-right (truncateTouches n z p) _ (pages-passed (dropped-pages n z l h) p a .1)) in
+      let c = and-right (truncateTouches n z p) (partPage n p) (and-left _ (isStored e) (pages-passed (kept-pages n z l h e) p b .1)) in
+      true≢false (sym c ∙ d)
+
+  cut-kinds : (m : ℕ → Kind) (p : ℕ) → newKinds (keptPages n e) (droppedPages n z) m p ≡ cutKinds n z e m p
+  unfolding cutKinds
+  cut-kinds m p =
+      put-pages hole (dropped-pages n z l h) _ p
+      ∙ ap (λ v. cond (ltb p pageCount && (truncateTouches n z p && not (partPage n p))) hole v) (put-pages (stored tt) (kept-pages n z l h e) m p)
+      ∙ go (ltb p pageCount) (truncateTouches n z p) (partPage n p) (isStored e) (m p)
+    where
+      go : (a b c d : Bool) (v : Kind) → cond (a && (b && not c)) hole (cond (a && (b && c && d)) (stored tt) v) ≡ cond (a && b) (cond c (cond d (stored tt) v) hole) v
+      go false b c d v = refl
+      go true false c d v = refl
+      go true true false d v = refl
+      go true true true false v = refl
+      go true true true true v = refl
+
+-- no size by reading is over 32,768 where no size is
+pick-small : (l : State) (m r : ℕ) → m ≤ largestSize → r ≤ largestSize → pick (shownSize l m) r ≤ largestSize
+pick-small absent m r a b = a
+pick-small own m r a b = a
+pick-small virgin m r a b = b
+pick-small marked m r a b = a
+
+size-small : (t : Tree) (fs : TallyFiles) → ((s : ℕ) → fs s .size ≤ largestSize) → (n s : ℕ) →
+    walk (t .parent) (λ (x : TallyFile). shownSize (x .state) (x .size)) 0 n fs s ≤ largestSize
+unfolding walk
+size-small t fs h zero s = pick-small (fs s .state) (fs s .size) 0 (h s) (omega arith)
+size-small t fs h (suc n) s = pick-small (fs s .state) (fs s .size) _ (h s) (size-small t fs h n (t .parent s))
+
+module _ (k : Store counting) (o : TallyOrderly k) where
+  abbrev sets : Tree
+  sets = treeIn counting k
+
+  levels : (x : ℕ) → sets .level x ≤ setCount
+  levels x = omega (arith, o .shallow x)
+
+  above : (f : ℕ) → NoVirginRoot sets (k .files f)
+  above f = no-virgin-root sets (k .files f) (o .tree-ok) (o .files-ok f)
+
+  size-is : (f s : ℕ) → tallySize sets (k .files f) s ≡ sizeByReading sets (k .files f) s
+  size-is f s = size-reading sets (k .files f) (o .tree-ok) (above f) s
+
+  -- WRITE
+  write-same : (s f off n : ℕ) → off + n ≤ largestSize → (lay : ℕ → Unit {0} → Unit {0}) →
+      resultOfTally (worked counting k f (change counting sets s (touched off n) (touched off n) [] lay (λ m. max m (off + n)) (begin counting k f))) ≡ tallyWrite s f off n (tallyOf k)
+  unfolding tallyWrite tallyTurns countIn each
+  write-same s f off n l lay =
+      let r : PagesOf (touched off n) (writeTouches off n) = write-pages off n l in
+      let need : ℕ = ownNeed counting s (touched off n) (k .files f) in
+      let turns : ℕ → Turn = λ m. tallyTurns (tallyOf k) f s (s ∷ sets .children s) m (writeTouches off n) in
+      let own-file : Turn → (ℕ → Kind) → TallyFile = λ x m. record { state = own; size = max (x .files s .size) (off + n); map = m } in
+      ap (λ (w : Work counting). resultOfTally (worked counting k f w))
+      (change-leaves sets (o .tree-ok) levels s (touched off n) (touched off n) [] (writeTouches off n) r tt (λ p m. elim m [ ]) lay (λ m. max m (off + n)) (begin counting k f) (above f))
+      ∙ worked-leaves k f s (turns need) need (own-file (turns need) (each (λ p g. upd g p (stored tt)) (touched off n) (turns need .files s .map))) 0 _
+      ∙ ap (λ m. tallyLeaves (tallyOf k) f s need (turns need) (own-file (turns need) m) 0) (fun-ext (put-pages (stored tt) r (turns need .files s .map)))
+      ∙ ap (λ m. tallyLeaves (tallyOf k) f s m (turns m) (own-file (turns m) (λ p. cond (ltb p pageCount && writeTouches off n p) (stored tt) (turns m .files s .map p))) 0)
+      (sym (write-need (k .files f) s off n l))
+
+  -- TRUNCATE
+  grow-same : (s f n : ℕ) → resultOfTally (worked counting k f (change counting sets s [] [] [] (λ p v. v) (λ m. n) (begin counting k f))) ≡ tallyGrow s f n (tallyOf k)
+  unfolding tallyGrow tallyTurns countIn each ownNeed
+  grow-same s f n =
+      ap (λ (w : Work counting). resultOfTally (worked counting k f w))
+      (change-leaves sets (o .tree-ok) levels s [] [] [] (λ p. false) no-pages tt (λ p m. elim m [ ]) (λ p v. v) (λ m. n) (begin counting k f) (above f))
+      ∙ worked-leaves k f s (tallyTurns (tallyOf k) f s (s ∷ sets .children s) 0 (λ p. false)) 0 _ 0 _
+
+  cut-same : (s f n z : ℕ) → tallySize sets (k .files f) s ≡ z → n < z → z ≤ largestSize → (lay : ℕ → Unit {0} → Unit {0}) →
+      resultOfTally (worked counting k f (change counting sets s (cutPages n z) (keptPages n (resolve sets (k .files f) s (n / pageBytes))) (droppedPages n z) lay (λ m. n) (begin counting k f)))
+      ≡ tallyCut s f n z (tallyOf k)
+  unfolding tallyCut tallyTurns
+  cut-same s f n z e l h lay =
+      let fs : TallyFiles = k .files f in
+      let kind : Kind = resolve sets fs s (n / pageBytes) in
+      let need : ℕ = ownNeed counting s (keptPages n kind) fs in
+      let turns : ℕ → Turn = λ m. tallyTurns (tallyOf k) f s (s ∷ sets .children s) m (truncateTouches n z) in
+      let own-file : (ℕ → Kind) → TallyFile = λ m. record { state = own; size = n; map = m } in
+      let q : tallyTruncateNeed sets fs s n ≡ need = kept-need sets fs s n (ap (ltb n) e ∙ lt-ltb n z l) in
+      ap (λ (w : Work counting). resultOfTally (worked counting k f w))
+      (change-leaves sets (o .tree-ok) levels s (cutPages n z) (keptPages n kind) (droppedPages n z) (truncateTouches n z) (cut-pages n z l h)
+      (pages-once (dropped-pages n z l h)) (cut-apart n z l h kind) lay (λ m. n) (begin counting k f) (above f))
+      ∙ worked-leaves k f s (turns need) need (own-file (newKinds (keptPages n kind) (droppedPages n z) (turns need .files s .map))) (countIn (droppedPages n z) (λ p. isStored (fs s .map p))) _
+      ∙ (λ i. tallyLeaves (tallyOf k) f s need (turns need)
+      (own-file (λ p. (cut-kinds n z l h kind (turns need .files s .map) p ∙ ap (λ e. cutKinds n z e (turns need .files s .map) p) (sym (kind-resolve sets fs s (n / pageBytes)))) i))
+      (sym (count-pages (dropped-pages n z l h) (λ p. isStored (fs s .map p))) i))
+      ∙ ap (λ m. tallyLeaves (tallyOf k) f s m (turns m) (own-file (cutKinds n z (kindAt sets fs s (n / pageBytes)) (turns m .files s .map)))
+      (count pageCount (λ p. truncateTouches n z p && not (partPage n p) && isStored (fs s .map p)))) (sym q)
+
+  reading-small : (f s : ℕ) → sizeByReading sets (k .files f) s ≤ largestSize
+  unfolding sizeByReading
+  reading-small f s = size-small sets (k .files f) (o .small f) (sets .level s) s
+
+  truncate-same : (s f n : ℕ) → resultOfTally (worked counting k f (truncateFile counting sets s n (begin counting k f))) ≡ tallyTruncate s f n (tallyOf k)
+  unfolding truncateFile truncateAs tallyTruncate worked
+  truncate-same s f n =
+      go (eqb n z) (ltb z n) refl refl
+      ∙ ap (λ z. cond (eqb n z) (record { answer = refusal 0; tally = tallyOf k }) (cond (ltb z n) (tallyGrow s f n (tallyOf k)) (tallyCut s f n z (tallyOf k)))) (sym (size-is f s))
+    where
+      z : ℕ
+      z = sizeByReading sets (k .files f) s
+
+      go : (a b : Bool) → eqb n z ≡ a → ltb z n ≡ b → resultOfTally (worked counting k f (truncateAs counting sets a b s n z (begin counting k f))) ≡
+          cond a (record { answer = refusal 0; tally = tallyOf k }) (cond b (tallyGrow s f n (tallyOf k)) (tallyCut s f n z (tallyOf k)))
+      go true b d e = λ i. record { answer = refusal 0; tally = record { tree = sets; files = upd-self (k .files) f i; free = k .memory } }
+      go false true d e = grow-same s f n
+      go false false d e =
+          let l = ltb-false z n e in
+          let m = eqb-false n z d in
+          cut-same s f n z (size-is f s) (omega arith) (reading-small f s) (λ p. counting .cut (n % pageBytes))
+
+  -- DELETE
+  erase-same : (s f : ℕ) (fs : TallyFiles) (x : Turn) → x .files s .map ≡ k .files f s .map →
+      resultOfTally (worked counting k f (eraseFile counting sets s (withTurn (withFiles counting sets (begin counting k f) fs) x))) ≡
+      tallyLeaves (tallyOf k) f s 0 x absentFile (storedPages (k .files f s))
+  unfolding worked tallyLeaves eraseFile storedPages
+  erase-same s f fs x e =
+      let q : freeMap counting (x .files s .map) (x .free) ≡ x .free + storedPages (k .files f s) = ap (λ m. freeMap counting m (x .free)) e ∙ free-map (k .files f s) (x .free) in
+      λ i. record {
+        answer = record { number = 0; first = 0; second = x .copies; third = x .marks };
+        tally = record { tree = sets; files = upd (k .files) f (upd (x .files) s absentFile); free = q i };
+      }
+
+  delete-same : (s f : ℕ) → resultOfTally (worked counting k f (deleteFile counting sets s (begin counting k f))) ≡ tallyDelete s f (tallyOf k)
+  unfolding deleteFile deleteAs tallyDelete tallyTurns eachChild
+  delete-same s f = go (live (k .files f s .state))
+    where
+      start : TallyFiles → ℕ → Turn
+      start fs n = record { files = fs; free = n; copies = 0; marks = 0 }
+
+      none : k .memory - 0 ≡ k .memory
+      none = omega arith
+
+      settled : TallyFiles
+      settled = eachChild (tallySettle sets) (sets .children s) (k .files f)
+
+      go : (b : Bool) → resultOfTally (worked counting k f (deleteAs counting sets b s (begin counting k f))) ≡
+          tallyLeaves (tallyOf k) f s 0 (tallyTurns (tallyOf k) f s (cond b (sets .children s) []) 0 (λ p. b)) absentFile (storedPages (k .files f s))
+      go true =
+          ap (λ (w : Work counting). resultOfTally (worked counting k f (eraseFile counting sets s w)))
+          (ap (giveAll counting sets s (from 0 pageCount)) (settle-all sets (o .tree-ok) (sets .children s) (begin counting k f) (above f))
+          ∙ give-all sets (o .tree-ok) levels s (from 0 pageCount) (λ p. true) all-pages (withFiles counting sets (begin counting k f) settled))
+          ∙ erase-same s f settled (tallyGive sets s (λ p. true) (start settled (k .memory)))
+          (ap (λ (y : TallyFile). y .map) (turns-self sets (o .tree-ok) s (λ p. true) _) ∙ settle-maps sets (o .tree-ok) (sets .children s) (k .files f) s)
+          ∙ ap (λ n. tallyLeaves (tallyOf k) f s 0 (tallyGive sets s (λ p. true) (start settled n)) absentFile (storedPages (k .files f s))) (sym none)
+      go false =
+          erase-same s f (k .files f) (start (k .files f) (k .memory)) refl
+          ∙ ap (λ n. tallyLeaves (tallyOf k) f s 0 (start (k .files f) n) absentFile (storedPages (k .files f s))) (sym none)
+          ∙ ap (λ x. tallyLeaves (tallyOf k) f s 0 x absentFile (storedPages (k .files f s))) (sym (turns-none sets s (start (k .files f) (k .memory - 0))))
+
+-- FORMAT
+cond-self : (b : Bool) → cond b true false ≡ b
+cond-self true = refl
+cond-self false = refl
+
+cond-same : {A : Type 0} (b : Bool) (x : A) → cond b x x ≡ x
+cond-same true x = refl
+cond-same false x = refl
+
+root-at : {A : Type 0} (g : SetRecord → A) (s : ℕ) → g (rootAlone s) ≡ cond (eqb s 0) (g (rootAlone 0)) (g unusedSet)
+unfolding rootAlone
+root-at g s = same? 0 s (λ e. rw (eq-eqb 0 s e, eq-eqb s 0 (sym e))) (λ n. rw (ne-eqb 0 s n, ne-eqb s 0 (λ e. n (sym e))))
+
+pub root-tree : treeOf rootAlone ≡ rootTree
+unfolding rootAlone rootTree childrenOf chain
+root-tree = λ i. record {
+  used = λ s. (root-at (λ r. r .used) s ∙ cond-self (eqb s 0)) i;
+  writeable = λ s. (root-at (λ r. r .writeable) s ∙ cond-self (eqb s 0)) i;
+  level = λ s. (root-at (λ r. r .level) s ∙ cond-same (eqb s 0) 0) i;
+  parent = λ s. root-at (λ r. r .parent) s i;
+  children = λ s. (root-at (λ r. cond (r .used) (chain rootAlone setCount (r .firstChild)) []) s ∙ cond-same (eqb s 0) []) i;
+}
+
+format-same : (k : Store counting) (blocks : ℕ) → resultOfTally (accepted counting blocks format k) ≡ tallyCall blocks format (tallyOf k)
+unfolding accepted tallyCall tallyTold formatted tallyFormat
+format-same k blocks = λ i. record { answer = refusal 0; tally = record { tree = root-tree i; files = λ f s. absentFile; free = blocks } }
+
+-- CREATE
+create-same : (k : Store counting) (blocks s f : ℕ) → resultOfTally (accepted counting blocks (create s f) k) ≡ tallyCall blocks (create s f) (tallyOf k)
+unfolding accepted tallyCall tallyTold created holes
+create-same k blocks s f = refl
+
+-- MAKE
+child-file : (x : TallyFile) → childFile x ≡ tallyChild x
+unfolding tallyChild
+child-file x = λ i. record { state = go (x .state) i; size = 0; map = λ p. unmapped }
+  where
+    go : (l : State) → childState l ≡ cond (live l) virgin l
+    go absent = refl
+    go own = refl
+    go virgin = refl
+    go marked = refl
+
+make-same : (k : Store counting) (blocks s c : ℕ) (w : Bool) → treeOf (appendSet s c w (k .sets)) ≡ addChild (treeOf (k .sets)) s c w →
+    resultOfTally (accepted counting blocks (make s c w) k) ≡ tallyCall blocks (make s c w) (tallyOf k)
+unfolding accepted tallyCall tallyTold made
+make-same k blocks s c w e = λ i. record { answer = refusal 0; tally = record { tree = e i; files = λ f. upd (k .files f) c (child-file (k .files f s) i); free = k .memory } }
+
+-- REMOVE
+remove-same : (k : Store counting) (blocks s : ℕ) → treeOf (unlinkSet s (k .sets)) ≡ takeAway (treeOf (k .sets)) s →
+    resultOfTally (accepted counting blocks (remove s) k) ≡ tallyCall blocks (remove s) (tallyOf k)
+unfolding accepted tallyCall tallyTold removed
+remove-same k blocks s e =
+    let q : each (λ f. freeMap counting (k .files f s .map)) (from 0 fileCount) (k .memory) ≡ k .memory + sum fileCount (λ f. storedPages (k .files f s)) =
+    sum-loop (λ f. storedPages (k .files f s)) (λ f. freeMap counting (k .files f s .map)) (λ f m. free-map (k .files f s) m) fileCount (k .memory) in
+    λ i. record { answer = refusal 0; tally = record { tree = e i; files = λ f. upd (k .files f) s absentFile; free = q i } }
+
+-- what making and removing do to the sets: this is shown of the set records elsewhere
+abbrev pub SetsAfter : Store counting → Call → Type 0
+SetsAfter k format = Unit {0}
+SetsAfter k (create s f) = Unit {0}
+SetsAfter k (write s f off bs) = Unit {0}
+SetsAfter k (read s f off buffer) = Unit {0}
+SetsAfter k (truncate s f n) = Unit {0}
+SetsAfter k (delete s f) = Unit {0}
+SetsAfter k (make s c w) = treeOf (appendSet s c w (k .sets)) ≡ addChild (treeOf (k .sets)) s c w
+SetsAfter k (remove s) = treeOf (unlinkSet s (k .sets)) ≡ takeAway (treeOf (k .sets)) s
+SetsAfter k (tellSize s f) = Unit {0}
+SetsAfter k tellFree = Unit {0}
+
+-- AN ACCEPTED CALL on the tally of a store is the accepted call on the store
+pub call-same : (k : Store counting) → TallyOrderly k → (blocks : ℕ) (c : Call) → numberOf (viewOf counting true true k) c ≡ 0 → SetsAfter k c →
+    resultOfTally (accepted counting blocks c k) ≡ tallyCall blocks c (tallyOf k)
+unfolding accepted tallyCall tallyTold writeFile
+call-same k o blocks format h e = format-same k blocks
+call-same k o blocks (create s f) h e = create-same k blocks s f
+call-same k o blocks (write s f off []) h e = refl
+call-same k o blocks (write s f off (x ∷ bs)) h e = write-same k o s f off (length (x ∷ bs)) (passed-write (viewOf counting true true k) s f off (x ∷ bs) h .end-in) (counting .over off (x ∷ bs))
+call-same k o blocks (read s f off buffer) h e = ap (λ z. tallyTold (readCount (length buffer) off z) (tallyOf k)) (sym (size-is k o f s))
+call-same k o blocks (truncate s f n) h e = truncate-same k o s f n
+call-same k o blocks (delete s f) h e = delete-same k o s f
+call-same k o blocks (make s c w) h e = make-same k blocks s c w e
+call-same k o blocks (remove s) h e = remove-same k blocks s e
+call-same k o blocks (tellSize s f) h e = ap (λ z. tallyTold z (tallyOf k)) (sym (size-is k o f s))
+call-same k o blocks tellFree h e = refl
+
+-- the same answer, and a store with its tally
+pub record SameResult (r : Result counting) (q : TallyResult) : Type 0 where
+  pub answer : q .answer ≡ r .answer
+  pub tallies : Tallies (r .store) (q .tally)
+
+pub call-tallies : (k : Store counting) (ta : Tally) → TallyOrderly k → Tallies k ta → (blocks : ℕ) (c : Call) → numberOf (viewOf counting true true k) c ≡ 0 → SetsAfter k c →
+    SameResult (accepted counting blocks c k) (tallyCall blocks c ta)
+call-tallies k ta o h blocks c z e =
+    let q : tallyCall blocks c ta ≡ resultOfTally (accepted counting blocks c k) = ap (tallyCall blocks c) (tallies-is k ta h) ∙ sym (call-same k o blocks c z e) in
+    record { answer = ap (λ (r : TallyResult). r .answer) q; tallies = tallies-of _ _ (ap (λ (r : TallyResult). r .tally) q) }
+
+-- A CALL, accepted or refused, judged on each
+pub record SameStep (r : Result counting) (q : Both) : Type 0 where
+  pub answer : q .answer ≡ r .answer
+  pub tallies : Tallies (r .store) (q .tally)
+
+pub step-tallies : (k : Store counting) (ta : Tally) (pl : Plain) → TallyOrderly k → Tallies k ta → pl .tree ≡ ta .tree → (blocks : ℕ) (c : Call) →
+    (numberOf (viewOf counting true true k) c ≡ 0 → SetsAfter k c) → SameStep (step counting blocks c k) (bothStep blocks c pl ta)
+unfolding step bothStep resultOf bothAs
+step-tallies k ta pl o h t blocks c e = rw (same-numbers k ta pl o h t c) (go (numberOf (viewOf counting true true k) c) refl)
+  where
+    go : (n : ℕ) → numberOf (viewOf counting true true k) c ≡ n → SameStep (resultOf counting n blocks c k) (bothAs n blocks c pl ta)
+    go zero z = let q = call-tallies k ta o h blocks c z (e z) in record { answer = q .answer; tallies = q .tallies }
+    go (suc n) z = record { answer = refl; tallies = h }

@@ -1,0 +1,109 @@
+-- The writer's own file over `counting`: step 4 leaves it as it is, step 5 makes pages stored, pages dropped become holes and their blocks are free again. Assumes nothing.
+use mathlib.Core.Bool.{_&&_, Bool, cond, false, true}
+use mathlib.Core.List.{List, List·Memᴰ, List·Memᴰ·head, List·Memᴰ·tail, _∷_, []}
+use mathlib.Core.Path.{ap, refl, subst, sym, _∙_, _≡_}
+use Prim.Native.Nat.{_+_, _<_, ℕ}
+use native.Mathlib.Nat.{add-zero}
+use native.Mathlib.Omega.{arith}
+use lib.Dec.{eqb}
+use Rattle.base.specs.Logic.{test?}
+use Rattle.base.specs.Update.{upd, upd-other, upd-same, upd-self, upd-upd}
+use Rattle.rules.proofs.Storages.Model.{counting}
+use Rattle.rules.proofs.Steps.OneStep.{TreeOk, putEntry-page}
+use Rattle.rules.proofs.Steps.StepFour.{each-inv}
+use Rattle.rules.proofs.Tally.TallyLoops.{all-pages, count-pages, count-same-in, each-child, page-inv}
+use Rattle.rules.proofs.Tally.TallyReach.{reached-level}
+use Rattle.rules.proofs.Steps.WriterSteps.{NoDup}
+use Rattle.rules.specs.Rules.{Work, countIn, dropPage, each, enter, enterAs, freeEntry, freeMap, from, putEntry, withFiles}
+use Rattle.rules.specs.State.{Tree, hole, isStored, isUnmapped, live, pageCount, setCount, stored, unmapped}
+use Rattle.rules.specs.Tally.{Kind, TallyFile, TallyFiles, Turn, childPage, childTurn, kindAt, markedWith, neededCopy, storedPages, tallyGive, tallyKind, tallyMark}
+
+-- the turns of step 4, one after the other
+module _ (t : Tree) (s : ℕ) (touches : ℕ → Bool) where
+  pub turns-inv : (I : Turn → Type 0) → ((p c : ℕ) (x : Turn) → p < pageCount → touches p ≡ true → List·Memᴰ c (t .children s) → I x → I (childTurn t s p c x)) →
+      (x : Turn) → I x → I (tallyGive t s touches x)
+  unfolding tallyGive
+  turns-inv I h x i =
+      page-inv _ I pageCount
+      (λ p y l j. test? (touches p)
+      (λ e. rw (e, each-child (childTurn t s p) (t .children s) y) (each-inv (childTurn t s p) I (t .children s) (λ c z m. h p c z l e m) y j))
+      (λ e. rw e j)) x i
+
+-- n blocks are free again, and the files are fs
+abbrev pub withReleased : Work counting → ℕ → TallyFiles → Work counting
+withReleased w n fs = record { memory = w .memory + n; files = fs; pending = w .pending; taken = w .taken; copies = w .copies; marks = w .marks }
+
+released-again : (w : Work counting) (a b : ℕ) (fs gs : TallyFiles) → withReleased (withReleased w a fs) b gs ≡ withReleased w (a + b) gs
+released-again w a b fs gs =
+    let e : w .memory + a + b ≡ w .memory + (a + b) = omega arith in
+    λ i. record { memory = e i; files = gs; pending = w .pending; taken = w .taken; copies = w .copies; marks = w .marks }
+
+-- "frees the file's blocks"
+free-one : (e : Kind) (m : ℕ) → freeEntry counting e m ≡ m + cond (isStored e) 1 0
+unfolding freeEntry
+free-one unmapped m = sym (add-zero m)
+free-one hole m = sym (add-zero m)
+free-one (stored b) m = refl
+
+module _ (t : Tree) (ok : TreeOk t) (s : ℕ) where
+  -- a child's turn leaves the file of the set above it
+  turn-self : (p c : ℕ) (x : Turn) → List·Memᴰ c (t .children s) → childTurn t s p c x .files s ≡ x .files s
+  unfolding childTurn childPage neededCopy tallyMark tallyKind
+  turn-self p c x m = test? (live (x .files c .state) && isUnmapped (x .files c .map p)) (λ e. rw e (go (kindAt t (x .files) s p))) (λ e. rw e)
+    where
+      apart : c ≡ s → ⊥
+      apart q = let e : t .level c ≡ t .level s = ap (t .level) q in omega (arith, ok .kid-lvl s c m)
+
+      missed : markedWith t (x .files) c s ≡ false
+      missed = test? (markedWith t (x .files) c s) (λ e. let l = reached-level t ok (x .files) setCount c s e in absurd (omega (arith, ok .kid-lvl s c m))) (λ e. e)
+
+      go : (k : Kind) → childPage t k p c x .files s ≡ x .files s
+      go unmapped = refl
+      go hole = upd-other (x .files) c _ s apart
+      go (stored b) = test? (eqb (x .free) 0) (λ e. rw (e, missed)) (λ e. rw e (upd-other (x .files) c _ s apart))
+
+  pub turns-self : (touches : ℕ → Bool) (x : Turn) → tallyGive t s touches x .files s ≡ x .files s
+  turns-self touches x = turns-inv t s touches (λ y. y .files s ≡ x .files s) (λ p c y l e m i. turn-self p c y m ∙ i) x refl
+
+  -- STEP 5: pending blocks enter the map
+  module _ (lay : ℕ → Unit {0} → Unit {0}) where
+    enter-one : (p : ℕ) (w : Work counting) → w .pending p ≡ stored tt → enter counting t s lay p w ≡ withFiles counting t w (putEntry (w .files) s p (stored tt))
+    unfolding enter enterAs
+    enter-one p w h = rw h
+
+    pub enter-stored : (rs : List ℕ) (w : Work counting) → ((p : ℕ) → List·Memᴰ p rs → w .pending p ≡ stored tt) →
+        each (enter counting t s lay) rs w ≡ withFiles counting t w (each (λ p g. putEntry g s p (stored tt)) rs (w .files))
+    unfolding each
+    enter-stored [] w h = refl
+    enter-stored (p ∷ rs) w h = rw (enter-one p w (h p (List·Memᴰ·head refl))) (enter-stored rs (withFiles counting t w _) (λ q m. h q (List·Memᴰ·tail m)))
+
+  -- pages dropped
+  drop-one : (p : ℕ) (w : Work counting) → dropPage counting t s p w ≡ withReleased w (cond (isStored (w .files s .map p)) 1 0) (putEntry (w .files) s p hole)
+  unfolding dropPage
+  drop-one p w = rw (free-one (w .files s .map p) (w .memory))
+
+  pub drop-all : (ds : List ℕ) → NoDup ds → (w : Work counting) →
+      each (dropPage counting t s) ds w ≡ withReleased w (countIn ds (λ p. isStored (w .files s .map p))) (each (λ p g. putEntry g s p hole) ds (w .files))
+  unfolding each countIn
+  drop-all [] d w = λ i. record { memory = sym (add-zero (w .memory)) i; files = w .files; pending = w .pending; taken = w .taken; copies = w .copies; marks = w .marks }
+  drop-all (p ∷ ds) d w =
+      let fs : TallyFiles = putEntry (w .files) s p hole in
+      let same : countIn ds (λ q. isStored (fs s .map q)) ≡ countIn ds (λ q. isStored (w .files s .map q)) =
+      count-same-in ds _ _ (λ q m. ap isStored (putEntry-page (w .files) s p hole s q (λ e. d .0 (subst (λ y. List·Memᴰ y ds) (sym e) m)))) in
+      rw (drop-one p w) (drop-all ds (d .1) (withReleased w _ fs) ∙ rw same (released-again w _ _ fs _))
+
+-- entries put into one file, one after the other
+pub put-all : (s : ℕ) (e : Kind) (ps : List ℕ) (fs : TallyFiles) → each (λ p g. putEntry g s p e) ps fs ≡
+    upd fs s (record { state = fs s .state; size = fs s .size; map = each (λ p m. upd m p e) ps (fs s .map) })
+unfolding each putEntry
+put-all s e [] fs = sym (upd-self fs s)
+put-all s e (p ∷ ps) fs = put-all s e ps (putEntry fs s p e) ∙ rw (upd-same fs s (record { state = fs s .state; size = fs s .size; map = upd (fs s .map) p e })) (upd-upd fs s _ _)
+
+free-list : (map : ℕ → Kind) (ps : List ℕ) (m : ℕ) → each (λ p. freeEntry counting (map p)) ps m ≡ m + countIn ps (λ p. isStored (map p))
+unfolding each countIn
+free-list map [] m = sym (add-zero m)
+free-list map (p ∷ ps) m = rw (free-one (map p) m) (free-list map ps _ ∙ omega arith)
+
+pub free-map : (x : TallyFile) (m : ℕ) → freeMap counting (x .map) m ≡ m + storedPages x
+unfolding freeMap storedPages
+free-map x m = free-list (x .map) (from 0 pageCount) m ∙ ap (λ n. m + n) (sym (count-pages all-pages (λ p. isStored (x .map p))))
