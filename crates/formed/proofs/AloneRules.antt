@@ -115,6 +115,11 @@ module _ (w u : ℕ) (used root : Bool) where
     unfolding aloneFormed
     head-state b h r l q = q ∙ sym (parts ∙ rw (not-absent k h, not-false used r, le-leb n 32768 (omega arith)))
 
+  -- LAW: a head that is 0
+  pub head-zero : w ≡ 0 → eqb u 18446744073709551615 ≡ headFormed w u used root
+  head-zero z =
+      head-absent (ap (λ x. x % 16384) z) 0 0 (sym (ap (λ x. x / 1073741824) z)) (sym (ap (λ x. x / 16384 % 65536) z)) (eqb u 18446744073709551615) refl refl
+
 -- ---- a file of the tables
 -- LAW: some page is unmapped where the mask is not 0
 pub some-unmapped : (u : ℕ) (map : ℕ → Entry ℕ) → u ≡ pageMask isUnmapped map → not (eqb u 0) ≡ someUnmapped 64 map
@@ -125,7 +130,7 @@ module _ (t : List ℕ) (f s w u : ℕ) (lf : f < 16) (ls : s < 8) (e : w ≡ he
   unfolding allPages
   every-is = ap (λ x. eqb x 18446744073709551615) d ∙ mask-all isUnmapped (unpack t .files f s .map)
 
-  state-is : stateOf (w / 1073741824) ≡ unpack t .files f s .state
+  pub state-is : stateOf (w / 1073741824) ≡ unpack t .files f s .state
   unfolding readState
   state-is = ap readState e ∙ sym (read-state t f s lf ls)
 
@@ -138,10 +143,7 @@ module _ (t : List ℕ) (f s w u : ℕ) (lf : f < 16) (ls : s < 8) (e : w ≡ he
 
   -- LAW: a head that is 0
   pub alone-zero : w ≡ 0 → eqb u 18446744073709551615 ≡ fileAlone t f s
-  alone-zero z =
-      head-absent w u (unpack t .sets s .used) (eqb s 0) (ap (λ x. x % 16384) z) 0 0 (sym (ap (λ x. x / 1073741824) z)) (sym (ap (λ x. x / 16384 % 65536) z))
-      (eqb u 18446744073709551615) refl refl
-      ∙ head-is
+  alone-zero z = head-zero w u (unpack t .sets s .used) (eqb s 0) z ∙ head-is
 
   -- LAW: any head
   pub alone-head : (used b : Bool) → used ≡ unpack t .sets s .used → b ≡ headFormed w u used (eqb s 0) → b ≡ fileAlone t f s

@@ -2,28 +2,27 @@
 use mathlib.Core.Bool.{_&&_, Bool, cond, false, not, true, true≢false, _||_}
 use mathlib.Core.List.{List, [], _∷_}
 use mathlib.Core.Option.{none, some}
-use mathlib.Core.Path.{ap, refl, subst, sym, _∙_, _≡_}
+use mathlib.Core.Path.{ap, refl, sym, _∙_, _≡_}
 use Prim.Native.Nat.{_%_, _*_, _+_, _-_, _/_, _<_, suc, zero, ℕ, _≤_}
 use native.Mathlib.Omega.{arith}
 use lib.Dec.{eqb}
 use lib.ListN.{getD}
 use borrow.Author.Tests.{eqb-true, not-true}
-use Rattle.base.specs.Count.{all, all-more, all-of}
-use Rattle.base.specs.Logic.{and-both, and-left, and-right, same?, test?}
+use Rattle.base.specs.Count.{all, all-of}
+use Rattle.base.specs.Logic.{and-left, and-right, same?, test?}
 use Rattle.masks.proofs.PageMasks.{mask-all, mask-none}
-use Rattle.masks.specs.Pages.{pageMask}
 use Rattle.entrycheck.specs.Marking.{Seen, andThen, markEntry, markFile, markNamed, through, through-more, through-none}
+use Rattle.masks.specs.Pages.{pageMask}
 use Rattle.formed.proofs.AloneRules.{alone-zero}
-use Rattle.formed.specs.Files.{fileAlone, fileLinked}
+use Rattle.formed.specs.Files.{fileAlone}
 use Rattle.formed.specs.Pass.{BlankFrom, UnusedFrom, onlyIf, passFile, passSets}
 use Rattle.packing.specs.Words.{Bytes}
 use Rattle.packing.specs.Zeros.{zero-at, zero-of, zeroBytes}
 use Rattle.rules.proofs.Formed.FilesFormed.{unmapped-is}
 use Rattle.rules.proofs.Formed.Shape.{absent-is}
 use Rattle.rules.proofs.Formed.Tests.{and-4, files-at, not-then, or-then, pages-at}
-use Rattle.rules.specs.Reading.{dependent}
-use Rattle.rules.specs.State.{Entry, File, SetRecord, absentFile, hole, isAbsent, isStored, isUnmapped, stored, unmapped}
-use Rattle.rules.specs.WellFormed.{aboveFormed, allFiles, allPages, bitsFormed, filesFormed, pastFormed, zeroFile}
+use Rattle.rules.specs.State.{Entry, File, SetRecord, absentFile, isAbsent, isStored, isUnmapped, live, stored, unmapped}
+use Rattle.rules.specs.WellFormed.{allFiles, allPages, bitsFormed, filesFormed, zeroFile}
 use Rattle.setcheck.specs.Records.{fileRecordsFormed}
 use Rattle.tables.proofs.ZeroFiles.{absent-bytes, entries-zero, entry-zero, file-zero, head-zero, zero-entry}
 use Rattle.packing.specs.Fields.{getField}
@@ -75,13 +74,12 @@ module _ (t : List ℕ) (n : ℕ) (b : BlankFrom t n) (f s : ℕ) (lf : f < 16) 
   pub blank-unmapped : pageMask isUnmapped (unpack t .files f s .map) ≡ 18446744073709551615
   blank-unmapped = eqb-true (pageMask isUnmapped (unpack t .files f s .map)) 18446744073709551615 every-page
 
-  blank-alone : fileAlone t f s ≡ true
+  pub blank-alone : fileAlone t f s ≡ true
   blank-alone =
       sym (alone-zero t f s (headWord t f s) (pageMask isUnmapped (unpack t .files f s .map)) lf ls refl refl (head-zero t f s lf ls zeros)) ∙ every-page
 
-  blank-linked : fileLinked t f s ≡ true
-  unfolding fileLinked dependent pastFormed
-  blank-linked = rw absent-here
+  pub blank-dead : live (unpack t .files f s .state) ≡ false
+  blank-dead = ap (λ (x : File ℕ). live (x .state)) absent-here
 
   blank-entries : (limit m : ℕ) (seen : Seen) → m ≤ 64 → through m (λ p. markEntry limit (entryWord t f s p)) seen ≡ some seen
   blank-entries limit zero seen l = through-none (λ p. markEntry limit (entryWord t f s p)) seen
@@ -109,14 +107,6 @@ module _ (t : List ℕ) (n : ℕ) (b : BlankFrom t n) (f : ℕ) (lf : f < 16) wh
       then-blank : (o : _) (m : ℕ) → n ≤ m → m < 8 → andThen o (passFile limit t f m) ≡ o
       then-blank none m a l = refl
       then-blank (some x) m a l = blank-pass t n b f m lf a l limit x
-
-  -- LAW: their files are linked rightly
-  pub blank-links : (m : ℕ) → n ≤ m → m ≤ 8 → all n (fileLinked t f) ≡ true → all m (fileLinked t f) ≡ true
-  blank-links zero a l h = let e : n ≡ zero = omega arith in subst (λ k. all k (fileLinked t f) ≡ true) e h
-  blank-links (suc m) a l h = same? n (suc m)
-      (λ e. subst (λ k. all k (fileLinked t f) ≡ true) e h)
-      (λ e. all-more m (fileLinked t f)
-      ∙ and-both (fileLinked t f m) (all m (fileLinked t f)) (blank-linked t n b f m lf (omega arith) (omega arith)) (blank-links m (omega arith) (omega arith) h))
 
 -- ---- what the code tests at once
 module _ (t : List ℕ) (n : ℕ) (most : n ≤ 8) where

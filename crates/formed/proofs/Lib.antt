@@ -3,5 +3,6 @@ pub mod Resolved
 pub mod Past
 pub mod LinkedRules
 pub mod Blank
+pub mod Places
 pub mod Passes
 pub mod Whole

@@ -1,51 +1,98 @@
--- The rules on a file that concern the sets above, in the order of the code's tests. Assumes nothing.
-use mathlib.Core.Bool.{Bool, false, not, true, _||_}
+-- The rules on a file that concern the sets above, in the order of the code's tests: parents go first. Assumes nothing.
+use mathlib.Core.Bool.{_&&_, Bool, cond, false, not, true, true≢false, _||_}
 use mathlib.Core.List.{List}
-use mathlib.Core.Path.{ap, refl, subst, sym, _∙_, _≡_}
-use Prim.Native.Nat.{_%_, _*_, _+_, _/_, _<_, _^_, ℕ, _≤_}
+use mathlib.Core.Path.{ap, ap₂, refl, subst, sym, _∙_, _≡_}
+use Prim.Native.Nat.{_%_, _*_, _+_, _-_, _/_, _<_, _^_, suc, zero, ℕ, _≤_}
 use native.Mathlib.Omega.{arith}
+use native.Mathlib.Nat.{lt-of-le-of-lt}
+use lib.Bits.{and-high, and-le-l, and-zero-r, bitAnd, bitOr}
+use lib.Count.{trailingZeros, under}
 use lib.Dec.{eqb, ltb}
-use borrow.Author.Tests.{eq-eqb, ne-eqb, not-false, not-true}
-use Rattle.base.specs.Count.{all, all-not}
-use Rattle.base.specs.Logic.{and-both, and-false}
+use lib.ListN.{getD, length, length-set, set}
+use lib.Pow.{pow-pos}
+use lib.Seq.{getD-set-other, getD-set-same}
+use borrow.Author.Tests.{eq-eqb, eqb-true, ne-eqb, not-false, not-true}
+use Rattle.base.specs.Count.{all, all-not, all-of}
+use Rattle.base.specs.Logic.{and-false, and-right, same?, test?}
+use Rattle.masks.proofs.LowestBit.{Lowest, lowest-is}
+use Rattle.masks.proofs.PageMasks.{mask-some}
 use Rattle.masks.specs.Pages.{pageMask}
 use Rattle.formed.proofs.AloneRules.{some-unmapped}
 use Rattle.formed.proofs.Past.{past-none, past-shift}
-use Rattle.formed.proofs.Blank.{blank-links}
-use Rattle.formed.specs.Files.{fileLinked}
-use Rattle.formed.specs.Pass.{BlankFrom}
+use Rattle.formed.proofs.Resolved.{resolved-above, resolved-own}
+use Rattle.formed.specs.Files.{LinkDecided, Numbered, fileAlone, fileLinked, placeDigit, placeOf, resolvedMask}
 use Rattle.maps.proofs.OutOfRange.{state-out}
+use Rattle.packing.specs.Bitmap.{isOne}
+use Rattle.packing.specs.Bits.{bit, bit-none, bit-suc, bit-zero}
+use Rattle.packing.specs.Fields.{getField}
+use Rattle.rules.proofs.Formed.Tests.{and-5, not-then, or-then}
 use Rattle.rules.specs.Reading.{dependent, resolve, someUnmapped}
-use Rattle.rules.specs.State.{State, isOwn, isStored, isUnmapped, live, treeOf}
-use Rattle.rules.specs.WellFormed.{aboveFormed, allPages, pastFormed}
-use Rattle.setcheck.proofs.Zeros.{all-next}
+use Rattle.rules.specs.State.{File, State, absent, isAbsent, isMarked, isOwn, isStored, isUnmapped, isVirgin, live, marked, own, treeOf, virgin}
+use Rattle.rules.specs.WellFormed.{aboveFormed, allPages, pastFormed, rootFileFormed, sizeFormed, virginFormed, zeroFile}
+use Rattle.tables.specs.Layout.{headWidths, headWord}
 use Rattle.tables.specs.Packed.{unpack}
 
--- ---- the file of the parent set
-module _ (t : List ℕ) (f s u : ℕ) (d : u ≡ pageMask isUnmapped (unpack t .files f s .map)) where
-  some-is : not (eqb u 0) ≡ someUnmapped 64 (unpack t .files f s .map)
-  some-is = some-unmapped u (unpack t .files f s .map) d
+-- ---- digits
+even-below : (m z j : ℕ) → m % 2 ≡ 0 → j < under 0 z → ((i : ℕ) → i < z → bit (m / 2) i ≡ 0) → bit m j ≡ 0
+even-below m z zero e l h = bit-zero m ∙ e
+even-below m z (suc j) e l h = bit-suc m j ∙ h j (omega arith)
 
-  pub above-mapped : u ≡ 0 → true ≡ aboveFormed (unpack t) f s
-  unfolding dependent
-  above-mapped h = rw (← some-is, eq-eqb u 0 h, and-false (live (unpack t .files f s .state)))
+none-below : (z j : ℕ) → j < under 1 z → ⊥
+none-below z j l = omega arith
 
-  -- l and m are the states of the file and of the one in the parent set, which is x
-  module _ (l : State) (el : l ≡ unpack t .files f s .state) where
-    pub above-other : (a : Bool) → a ≡ live l → not a ≡ true → true ≡ aboveFormed (unpack t) f s
-    unfolding dependent
-    above-other a e h = rw (← el, ← e, not-true a h)
+-- LAW: the digits below the lowest that is 1
+below-lowest : (n m j : ℕ) → j < trailingZeros n m → bit m j ≡ 0
+unfolding trailingZeros
+below-lowest zero m j h = absurd (omega arith)
+below-lowest (suc n) m j h =
+    same? (m % 2) 0
+    (λ e. even-below m (trailingZeros n (m / 2)) j e (subst (λ d. j < under d (trailingZeros n (m / 2))) e h) (λ i l. below-lowest n (m / 2) i l))
+    (λ e. let o : m % 2 ≡ 1 = omega arith in absurd (none-below (trailingZeros n (m / 2)) j (subst (λ d. j < under d (trailingZeros n (m / 2))) o h)))
 
-    module _ (n : u ≡ 0 → ⊥) (a : Bool) (e : a ≡ live l) (h : not a ≡ false) (x : ℕ) (ex : x ≡ unpack t .sets s .parent) where
-      from-parent : live (unpack t .files f x .state) ≡ aboveFormed (unpack t) f s
-      unfolding dependent
-      from-parent = rw (← el, ← e, not-false a h, ← some-is, ne-eqb u 0 n, ← ex)
+-- a number cut down to one digit
+and-digit : (n k : ℕ) → bitAnd n (2 ^ k) ≡ bit n k * 2 ^ k
+unfolding bit
+and-digit n k =
+    let q : 1 + k ≡ suc k = omega arith in
+    let e : 2 ^ k ≡ 2 ^ suc k - 2 ^ k = omega arith in
+    ap (bitAnd n) (e ∙ ap (λ j. 2 ^ j - 2 ^ k) (sym q)) ∙ and-high n 1 k
 
-      pub above-none : 8 ≤ x → false ≡ aboveFormed (unpack t) f s
-      above-none b = sym (ap live (state-out t x b f)) ∙ from-parent
+-- ---- what the rules that concern no other file say of a live one
+absent-not : (l : State) → live l ≡ true → isAbsent l ≡ false
+absent-not absent h = absurd (true≢false (sym h))
+absent-not own h = refl
+absent-not virgin h = refl
+absent-not marked h = refl
 
-      pub above-parent : (m : State) (b : Bool) → m ≡ unpack t .files f x .state → b ≡ live m → b ≡ aboveFormed (unpack t) f s
-      above-parent m b q r = r ∙ ap live q ∙ from-parent
+own-not : (l : State) → live l ≡ false → isOwn l ≡ false
+own-not absent h = refl
+own-not own h = h
+own-not virgin h = refl
+own-not marked h = refl
+
+module _ (t : List ℕ) (f s : ℕ) (h : fileAlone t f s ≡ true) (lv : live (unpack t .files f s .state) ≡ true) where
+  abbrev file : File ℕ
+  file = unpack t .files f s
+
+  parts : (eqb (getField headWidths (headWord t f s) 2) 0 ≡ true) × ((not (isAbsent (file .state)) || zeroFile file) ≡ true)
+      × ((unpack t .sets s .used || isAbsent (file .state)) ≡ true) × (sizeFormed file ≡ true)
+      × ((virginFormed file && (not (eqb s 0) || rootFileFormed file)) ≡ true)
+  unfolding fileAlone
+  parts = and-5 (eqb (getField headWidths (headWord t f s) 2) 0) (not (isAbsent (file .state)) || zeroFile file) (unpack t .sets s .used || isAbsent (file .state))
+      (sizeFormed file) (virginFormed file && (not (eqb s 0) || rootFileFormed file)) h
+
+  -- LAW: its set is used
+  pub live-used : unpack t .sets s .used ≡ true
+  live-used = test? (unpack t .sets s .used) (λ e. e)
+      (λ e. absurd (true≢false (sym (or-then (unpack t .sets s .used) (isAbsent (file .state)) (parts .2) e) ∙ absent-not (file .state) lv)))
+
+  -- LAW: in set 0, no page is unmapped
+  root-mapped : s ≡ 0 → pageMask isUnmapped (file .map) ≡ 0
+  root-mapped e =
+      let r = not-then (eqb s 0) (rootFileFormed file) (and-right (virginFormed file) (not (eqb s 0) || rootFileFormed file) (parts .4)) (eq-eqb s 0 e) in
+      let q = or-then (isAbsent (file .state)) (not (isVirgin (file .state)) && not (isMarked (file .state)) && not (someUnmapped 64 (file .map))) r (absent-not (file .state) lv) in
+      let n = and-right (not (isVirgin (file .state)) && not (isMarked (file .state))) (not (someUnmapped 64 (file .map))) q in
+      eqb-true (pageMask isUnmapped (file .map)) 0 (not-false (eqb (pageMask isUnmapped (file .map)) 0) (mask-some (file .map) ∙ not-true (someUnmapped 64 (file .map)) n))
 
 -- ---- the pages past the size
 module _ (t : List ℕ) (f s : ℕ) (l : State) (el : l ≡ unpack t .files f s .state) where
@@ -66,21 +113,176 @@ module _ (t : List ℕ) (f s : ℕ) (l : State) (el : l ≡ unpack t .files f s 
       pub past-mask : (m : ℕ) → k < 64 → m ≡ pageMask isStored (resolve (treeOf (unpack t .sets)) (unpack t .files f) s) → eqb (m * 2 ^ k % 2 ^ 64) 0 ≡ pastFormed (unpack t) f s
       past-mask m h q = past-shift (λ p. isStored (resolve (treeOf (unpack t .sets)) (unpack t .files f) s p)) m k n q ek h ∙ own-past
 
+-- ---- file f of set s, which is live
+module _ (t : List ℕ) (f s : ℕ) (digits parents stored unmapped : List ℕ) (lives : ℕ) (k : Numbered t f digits parents stored unmapped lives) where
+  -- LAW: is the file of set x live
+  live-digit : (x : ℕ) → x < 8 → not (eqb (bitAnd lives (getD digits x 0)) 0) ≡ live (unpack t .files f x .state)
+  unfolding placeDigit
+  live-digit x l = test? (unpack t .sets x .used) used unused
+    where
+      here : bitAnd lives (getD digits x 0) ≡ bitAnd lives (placeDigit (unpack t .sets x) x)
+      here = ap (bitAnd lives) (k .places .digits-are x l)
+
+      used : unpack t .sets x .used ≡ true → not (eqb (bitAnd lives (getD digits x 0)) 0) ≡ live (unpack t .files f x .state)
+      used u =
+          let p : ℕ = placeOf (unpack t .sets) x in
+          ap (λ y. not (eqb y 0)) (here ∙ ap (λ b. bitAnd lives (cond b (2 ^ p) 0)) u ∙ and-digit lives p) ∙ go p (bit lives p) ∙ k .lives-are .live-at x l
+        where
+          go : (p d : ℕ) → not (eqb (d * 2 ^ p) 0) ≡ isOne d
+          go p zero = rw (eq-eqb (0 * 2 ^ p) 0 (omega arith))
+          go p (suc d) = rw (ne-eqb (suc d * 2 ^ p) 0 (λ e. some (2 ^ p) (pow-pos p) e))
+            where
+              some : (x : ℕ) → 0 < x → suc d * x ≡ 0 → ⊥
+              some x h e = let q : suc d * x ≡ d * x + x = omega arith in omega arith
+
+      unused : unpack t .sets x .used ≡ false → not (eqb (bitAnd lives (getD digits x 0)) 0) ≡ live (unpack t .files f x .state)
+      unused u =
+          ap (λ y. not (eqb y 0)) (here ∙ ap (λ b. bitAnd lives (cond b (2 ^ placeOf (unpack t .sets) x) 0)) u ∙ and-zero-r lives)
+          ∙ test? (live (unpack t .files f x .state)) (λ e. absurd (true≢false (sym (live-used t f x (k .alone x l) e) ∙ u))) (λ e. sym e)
+
+  module _ (ls : s < 8) (lv : live (unpack t .files f s .state) ≡ true) (u : ℕ) (eu : u ≡ getD unmapped s 0) where
+    unmapped-is : u ≡ pageMask isUnmapped (unpack t .files f s .map)
+    unmapped-is = eu ∙ k .masks .unmapped-are s ls
+
+    some-is : not (eqb u 0) ≡ someUnmapped 64 (unpack t .files f s .map)
+    some-is = some-unmapped u (unpack t .files f s .map) unmapped-is
+
+    linked-by : (a b r : Bool) → a ≡ aboveFormed (unpack t) f s → b ≡ pastFormed (unpack t) f s → r ≡ (a && b) → r ≡ fileLinked t f s
+    unfolding fileLinked
+    linked-by a b r ea eb er = er ∙ ap₂ _&&_ ea eb
+
+    above-mapped : u ≡ 0 → true ≡ aboveFormed (unpack t) f s
+    unfolding dependent
+    above-mapped h = rw (← some-is, eq-eqb u 0 h, and-false (live (unpack t .files f s .state)))
+
+    -- LAW: no page is unmapped
+    pub mapped-mask : u ≡ 0 → getD stored s 0 ≡ resolvedMask t f s
+    mapped-mask h = k .masks .stored-are s ls ∙ resolved-own (unpack t .sets) (unpack t .files f) s (sym unmapped-is ∙ h)
+
+    pub mapped-decided : u ≡ 0 → (resolved resolved′ : List ℕ) (r : Bool) → (r ≡ pastFormed (unpack t) f s) × (resolved′ ≡ set resolved s (resolvedMask t f s))
+        → LinkDecided t f s resolved resolved′ r
+    mapped-decided h resolved resolved′ r e = record { decided = linked-by true r r (above-mapped h) (e .0) refl; kept = λ o. e .1 }
+
+    -- LAW: some page is unmapped; x is the parent set
+    module _ (n : u ≡ 0 → ⊥) (x : ℕ) (ep : x ≡ getD parents s 0) where
+      parent-is : x ≡ unpack t .sets s .parent
+      parent-is = ep ∙ k .places .parents-are s ls (live-used t f s (k .alone s ls) lv)
+
+      from-parent : live (unpack t .files f x .state) ≡ aboveFormed (unpack t) f s
+      unfolding dependent
+      from-parent = rw (lv, ← some-is, ne-eqb u 0 n, ← parent-is)
+
+      not-above : (resolved : List ℕ) → live (unpack t .files f x .state) ≡ false → LinkDecided t f s resolved resolved false
+      not-above resolved e = record { decided = linked-by false (pastFormed (unpack t) f s) false (sym e ∙ from-parent) refl refl; kept = λ o. absurd (true≢false (sym o)) }
+
+      pub none-above : (resolved : List ℕ) → 8 ≤ x → LinkDecided t f s resolved resolved false
+      none-above resolved b = not-above resolved (ap live (state-out t x b f))
+
+      pub dead-above : (resolved : List ℕ) → x < 8 → bitAnd lives (getD digits x 0) ≡ 0 → LinkDecided t f s resolved resolved false
+      dead-above resolved l e = not-above resolved (sym (live-digit x l) ∙ ap not (eq-eqb (bitAnd lives (getD digits x 0)) 0 e))
+
+      -- the file of the parent set is live
+      module _ (lx : x < 8) (e : bitAnd lives (getD digits x 0) ≡ 0 → ⊥) (resolved : List ℕ)
+          (up : (n : ℕ) → unpack t .sets s .level ≡ suc n → live (unpack t .files f (unpack t .sets s .parent) .state) ≡ true
+          → getD resolved (unpack t .sets s .parent) 0 ≡ resolvedMask t f (unpack t .sets s .parent)) where
+        live-above : live (unpack t .files f x .state) ≡ true
+        live-above = sym (live-digit x lx) ∙ ap not (ne-eqb (bitAnd lives (getD digits x 0)) 0 e)
+
+        pub above-mask : bitOr (getD stored s 0) (bitAnd u (getD resolved x 0)) ≡ resolvedMask t f s
+        above-mask = same? (unpack t .sets s .level) 0
+            (λ z. absurd (n (unmapped-is ∙ root-mapped t f s (k .alone s ls) lv (k .falling .one-root s ls (live-used t f s (k .alone s ls) lv) z))))
+            (λ z.
+            let n : ℕ = unpack t .sets s .level - 1 in
+            let q : unpack t .sets s .level ≡ suc n = omega arith in
+            let a : getD resolved x 0 ≡ resolvedMask t f (unpack t .sets s .parent) =
+            ap (λ y. getD resolved y 0) parent-is ∙ up n q (ap (λ y. live (unpack t .files f y .state)) (sym parent-is) ∙ live-above) in
+            ap₂ (λ a b. bitOr a (bitAnd b (getD resolved x 0))) (k .masks .stored-are s ls) unmapped-is
+            ∙ ap (λ y. bitOr (pageMask isStored (unpack t .files f s .map)) (bitAnd (pageMask isUnmapped (unpack t .files f s .map)) y)) a
+            ∙ resolved-above (unpack t .sets) (unpack t .files f) s n q (k .falling .falls s n ls q .1))
+
+        pub above-decided : (resolved′ : List ℕ) (r : Bool) → (r ≡ pastFormed (unpack t) f s) × (resolved′ ≡ set resolved s (resolvedMask t f s))
+            → LinkDecided t f s resolved resolved′ r
+        above-decided resolved′ r d = record { decided = linked-by true r r (sym live-above ∙ from-parent) (d .0) refl; kept = λ o. d .1 }
+
 -- ---- all sets
-module _ (t : List ℕ) (f s : ℕ) where
-  pub linked-above : (b : Bool) → s < 8 → b ≡ aboveFormed (unpack t) f s → not b ≡ true → false ≡ all 8 (fileLinked t f)
-  unfolding fileLinked
-  linked-above b l e h = sym (all-not 8 (fileLinked t f) s l (rw (← e, not-true b h)))
+-- the files of the sets whose digits are not left have been looked at
+pub record Linking (t : List ℕ) (f lives : ℕ) (resolved : List ℕ) (left : ℕ) : Type 0 where
+  pub fits : left < 2 ^ 64
+  pub within : (j : ℕ) → j < 64 → isOne (bit left j) ≡ true → isOne (bit lives j) ≡ true
+  pub len : length resolved ≡ 8
+  pub done : (s : ℕ) → s < 8 → live (unpack t .files f s .state) ≡ true → isOne (bit left (placeOf (unpack t .sets) s)) ≡ false
+      → (fileLinked t f s ≡ true) × (getD resolved s 0 ≡ resolvedMask t f s)
 
-  pub linked-past : (b : Bool) → s < 8 → b ≡ pastFormed (unpack t) f s → not b ≡ true → false ≡ all 8 (fileLinked t f)
-  unfolding fileLinked
-  linked-past b l e h = sym (all-not 8 (fileLinked t f) s l (rw (← e, not-true b h) (and-false (aboveFormed (unpack t) f s))))
+module _ (t : List ℕ) (f : ℕ) (digits parents stored unmapped : List ℕ) (lives : ℕ) (k : Numbered t f digits parents stored unmapped lives) where
+  -- LAW: no file has been looked at
+  pub linking-start : (resolved : List ℕ) → lives < 2 ^ 64 → length resolved ≡ 8 → Linking t f lives resolved lives
+  linking-start resolved l len = record {
+    fits = l;
+    within = λ j l h. h;
+    len = len;
+    done = λ s l a b. absurd (true≢false (sym a ∙ sym (k .lives-are .live-at s l) ∙ b));
+  }
 
-  pub linked-next : (a b : Bool) → all s (fileLinked t f) ≡ true → a ≡ aboveFormed (unpack t) f s → not a ≡ false → b ≡ pastFormed (unpack t) f s → not b ≡ false
-      → all (s + 1) (fileLinked t f) ≡ true
-  unfolding fileLinked
-  linked-next a b z e h d k =
-      all-next (fileLinked t f) s z (and-both (aboveFormed (unpack t) f s) (pastFormed (unpack t) f s) (sym e ∙ not-false a h) (sym d ∙ not-false b k))
+  -- LAW: all have
+  pub linking-done : (resolved : List ℕ) (left : ℕ) → Linking t f lives resolved left → left ≡ 0 → true ≡ all 8 (fileLinked t f)
+  unfolding fileLinked dependent pastFormed
+  linking-done resolved left i e = sym (all-of 8 (fileLinked t f) (λ s l.
+      test? (live (unpack t .files f s .state))
+      (λ a. i .done s l a (ap isOne (ap (λ x. bit x (placeOf (unpack t .sets) s)) e ∙ bit-none (placeOf (unpack t .sets) s))) .0)
+      (λ a. dead s a)))
+    where
+      dead : (s : ℕ) → live (unpack t .files f s .state) ≡ false → fileLinked t f s ≡ true
+      dead s a = rw (a, own-not (unpack t .files f s .state) a)
 
-  pub linked-all : (n : ℕ) → BlankFrom t n → f < 16 → s ≡ n → all s (fileLinked t f) ≡ true → true ≡ all 8 (fileLinked t f)
-  linked-all n b lf e z = sym (blank-links t n b f lf 8 (b .most) (omega arith) (subst (λ n. all n (fileLinked t f) ≡ true) e z))
+  -- that of the lowest digit left is looked at
+  module _ (resolved : List ℕ) (left : ℕ) (i : Linking t f lives resolved left) (h : 0 < left) (p : ℕ) (z : p ≡ trailingZeros 64 left) (lp : p < 64) where
+    abbrev set-of : ℕ
+    set-of = p % 8
+
+    low : Lowest left (bitAnd left (left - 1)) p
+    low = subst (Lowest left (bitAnd left (left - 1))) (sym z) (lowest-is 64 left h (i .fits) .1)
+
+    in-lives : isOne (bit lives p) ≡ true
+    in-lives = i .within p lp (ap isOne (low .set-bit))
+
+    place-is : p ≡ placeOf (unpack t .sets) set-of
+    place-is = k .lives-are .only p lp in-lives
+
+    -- LAW: it is live
+    pub next-live : live (unpack t .files f set-of .state) ≡ true
+    next-live = sym (k .lives-are .live-at set-of (omega arith)) ∙ ap (λ x. isOne (bit lives x)) (sym place-is) ∙ in-lives
+
+    -- LAW: that of the parent has been looked at
+    pub next-above : (n : ℕ) → unpack t .sets set-of .level ≡ suc n → live (unpack t .files f (unpack t .sets set-of .parent) .state) ≡ true
+        → getD resolved (unpack t .sets set-of .parent) 0 ≡ resolvedMask t f (unpack t .sets set-of .parent)
+    next-above n e a =
+        let x : ℕ = unpack t .sets set-of .parent in
+        let d = k .falling .falls set-of n (omega arith) e in
+        let l : placeOf (unpack t .sets) x < p = omega (arith, place-is, e, d .0, d .1) in
+        i .done x (d .0) a (ap isOne (below-lowest 64 left (placeOf (unpack t .sets) x) (subst (λ y. placeOf (unpack t .sets) x < y) z l))) .1
+
+    module _ (resolved′ : List ℕ) (r : Bool) (g : LinkDecided t f set-of resolved resolved′ r) where
+      -- LAW: a rule does not hold
+      pub linking-refused : not r ≡ true → false ≡ all 8 (fileLinked t f)
+      linking-refused n = sym (all-not 8 (fileLinked t f) set-of (omega arith) (sym (g .decided) ∙ not-true r n))
+
+      -- LAW: the rules hold
+      pub linking-next : not r ≡ false → Linking t f lives resolved′ (bitAnd left (left - 1))
+      linking-next n =
+          let o = not-false r n in
+          let c = g .kept o in
+          record {
+            fits = lt-of-le-of-lt (and-le-l left (left - 1)) (i .fits);
+            within = λ j l b. same? p j
+                (λ q. absurd (true≢false (sym b ∙ ap isOne (ap (bit (bitAnd left (left - 1))) (sym q) ∙ low .clear))))
+                (λ q. i .within j l (sym (ap isOne (low .others j q)) ∙ b));
+            len = ap length c ∙ length-set resolved set-of (resolvedMask t f set-of) ∙ i .len;
+            done = λ y ly a b. same? y set-of
+                (λ q. (
+                  ap (fileLinked t f) q ∙ sym (g .decided) ∙ o,
+                  ap₂ (λ v w. getD v w 0) c q ∙ getD-set-same resolved set-of (resolvedMask t f set-of) 0 (omega (arith, i .len)) ∙ ap (resolvedMask t f) (sym q),
+                ))
+                (λ q.
+                let w = i .done y ly a (sym (ap isOne (low .others (placeOf (unpack t .sets) y) (λ m. q (omega arith)))) ∙ b) in
+                (w .0, ap (λ v. getD v y 0) c ∙ getD-set-other resolved set-of y (resolvedMask t f set-of) 0 q ∙ w .1));
+          }

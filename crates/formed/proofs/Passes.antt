@@ -3,23 +3,29 @@ use mathlib.Core.Bool.{_&&_, Bool, cond, false, not, true, true≢false}
 use mathlib.Core.List.{List}
 use mathlib.Core.Option.{Option, none, some}
 use mathlib.Core.Path.{ap, fun-ext, refl, subst, sym, _∙_, _≡_}
-use Prim.Native.Nat.{_+_, _<_, suc, zero, ℕ, _≤_}
+use Prim.Native.Nat.{_+_, _/_, _<_, suc, zero, ℕ, _≤_}
 use native.Mathlib.Omega.{arith}
+use lib.Bits.{bitOr}
 use lib.ListN.{getD, length, length-set, set}
-use lib.Seq.{getD-set-other, getD-set-same}
+use lib.Seq.{getD-set-other}
 use lib.Dec.{ltb}
 use borrow.Author.Tests.{ltb-false, ltb-true, not-false, not-true}
 use Rattle.base.specs.Count.{all, all-more, all-none}
 use Rattle.base.specs.Logic.{same?, test?}
-use Rattle.masks.specs.Pages.{pageMask}
 use Rattle.entrycheck.proofs.Through.{through-next, through-refused}
 use Rattle.entrycheck.specs.declared.Masks.{Masks}
 use Rattle.entrycheck.specs.Marking.{FileMarked, Marks, Pass, Seen, andThen, markAll, markFile, markNumber, outcome, through, through-more, through-none}
-use Rattle.formed.specs.Files.{MasksTo, fileAlone, fileLinked, numberFormed}
-use Rattle.formed.proofs.Blank.{blank-sets, blank-stored, blank-unmapped}
+use Rattle.masks.specs.Pages.{pageMask}
+use Rattle.formed.specs.Files.{LivesTo, MasksTo, fileAlone, fileLinked, numberFormed, placeDigit, placeOf}
+use Rattle.formed.proofs.AloneRules.{state-is}
+use Rattle.formed.proofs.Blank.{blank-alone, blank-dead, blank-sets, blank-stored, blank-unmapped}
+use Rattle.formed.proofs.LinkedRules.{live-used}
+use Rattle.formed.proofs.Places.{lives-next, put-value, rest-next}
 use Rattle.formed.specs.Pass.{BlankFrom, EachIs, FilePassed, NumberPassed, onlyIf, passFile, passNumber, passSets}
-use Rattle.packing.specs.Bitmap.{bitAt}
-use Rattle.rules.specs.State.{isStored, isUnmapped}
+use Rattle.packing.specs.Bitmap.{bitAt, isOne}
+use Rattle.packing.specs.Bits.{bit, bit-none}
+use Rattle.rules.specs.State.{State, isStored, isUnmapped, live}
+use Rattle.tables.specs.Layout.{headWord, stateOf}
 use Rattle.tables.specs.Packed.{unpack}
 
 -- ---- a pass that needs a test passed besides
@@ -42,65 +48,77 @@ module _ (b : Bool) (pass : Pass) (l l′ : List ℕ) (ok : Bool) (m : Marks pas
   }
 
 -- ---- one file
-module _ (limit : ℕ) (t : List ℕ) (f s : ℕ) (seen seen′ : List ℕ) (m : Masks) (k : FileMarked limit t f s seen seen′ m)
-    (stored stored′ unmapped unmapped′ : List ℕ) where
+module _ (limit : ℕ) (t : List ℕ) (f s digit : ℕ) (seen seen′ : List ℕ) (m : Masks) (k : FileMarked limit t f s seen seen′ m)
+    (stored stored′ unmapped unmapped′ : List ℕ) (lives lives′ : ℕ) where
   -- LAW: an entry does not pass
-  pub file-refused : not (m .ok) ≡ true → FilePassed limit t f s seen seen′ stored stored′ unmapped unmapped′ false
+  pub file-refused : not (m .ok) ≡ true → FilePassed limit t f s digit seen seen′ stored stored′ unmapped unmapped′ lives lives′ false
   unfolding passFile
   file-refused h = record {
     marked = only-refused (fileAlone t f s) (markFile limit t f s) seen seen′ (m .ok) (k .marked) h;
+    alone = λ q. absurd (true≢false (sym q));
     stored-is = λ q. absurd (true≢false (sym q));
     unmapped-is = λ q. absurd (true≢false (sym q));
+    lives-are = λ q. absurd (true≢false (sym q));
   }
 
   -- LAW: the entries pass, and the rules decide
   pub file-decided : (r : Bool) → not (m .ok) ≡ false → r ≡ fileAlone t f s → stored′ ≡ set stored s (m .stored) → unmapped′ ≡ set unmapped s (m .unmapped)
-      → FilePassed limit t f s seen seen′ stored stored′ unmapped unmapped′ r
+      → lives′ ≡ bitOr lives (cond (live (unpack t .files f s .state)) digit 0) → FilePassed limit t f s digit seen seen′ stored stored′ unmapped unmapped′ lives lives′ r
   unfolding passFile
-  file-decided r h e a b = record {
+  file-decided r h e a b c = record {
     marked = only-decided (fileAlone t f s) (markFile limit t f s) seen seen′ (m .ok) (k .marked) r h e;
+    alone = λ q. sym e ∙ q;
     stored-is = λ q. a ∙ ap (set stored s) (k .stored-is (not-false (m .ok) h));
     unmapped-is = λ q. b ∙ ap (set unmapped s) (k .unmapped-is (not-false (m .ok) h));
+    lives-are = λ q. c;
   }
 
--- ---- the files of a number
--- the masks of one set more
-put-mask : (l : List ℕ) (s v : ℕ) (g : ℕ → ℕ) → length l ≡ 8 → s < 8 → ((x : ℕ) → x < s → getD l x 0 ≡ g x) → v ≡ g s
-    → (x : ℕ) → x < s + 1 → getD (set l s v) x 0 ≡ g x
-put-mask l s v g len ls h e x lx =
-    same? x s
-    (λ q. ap (λ y. getD (set l s v) y 0) q ∙ getD-set-same l s v 0 (omega arith) ∙ e ∙ sym (ap g q))
-    (λ q. getD-set-other l s x v 0 q ∙ h x (omega arith))
+-- LAW: by the word w of the head and the mask u of the unmapped pages; x is the digit, if the file is live
+pub lives-by-head : (t : List ℕ) (f s digit lives w u x : ℕ) → f < 16 → s < 8 → w ≡ headWord t f s → u ≡ pageMask isUnmapped (unpack t .files f s .map)
+    → x ≡ cond (live (stateOf (w / 1073741824))) digit 0 → bitOr lives x ≡ bitOr lives (cond (live (unpack t .files f s .state)) digit 0)
+lives-by-head t f s digit lives w u x lf ls e d h = ap (bitOr lives) (h ∙ ap (λ (l : State). cond (live l) digit 0) (state-is t f s w u lf ls e d))
 
+-- ---- the files of a number
 -- the files of the sets before set s have passed
-pub record SetsPassed (limit : ℕ) (t : List ℕ) (f : ℕ) (seen₀ seen stored unmapped : List ℕ) (s : ℕ) : Type 0 where
+pub record SetsPassed (limit : ℕ) (t : List ℕ) (f : ℕ) (seen₀ seen stored unmapped : List ℕ) (lives s : ℕ) : Type 0 where
   pub passed : passSets limit t f s (bitAt seen₀ 0) ≡ some (bitAt seen 0)
   pub len : length seen ≡ 512
   pub masks : MasksTo (unpack t .files f) s stored unmapped
   -- the masks of the other sets are as they were
   pub rest-stored : (x : ℕ) → s ≤ x → x < 8 → getD stored x 0 ≡ 0
   pub rest-unmapped : (x : ℕ) → s ≤ x → x < 8 → getD unmapped x 0 ≡ 18446744073709551615
+  pub alone : (x : ℕ) → x < s → fileAlone t f x ≡ true
+  pub lives-are : LivesTo (unpack t .sets) (unpack t .files f) s lives
+  pub rest-lives : (x : ℕ) → s ≤ x → x < 8 → isOne (bit lives (placeOf (unpack t .sets) x)) ≡ false
 
 module _ (limit : ℕ) (t : List ℕ) (f : ℕ) (seen₀ : List ℕ) where
-  pub sets-start : (stored unmapped : List ℕ) → length seen₀ ≡ 512 → EachIs stored 0 → EachIs unmapped 18446744073709551615 → SetsPassed limit t f seen₀ seen₀ stored unmapped 0
+  pub sets-start : (stored unmapped : List ℕ) → length seen₀ ≡ 512 → EachIs stored 0 → EachIs unmapped 18446744073709551615 → (lives : ℕ) → lives ≡ 0 → SetsPassed limit t f seen₀ seen₀ stored unmapped lives 0
   unfolding passSets
-  sets-start stored unmapped len a b = record {
+  sets-start stored unmapped len a b lives e = record {
     passed = through-none (λ s. passFile limit t f s) (bitAt seen₀ 0);
     len = len;
     masks = record { stored-len = a .0; unmapped-len = b .0; stored-are = λ s l. absurd (omega arith); unmapped-are = λ s l. absurd (omega arith) };
     rest-stored = λ x l m. a .1 x m;
     rest-unmapped = λ x l m. b .1 x m;
+    alone = λ x l. absurd (omega arith);
+    lives-are = record { live-at = λ x l. absurd (omega arith); only = λ j l h. absurd (true≢false (sym h ∙ none j)) };
+    rest-lives = λ x l m. none (placeOf (unpack t .sets) x);
   }
+    where
+      none : (j : ℕ) → isOne (bit lives j) ≡ false
+      none j = ap isOne (ap (λ x. bit x j) e ∙ bit-none j)
 
-  module _ (seen stored unmapped : List ℕ) (s : ℕ) (k : SetsPassed limit t f seen₀ seen stored unmapped s) (ls : s < 8)
-      (seen′ stored′ unmapped′ : List ℕ) (ok : Bool) (x : FilePassed limit t f s seen seen′ stored stored′ unmapped unmapped′ ok) where
+  module _ (seen stored unmapped : List ℕ) (lives s : ℕ) (k : SetsPassed limit t f seen₀ seen stored unmapped lives s) (ls : s < 8) (digit : ℕ)
+      (seen′ stored′ unmapped′ : List ℕ) (lives′ : ℕ) (ok : Bool) (x : FilePassed limit t f s digit seen seen′ stored stored′ unmapped unmapped′ lives lives′ ok) where
     -- LAW: a file that passes
-    pub sets-next : not ok ≡ false → SetsPassed limit t f seen₀ seen′ stored′ unmapped′ (s + 1)
+    pub sets-next : digit ≡ placeDigit (unpack t .sets s) s → not ok ≡ false → SetsPassed limit t f seen₀ seen′ stored′ unmapped′ lives′ (s + 1)
     unfolding passSets
-    sets-next h =
+    sets-next d h =
         let o = not-false ok h in
         let a = x .stored-is o in
         let b = x .unmapped-is o in
+        let c = x .lives-are o in
+        let used = live-used t f s (x .alone o) in
         record {
           passed = through-next (λ s. passFile limit t f s) (bitAt seen₀ 0) s seen seen′ ok (k .passed) (x .marked) o;
           len = x .marked .len;
@@ -108,27 +126,32 @@ module _ (limit : ℕ) (t : List ℕ) (f : ℕ) (seen₀ : List ℕ) where
             stored-len = ap length a ∙ length-set stored s _ ∙ k .masks .stored-len;
             unmapped-len = ap length b ∙ length-set unmapped s _ ∙ k .masks .unmapped-len;
             stored-are = λ y l. ap (λ z. getD z y 0) a
-                ∙ put-mask stored s (pageMask isStored (unpack t .files f s .map)) (λ z. pageMask isStored (unpack t .files f z .map)) (k .masks .stored-len) ls (k .masks .stored-are) refl y l;
+                ∙ put-value stored s (pageMask isStored (unpack t .files f s .map)) (λ z. pageMask isStored (unpack t .files f z .map)) (k .masks .stored-len) ls (k .masks .stored-are) refl y l;
             unmapped-are = λ y l. ap (λ z. getD z y 0) b
-                ∙ put-mask unmapped s (pageMask isUnmapped (unpack t .files f s .map)) (λ z. pageMask isUnmapped (unpack t .files f z .map)) (k .masks .unmapped-len) ls (k .masks .unmapped-are) refl y l;
+                ∙ put-value unmapped s (pageMask isUnmapped (unpack t .files f s .map)) (λ z. pageMask isUnmapped (unpack t .files f z .map)) (k .masks .unmapped-len) ls (k .masks .unmapped-are) refl y l;
           };
           rest-stored = λ y l m. ap (λ z. getD z y 0) a ∙ getD-set-other stored s y _ 0 (λ q. omega arith) ∙ k .rest-stored y (omega arith) m;
           rest-unmapped = λ y l m. ap (λ z. getD z y 0) b ∙ getD-set-other unmapped s y _ 0 (λ q. omega arith) ∙ k .rest-unmapped y (omega arith) m;
+          alone = λ y l. same? y s (λ q. ap (fileAlone t f) q ∙ x .alone o) (λ q. k .alone y (omega arith));
+          lives-are = subst (LivesTo (unpack t .sets) (unpack t .files f) (s + 1)) (sym c) (lives-next (unpack t .sets) (unpack t .files f) s lives digit ls d used (k .rest-lives) (k .lives-are));
+          rest-lives = λ y l m. ap (λ z. isOne (bit z (placeOf (unpack t .sets) y))) c ∙ rest-next (unpack t .sets) (unpack t .files f) s lives digit ls d used (k .rest-lives) y l m;
         }
 
     -- LAW: a file that does not
-    pub sets-refused : not ok ≡ true → NumberPassed limit t f seen₀ seen′ stored′ unmapped′ false
+    pub sets-refused : not ok ≡ true → NumberPassed limit t f seen₀ seen′ stored′ unmapped′ lives′ false
     unfolding passSets
     sets-refused h = record {
       marked = record {
         marks = through-refused (λ s. passFile limit t f s) (bitAt seen₀ 0) s seen seen′ ok (k .passed) (x .marked) 8 ls (not-true ok h);
         len = x .marked .len;
       };
+      alone = λ q. absurd (true≢false (sym q));
       masks = λ q. absurd (true≢false (sym q));
+      lives-are = λ q. absurd (true≢false (sym q));
     }
 
   -- LAW: the sets before set n, and the others are blank
-  module _ (n : ℕ) (b : BlankFrom t n) (lf : f < 16) (seen stored unmapped : List ℕ) (k : SetsPassed limit t f seen₀ seen stored unmapped n) where
+  module _ (n : ℕ) (b : BlankFrom t n) (lf : f < 16) (seen stored unmapped : List ℕ) (lives : ℕ) (k : SetsPassed limit t f seen₀ seen stored unmapped lives n) where
     all-masks : MasksTo (unpack t .files f) 8 stored unmapped
     all-masks = record {
       stored-len = k .masks .stored-len;
@@ -141,16 +164,27 @@ module _ (limit : ℕ) (t : List ℕ) (f : ℕ) (seen₀ : List ℕ) where
           (λ e. let m = ltb-false x n e in k .rest-unmapped x m l ∙ sym (blank-unmapped t n b f x lf m l));
     }
 
-    all-passed : NumberPassed limit t f seen₀ seen stored unmapped true
-    all-passed = record {
-      marked = record { marks = blank-sets t n b f lf limit 8 (bitAt seen₀ 0) (b .most) (omega arith) ∙ k .passed; len = k .len };
-      masks = λ h. all-masks;
+    all-lives : LivesTo (unpack t .sets) (unpack t .files f) 8 lives
+    all-lives = record {
+      live-at = λ x l. test? (ltb x n)
+          (λ e. k .lives-are .live-at x (ltb-true x n e))
+          (λ e. let m = ltb-false x n e in k .rest-lives x m l ∙ sym (blank-dead t n b f x lf m l));
+      only = k .lives-are .only;
     }
 
-  pub sets-done : (n s : ℕ) (seen stored unmapped : List ℕ) → BlankFrom t n → f < 16 → SetsPassed limit t f seen₀ seen stored unmapped s → s ≡ n → NumberPassed limit t f seen₀ seen stored unmapped true
-  sets-done n s seen stored unmapped b lf k e = all-passed n b lf seen stored unmapped (subst (λ x. SetsPassed limit t f seen₀ seen stored unmapped x) e k)
+    all-passed : NumberPassed limit t f seen₀ seen stored unmapped lives true
+    all-passed = record {
+      marked = record { marks = blank-sets t n b f lf limit 8 (bitAt seen₀ 0) (b .most) (omega arith) ∙ k .passed; len = k .len };
+      alone = λ h x l. test? (ltb x n) (λ e. k .alone x (ltb-true x n e)) (λ e. blank-alone t n b f x lf (ltb-false x n e) l);
+      masks = λ h. all-masks;
+      lives-are = λ h. all-lives;
+    }
 
-module _ (limit : ℕ) (t : List ℕ) (f : ℕ) (seen seen′ stored unmapped : List ℕ) (ok : Bool) (k : NumberPassed limit t f seen seen′ stored unmapped ok) where
+  pub sets-done : (n s : ℕ) (seen stored unmapped : List ℕ) (lives : ℕ) → BlankFrom t n → f < 16 → SetsPassed limit t f seen₀ seen stored unmapped lives s → s ≡ n
+      → NumberPassed limit t f seen₀ seen stored unmapped lives true
+  sets-done n s seen stored unmapped lives b lf k e = all-passed n b lf seen stored unmapped lives (subst (λ x. SetsPassed limit t f seen₀ seen stored unmapped lives x) e k)
+
+module _ (limit : ℕ) (t : List ℕ) (f : ℕ) (seen seen′ stored unmapped : List ℕ) (lives : ℕ) (ok : Bool) (k : NumberPassed limit t f seen seen′ stored unmapped lives ok) where
   -- LAW: a file of the number does not pass
   pub number-refused : not ok ≡ true → Marks (passNumber limit t f) seen seen′ false
   unfolding passNumber

@@ -9,7 +9,7 @@ use lib.Dec.{eqb}
 use lib.ListN.{length}
 use borrow.Author.Tests.{eq-eqb, eqb-true, ne-eqb, not-false, not-true}
 use Rattle.base.specs.Count.{all, all-at, all-of}
-use Rattle.base.specs.Logic.{and-both, and-false, and-left, and-right}
+use Rattle.base.specs.Logic.{and-both, and-false, and-left, and-right, same?}
 use Rattle.entrycheck.proofs.EntriesFormed.{entries-formed}
 use Rattle.entrycheck.proofs.Through.{through-next, through-refused}
 use Rattle.entrycheck.specs.Marking.{Marks, Seen, entriesFormed, formedBy, markAll, noneSeen, sameBits, through, through-none}
@@ -169,7 +169,10 @@ module _ (t : List ℕ) (limit : ℕ) (el : limit ≡ unpack t .blocks) (most : 
 
 -- ---- the tree of sets
 falling : (sets : ℕ → SetRecord) → SetsOk sets → Falling sets
-falling sets ok s n l e = (used-below sets ok (sets s .parent) (ok .tree .above s n e), ok .tree .lower s n e)
+falling sets ok = record {
+  falls = λ s n l e. (used-below sets ok (sets s .parent) (ok .tree .above s n e), ok .tree .lower s n e);
+  one-root = λ s l u e. same? s 0 (λ q. q) (λ q. absurd (omega (arith, e, ok .deep s u q)));
+}
 
 -- LAW: where the set records pass
 pub sets-falling : (t : List ℕ) (s : Bool) → s ≡ setRecordsFormed t → not s ≡ false → Falling (unpack t .sets)

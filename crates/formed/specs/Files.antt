@@ -1,14 +1,17 @@
 -- The rules of well formed tables that concern file records, file by file. Document 01, "Packed tables".
-use mathlib.Core.Bool.{_&&_, Bool, not, _||_}
+use mathlib.Core.Bool.{_&&_, Bool, cond, not, true, _||_}
 use mathlib.Core.List.{List}
 use mathlib.Core.Path.{_≡_}
-use Prim.Native.Nat.{_/_, _<_, suc, ℕ}
+use Prim.Native.Nat.{_%_, _*_, _+_, _/_, _<_, _^_, suc, ℕ}
 use lib.Dec.{eqb, leb}
-use lib.ListN.{getD, length}
+use lib.ListN.{getD, length, set}
 use Rattle.base.specs.Count.{all}
 use Rattle.masks.specs.Pages.{pageMask}
+use Rattle.packing.specs.Bitmap.{isOne}
+use Rattle.packing.specs.Bits.{bit}
 use Rattle.packing.specs.Fields.{getField}
-use Rattle.rules.specs.State.{File, Files, SetRecord, State, isAbsent, isMarked, isStored, isUnmapped, isVirgin, largestSize, setCount}
+use Rattle.rules.specs.Reading.{resolve}
+use Rattle.rules.specs.State.{File, Files, SetRecord, State, isAbsent, isMarked, isStored, isUnmapped, isVirgin, largestSize, live, setCount, treeOf}
 use Rattle.rules.specs.WellFormed.{aboveFormed, pastFormed, rootFileFormed, sizeFormed, virginFormed, zeroFile}
 use Rattle.tables.specs.Layout.{headWidths, headWord, readSize, stateOf}
 use Rattle.tables.specs.Packed.{unpack}
@@ -51,6 +54,46 @@ pub record MasksTo (files : Files ℕ) (n : ℕ) (stored unmapped : List ℕ) : 
   pub stored-are : (s : ℕ) → s < n → getD stored s 0 ≡ pageMask isStored (files s .map)
   pub unmapped-are : (s : ℕ) → s < n → getD unmapped s 0 ≡ pageMask isUnmapped (files s .map)
 
--- levels fall by one from a set to its parent, down to 0
-abbrev pub Falling : (ℕ → SetRecord) → Type 0
-Falling sets = (s n : ℕ) → s < setCount → sets s .level ≡ suc n → (sets s .parent < setCount) × (sets (sets s .parent) .level ≡ n)
+-- levels fall by one from a set to its parent, down to 0, which of the used sets only set 0 has
+pub record Falling (sets : ℕ → SetRecord) : Type 0 where
+  pub falls : (s n : ℕ) → s < setCount → sets s .level ≡ suc n → (sets s .parent < setCount) × (sets (sets s .parent) .level ≡ n)
+  pub one-root : (s : ℕ) → s < setCount → sets s .used ≡ true → sets s .level ≡ 0 → s ≡ 0
+
+-- the place of set s in the order of levels, and of numbers within a level: a parent goes before its children
+abbrev pub placeOf : (ℕ → SetRecord) → ℕ → ℕ
+placeOf sets s = sets s .level * setCount + s
+
+-- the binary digit at that place, of a used set s with record r; 0 of an unused one
+unfoldable pub placeDigit : SetRecord → ℕ → ℕ
+placeDigit r s = cond (r .used) (2 ^ (r .level * setCount + s)) 0
+
+-- the digits of the sets
+abbrev pub DigitsAre : (ℕ → SetRecord) → List ℕ → Type 0
+DigitsAre sets digits = (s : ℕ) → s < setCount → getD digits s 0 ≡ placeDigit (sets s) s
+
+-- and the parents of the used ones
+pub record Places (sets : ℕ → SetRecord) (digits parents : List ℕ) : Type 0 where
+  pub digits-are : DigitsAre sets digits
+  pub parents-are : (s : ℕ) → s < setCount → sets s .used ≡ true → getD parents s 0 ≡ sets s .parent
+
+-- of the first n sets those with an own or virgin file, each by its digit
+pub record LivesTo (sets : ℕ → SetRecord) (files : Files ℕ) (n lives : ℕ) : Type 0 where
+  pub live-at : (s : ℕ) → s < n → isOne (bit lives (placeOf sets s)) ≡ live (files s .state)
+  pub only : (k : ℕ) → k < 64 → isOne (bit lives k) ≡ true → k ≡ placeOf sets (k % setCount)
+
+-- what the rules on file f of several sets are decided by
+pub record Numbered (t : List ℕ) (f : ℕ) (digits parents stored unmapped : List ℕ) (lives : ℕ) : Type 0 where
+  pub falling : Falling (unpack t .sets)
+  pub places : Places (unpack t .sets) digits parents
+  pub masks : MasksTo (unpack t .files f) setCount stored unmapped
+  pub lives-are : LivesTo (unpack t .sets) (unpack t .files f) setCount lives
+  pub alone : (s : ℕ) → s < setCount → fileAlone t f s ≡ true
+
+-- the pages of file f that resolve to stored in set s
+abbrev pub resolvedMask : List ℕ → ℕ → ℕ → ℕ
+resolvedMask t f s = pageMask isStored (resolve (treeOf (unpack t .sets)) (unpack t .files f) s)
+
+-- file f of set s has been looked at: whether the rules hold, and the pages that resolve to stored are kept
+pub record LinkDecided (t : List ℕ) (f s : ℕ) (resolved resolved′ : List ℕ) (ok : Bool) : Type 0 where
+  pub decided : ok ≡ fileLinked t f s
+  pub kept : ok ≡ true → resolved′ ≡ set resolved s (resolvedMask t f s)

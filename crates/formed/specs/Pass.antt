@@ -4,12 +4,13 @@ use mathlib.Core.List.{List}
 use mathlib.Core.Option.{none}
 use mathlib.Core.Path.{_≡_}
 use Prim.Native.Nat.{_+_, _<_, ℕ, _≤_}
+use lib.Bits.{bitOr}
 use lib.ListN.{getD, length, set}
 use Rattle.base.specs.Count.{all}
-use Rattle.masks.specs.Pages.{pageMask}
 use Rattle.entrycheck.specs.Marking.{Marks, Pass, markFile, through}
-use Rattle.formed.specs.Files.{MasksTo, fileAlone, fileLinked}
-use Rattle.rules.specs.State.{SetRecord, fileCount, isStored, isUnmapped, setCount}
+use Rattle.masks.specs.Pages.{pageMask}
+use Rattle.formed.specs.Files.{LivesTo, MasksTo, fileAlone, fileLinked}
+use Rattle.rules.specs.State.{SetRecord, fileCount, isStored, isUnmapped, live, setCount}
 use Rattle.tables.specs.Layout.{fileAt}
 use Rattle.tables.specs.Packed.{unpack}
 
@@ -43,13 +44,17 @@ pub record BlankFrom (t : List ℕ) (n : ℕ) : Type 0 where
 abbrev pub EachIs : List ℕ → ℕ → Type 0
 EachIs l v = (length l ≡ setCount) × ((s : ℕ) → s < setCount → getD l s 0 ≡ v)
 
--- file f of set s has been looked at: what is seen, and its masks are kept
-pub record FilePassed (limit : ℕ) (t : List ℕ) (f s : ℕ) (seen seen′ stored stored′ unmapped unmapped′ : List ℕ) (ok : Bool) : Type 0 where
+-- file f of set s, which has the digit given, has been looked at: what is seen; and where it passes, its masks are kept, and whether it is own or virgin
+pub record FilePassed (limit : ℕ) (t : List ℕ) (f s digit : ℕ) (seen seen′ stored stored′ unmapped unmapped′ : List ℕ) (lives lives′ : ℕ) (ok : Bool) : Type 0 where
   pub marked : Marks (passFile limit t f s) seen seen′ ok
+  pub alone : ok ≡ true → fileAlone t f s ≡ true
   pub stored-is : ok ≡ true → stored′ ≡ set stored s (pageMask isStored (unpack t .files f s .map))
   pub unmapped-is : ok ≡ true → unmapped′ ≡ set unmapped s (pageMask isUnmapped (unpack t .files f s .map))
+  pub lives-are : ok ≡ true → lives′ ≡ bitOr lives (cond (live (unpack t .files f s .state)) digit 0)
 
 -- the files of number f have been looked at
-pub record NumberPassed (limit : ℕ) (t : List ℕ) (f : ℕ) (seen seen′ stored unmapped : List ℕ) (ok : Bool) : Type 0 where
+pub record NumberPassed (limit : ℕ) (t : List ℕ) (f : ℕ) (seen seen′ stored unmapped : List ℕ) (lives : ℕ) (ok : Bool) : Type 0 where
   pub marked : Marks (passSets limit t f setCount) seen seen′ ok
+  pub alone : ok ≡ true → (s : ℕ) → s < setCount → fileAlone t f s ≡ true
   pub masks : ok ≡ true → MasksTo (unpack t .files f) setCount stored unmapped
+  pub lives-are : ok ≡ true → LivesTo (unpack t .sets) (unpack t .files f) setCount lives

@@ -3,14 +3,8 @@ ghost use mathlib.Core.Path.{_≡_};
 ghost use mathlib.Core.Bool.{_&&_, not};
 ghost use Prim.Native.Nat.{_<_};
 ghost use lib.Dec.{eqb};
-ghost use lib.ListN.{length};
-ghost use Rattle.rules.specs.State.{isUnmapped};
-ghost use Rattle.tables.specs.Layout.{stateOf, tableBytes};
-ghost use Rattle.tables.specs.Packed.{unpack};
-ghost use Rattle.masks.specs.Pages.{pageMask};
-ghost use Rattle.formed.specs.Files.{fileAlone, headFormed, stateFormed};
-use packing::words;
-use tables::sets::set_at;
+ghost use Rattle.tables.specs.Layout.{stateOf};
+ghost use Rattle.formed.specs.Files.{headFormed, stateFormed};
 
 // Size 0 and only unmapped entries.
 fn zero_file(n: u32, u: u64) -> bool
@@ -63,15 +57,12 @@ fn head_formed(w: u32, u: u64, used: bool, root: bool) -> bool
     state_formed(k, n, u, root)
 }
 
-// File f of set s, with the mask u of its unmapped pages. A head that is 0 is that of an absent file.
-pub fn file_alone(t: &[u8], f: usize, s: usize, u: u64) -> bool
-    requires { ⌜ (length (now t) ≡ tableBytes) × (f < 16) × (s < 8) × (u ≡ pageMask isUnmapped (unpack (now t) .files f s .map)) ⌝ }
-    ensures { λ r. ⌜ r ≡ fileAlone (now (t .entry)) f s ⌝ }
+// The same. A head that is 0 is that of an absent file.
+pub fn file_alone(w: u32, u: u64, used: bool, root: bool) -> bool
+    ensures { λ r. ⌜ r ≡ headFormed w u used root ⌝ }
 {
-    let w = words::read32(t, 540 + (s * 16 + f) * 132);
     if w == 0 {
         return u == 0xFFFF_FFFF_FFFF_FFFF;
     }
-    let r = set_at(t, s);
-    head_formed(w, u, r.used, s == 0)
+    head_formed(w, u, used, root)
 }

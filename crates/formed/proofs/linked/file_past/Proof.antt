@@ -16,14 +16,10 @@ returns-2 c =
 
 returns-3 : tie.Need-returns-3
 returns-3 c =
-    let n = c .before .before in
+    let n = c .before in
     let i = n .before in
     let l = i .before .before in
-    past-mask _ _ _ _ (l .state-at .ensures) _ (i .before .is-own .ensures) (i .if1 .left) _ (n .size-at .ensures .0) _ (omega arith) _ (c .before .if2 .left)
-    (c .resolved-mask .ensures _ (l .before .before .pre .4))
+    past-mask _ _ _ _ (l .state-at .ensures) _ (i .before .is-own .ensures) (i .if1 .left) _ (n .size-at .ensures .0) _ (omega arith) _ (c .if2 .left) (l .before .before .pre .3)
 
 pub file-past-spec : {M : Type 1} → statement M
-file-past-spec =
-    tie.close
-    (tie.spec
-    (λ c κs. search needs) (λ c κs. search needs) returns (λ c κs. search needs) (λ c. search needs) returns-2 (λ c κs. search needs) (λ c. search needs) returns-3)
+file-past-spec = tie.close (tie.spec (λ c κs. search needs) (λ c κs. search needs) returns (λ c κs. search needs) (λ c. search needs) returns-2 (λ c. search needs) returns-3)

@@ -1,55 +1,55 @@
--- `formed::linked::files_linked` meets its contract. The loop's invariant: the files of the sets before set s pass. Assumes nothing.
-use mathlib.Core.Bool.{true}
-use mathlib.Core.Path.{_≡_}
-use Prim.Native.Nat.{_-_, _≤_}
+-- `formed::linked::files_linked` meets its contract. The loop's invariant: the files of the sets whose digits are not left have been looked at. Assumes nothing.
+use Prim.Native.Nat.{_-_}
+use native.Mathlib.Nat.{lt-of-le-of-lt}
 use native.Mathlib.Omega.{arith}
-use Rattle.base.specs.Count.{all, all-none}
-use Rattle.formed.proofs.LinkedRules.{linked-above, linked-all, linked-next, linked-past}
-use Rattle.formed.specs.Files.{fileLinked}
+use lib.Bits.{and-le-r}
+use Rattle.formed.proofs.LinkedRules.{Linking, linking-done, linking-next, linking-refused, linking-start, next-above, next-live}
 use Rattle.formed.proofs.linked.files_linked.Statement.{statement}
 use Rattle.formed.proofs.linked.files_linked.Tie as tie
 
 abbrev Inv-loop : tie.InvT-loop
-Inv-loop t stored unmapped f n s₀ s = (s ≤ n) × (all s (fileLinked t f) ≡ true)
+Inv-loop t digits parents stored unmapped lives f resolved₀ left₀ resolved left = Linking t f lives resolved left
 
 abbrev μ-loop : tie.MeasureT-loop
-μ-loop t stored unmapped f n s₀ s = n - s
+μ-loop t digits parents stored unmapped lives f resolved₀ left₀ resolved left = left
 
 loop-holds : tie.Need-loop-holds Inv-loop μ-loop
-loop-holds c = (omega arith, all-none _)
+loop-holds c = linking-start _ _ _ _ _ _ _ (c .before .before .pre .2) _ (omega arith) (c .masks-of .ensures .0)
 
-file-above-requires : tie.Need-file-above-requires Inv-loop μ-loop
-file-above-requires c κs =
-    let i = c .before in
-    let p = i .before .before .before .pre in
-    (p .0, p .2, omega arith, p .3 .unmapped-are _ (omega arith))
+link-file-requires : tie.Need-link-file-requires Inv-loop μ-loop
+link-file-requires c κs =
+    let z = c .before .lowest in
+    let l = c .before .before .before in
+    let p = l .before .before .before .pre in (
+      p .0,
+      p .1,
+      omega arith,
+      p .2,
+      next-live _ _ _ _ _ _ _ (p .2) _ (l .loop .left) (l .loop .inv) (omega arith) (z .result) (z .ensures .0) (z .ensures .1),
+      next-above _ _ _ _ _ _ _ (p .2) _ (l .loop .left) (l .loop .inv) (omega arith) (z .result) (z .ensures .0) (z .ensures .1),
+    )
 
 returns : tie.Need-returns Inv-loop μ-loop
-returns c = linked-above _ _ _ _ (omega arith) (c .before .file-above .ensures) (c .if1 .taken)
+returns c =
+    let g = c .before .link-file in
+    let z = c .before .before .before .lowest in
+    let l = c .before .before .before .before .before in
+    let p = l .before .before .before .pre in
+    linking-refused _ _ _ _ _ _ _ (p .2) _ (l .loop .left) (l .loop .inv) (omega arith) (z .result) (z .ensures .0) (z .ensures .1) _ _ (g .ensures) (c .if1 .taken)
 
-file-past-requires : tie.Need-file-past-requires Inv-loop μ-loop
-file-past-requires c κs =
-    let i = c .before .before .before in
-    let p = i .before .before .before .pre in
-    (p .0, p .1, p .2, omega arith, p .3)
-
-returns-2 : tie.Need-returns-2 Inv-loop μ-loop
-returns-2 c = linked-past _ _ _ _ (omega arith) (c .before .file-past .ensures) (c .if2 .taken)
+loop-less : tie.Need-loop-less Inv-loop μ-loop
+loop-less c = let l = c .before .before .before .before .before .loop in lt-of-le-of-lt (and-le-r (l .left) (l .left - 1)) (omega arith)
 
 loop-again : tie.Need-loop-again Inv-loop μ-loop
 loop-again c =
-    let b = c .before in
-    let i = b .before in
-    let a = i .before in
-    let l = a .before .before .before in
-    (omega arith, linked-next _ _ _ _ _ (l .loop .inv .1) (a .file-above .ensures) (i .if1 .left) (b .file-past .ensures) (c .if2 .left))
+    let g = c .before .link-file in
+    let z = c .before .before .before .lowest in
+    let l = c .before .before .before .before .before in
+    let p = l .before .before .before .pre in
+    linking-next _ _ _ _ _ _ _ (p .2) _ (l .loop .left) (l .loop .inv) (omega arith) (z .result) (z .ensures .0) (z .ensures .1) _ _ (g .ensures) (c .if1 .left)
 
-returns-3 : tie.Need-returns-3 Inv-loop μ-loop
-returns-3 c = let p = c .before .before .before .pre in linked-all _ _ _ _ (p .4) (p .2) (omega arith) (c .before .loop .inv .1)
+returns-2 : tie.Need-returns-2 Inv-loop μ-loop
+returns-2 c = let l = c .before in linking-done _ _ _ _ _ _ _ (l .before .before .before .pre .2) _ (l .loop .left) (l .loop .inv) (omega arith)
 
 pub files-linked-spec : {M : Type 1} → statement M
-files-linked-spec =
-    tie.close
-    (tie.spec
-    Inv-loop μ-loop loop-holds (λ c. omega arith) (λ c. omega arith) file-above-requires returns file-past-requires returns-2 (λ c. omega arith) (λ c. omega arith)
-    loop-again returns-3)
+files-linked-spec = tie.close (tie.spec Inv-loop μ-loop (λ c κs. tt) loop-holds (λ c κs. omega arith) link-file-requires returns (λ c. omega arith) loop-less loop-again returns-2)

@@ -1,0 +1,15 @@
+-- `formed::passing::all_unmapped` meets its contract. Assumes nothing.
+use mathlib.Core.Bool.{true≢false}
+use mathlib.Core.Path.{sym, _∙_}
+use borrow.Author.Needs.{needs}
+use Rattle.formed.proofs.passing.all_unmapped.Statement.{statement}
+use Rattle.formed.proofs.passing.all_unmapped.Tie as tie
+
+returns : tie.Need-returns
+returns c = λ h. absurd (true≢false (sym h))
+
+returns-2 : tie.Need-returns-2
+returns-2 c = λ h. sym (c .all-zero .ensures) ∙ h
+
+pub all-unmapped-spec : {M : Type 1} → statement M
+all-unmapped-spec = tie.close (tie.spec returns (λ c κs. search needs) returns-2)
