@@ -11,7 +11,6 @@ use crate::kinds::blocks_plain;
 use crate::marks::mark_pages;
 use crate::marks::mark_rows;
 use masks::kinds::kind_masks;
-use packing::words;
 
 pub mod kinds;
 pub mod marks;
@@ -42,19 +41,12 @@ fn not_passed() -> Masks
     }
 }
 
-// The entries of file f in set s. Where all are unmapped, no single one is looked at.
+// The entries of file f in set s.
 pub fn file_entries(t: &[u8], seen: &mut [u8; 512], f: usize, s: usize, limit: usize) -> Masks
     requires { ⌜ (length (now t) ≡ tableBytes) × (length (now seen) ≡ 512) × (f < 16) × (s < 8) × (limit ≤ 4096) ⌝ }
     ensures { λ r. ⌜ FileMarked limit (now (t .entry)) f s (now (seen .entry)) (now (seen .exit)) r ⌝ }
 {
     let at = 544 + (s * 16 + f) * 132;
-    if words::all_zero(t, at, 128) {
-        return Masks {
-            ok: true,
-            stored: 0,
-            unmapped: 0xFFFF_FFFF_FFFF_FFFF,
-        };
-    }
     let k = kind_masks(t, at);
     if k.stored & k.holes != 0 {
         return not_passed();

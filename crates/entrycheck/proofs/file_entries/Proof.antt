@@ -1,69 +1,61 @@
 -- `entrycheck::file_entries` meets its contract. Assumes nothing.
-use mathlib.Core.Path.{sym, _∙_}
 use borrow.Author.Tests.{not-false, not-true}
 use borrow.Author.Needs.{needs}
-use Rattle.entrycheck.proofs.FileMarks.{reads-block, reads-rows, reads-three, reads-whole, zero-file}
+use Rattle.entrycheck.proofs.FileMarks.{reads-block, reads-rows, reads-three, reads-whole}
 use Rattle.entrycheck.proofs.file_entries.Statement.{statement}
 use Rattle.entrycheck.proofs.file_entries.Tie as tie
 
 returns : tie.Need-returns
 returns c =
-    let z = c .before .all-zero in
-    let k = c .before .before in
+    let i1 = c .before in
+    let m = i1 .before .before .kind-masks in
+    let k = i1 .before .before .before in
     let p = k .before .pre in
-    zero-file _ _ (λ i. k .shared-slice-known .given i .fits) _ _ _ (p .2) (p .3) (p .1) (sym (z .ensures) ∙ c .if1 .taken)
+    reads-three _ _ (λ i. k .shared-slice-known .given i .fits) _ _ _ (p .2) (p .3) (p .1) (m .result .stored) (m .result .holes) (m .ensures .0) (m .ensures .1)
+    (i1 .if1 .taken) _ (c .not-passed .ensures)
 
 returns-2 : tie.Need-returns-2
 returns-2 c =
     let i2 = c .before in
-    let m = i2 .before .before .kind-masks in
-    let k = i2 .before .before .before .before .before in
+    let b = i2 .before .blocks-plain in
+    let i1 = i2 .before .before in
+    let m = i1 .before .before .kind-masks in
+    let k = i1 .before .before .before in
     let p = k .before .pre in
-    reads-three _ _ (λ i. k .shared-slice-known .given i .fits) _ _ _ (p .2) (p .3) (p .1) (m .result .stored) (m .result .holes) (m .ensures .0) (m .ensures .1)
-    (i2 .if2 .taken) _ (c .not-passed .ensures)
+    reads-block _ _ (λ i. k .shared-slice-known .given i .fits) _ _ _ (p .2) (p .3) (p .1) (m .result .stored) (m .result .holes) (m .ensures .0) (m .ensures .1)
+    (i1 .if1 .left) (b .result) (b .ensures) (p .4) (not-true (b .result) (i2 .if2 .taken)) _ (c .not-passed2 .ensures)
 
 returns-3 : tie.Need-returns-3
 returns-3 c =
     let i3 = c .before in
-    let b = i3 .before .blocks-plain in
-    let i2 = i3 .before .before in
-    let m = i2 .before .before .kind-masks in
-    let k = i2 .before .before .before .before .before in
+    let r = i3 .before .before .mark-rows in
+    let i2 = i3 .before .before .before .before in
+    let b = i2 .before .blocks-plain in
+    let i1 = i2 .before .before in
+    let m = i1 .before .before .kind-masks in
+    let k = i1 .before .before .before in
     let p = k .before .pre in
-    reads-block _ _ (λ i. k .shared-slice-known .given i .fits) _ _ _ (p .2) (p .3) (p .1) (m .result .stored) (m .result .holes) (m .ensures .0) (m .ensures .1)
-    (i2 .if2 .left) (b .result) (b .ensures) (p .4) (not-true (b .result) (i3 .if3 .taken)) _ (c .not-passed2 .ensures)
+    reads-rows _ _ (λ i. k .shared-slice-known .given i .fits) _ _ _ (p .2) (p .3) (p .1) (m .result .stored) (m .result .holes) (m .ensures .0) (m .ensures .1)
+    (i1 .if1 .left) (b .result) (b .ensures) (not-false (b .result) (i2 .if2 .left)) _ (r .result) (r .ensures) (not-true (r .result .ok) (i3 .if3 .taken)) _ (c .not-passed3 .ensures)
 
 returns-4 : tie.Need-returns-4
 returns-4 c =
-    let i4 = c .before in
-    let r = i4 .before .before .mark-rows in
-    let i3 = i4 .before .before .before .before in
-    let b = i3 .before .blocks-plain in
-    let i2 = i3 .before .before in
-    let m = i2 .before .before .kind-masks in
-    let k = i2 .before .before .before .before .before in
-    let p = k .before .pre in
-    reads-rows _ _ (λ i. k .shared-slice-known .given i .fits) _ _ _ (p .2) (p .3) (p .1) (m .result .stored) (m .result .holes) (m .ensures .0) (m .ensures .1)
-    (i2 .if2 .left) (b .result) (b .ensures) (not-false (b .result) (i3 .if3 .left)) _ (r .result) (r .ensures) (not-true (r .result .ok) (i4 .if4 .taken)) _ (c .not-passed3 .ensures)
-
-returns-5 : tie.Need-returns-5
-returns-5 c =
     let g = c .before .mark-pages in
-    let i4 = c .before .before .before in
-    let r = i4 .before .before .mark-rows in
-    let i3 = i4 .before .before .before .before in
-    let b = i3 .before .blocks-plain in
-    let i2 = i3 .before .before in
-    let m = i2 .before .before .kind-masks in
-    let k = i2 .before .before .before .before .before in
+    let i3 = c .before .before .before in
+    let r = i3 .before .before .mark-rows in
+    let i2 = i3 .before .before .before .before in
+    let b = i2 .before .blocks-plain in
+    let i1 = i2 .before .before in
+    let m = i1 .before .before .kind-masks in
+    let k = i1 .before .before .before in
     let p = k .before .pre in
     reads-whole _ _ (λ i. k .shared-slice-known .given i .fits) _ _ _ (p .2) (p .3) (p .1) (m .result .stored) (m .result .holes) (m .ensures .0) (m .ensures .1)
-    (i2 .if2 .left) (b .result) (b .ensures) (not-false (b .result) (i3 .if3 .left)) _ (r .result) (r .ensures) (not-false (r .result .ok) (i4 .if4 .left)) _ (g .result) (g .ensures)
+    (i1 .if1 .left) (b .result) (b .ensures) (not-false (b .result) (i2 .if2 .left)) _ (r .result) (r .ensures) (not-false (r .result .ok) (i3 .if3 .left)) _ (g .result) (g .ensures)
 
 pub file-entries-spec : {M : Type 1} → statement M
 file-entries-spec =
     tie.close
     (tie.spec
-    (λ c. search needs) (λ c. search needs) (λ c. search needs) (λ c. search needs) (λ c κs. search needs) returns (λ c κs. search needs)
-    (λ c κs. search needs) returns-2 (λ c κs. search needs) (λ c κs. search needs) returns-3 (λ c κs. search needs) (λ c κs. search needs)
-    returns-4 (λ c κs. search needs) returns-5)
+    (λ c. search needs) (λ c. search needs) (λ c. search needs) (λ c. search needs) (λ c κs. search needs)
+    (λ c κs. search needs) returns (λ c κs. search needs) (λ c κs. search needs) returns-2 (λ c κs. search needs) (λ c κs. search needs)
+    returns-3 (λ c κs. search needs) returns-4)
