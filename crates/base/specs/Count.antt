@@ -25,6 +25,14 @@ unfolding count
 count-same zero f g h = refl
 count-same (suc n) f g h = rw (h n (omega arith), count-same n f g (λ x l. h x (omega arith)))
 
+-- fewer pass where each that passes passed before
+pub count-fewer : (n : ℕ) (f g : ℕ → Bool) → ((x : ℕ) → x < n → g x ≡ true → f x ≡ true) → count n g ≤ count n f
+unfolding count
+count-fewer zero f g h = omega arith
+count-fewer (suc n) f g h =
+    let r = count-fewer n f g (λ x l e. h x (omega arith) e) in
+    test? (g n) (λ e. rw (e, h n (omega arith) e) (omega arith)) (λ e. rw e (omega arith))
+
 pub count-le : (n : ℕ) (f : ℕ → Bool) → count n f ≤ n
 unfolding count
 count-le zero f = omega arith

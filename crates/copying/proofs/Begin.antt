@@ -39,6 +39,7 @@ module _ (t p : List ℕ) (formed : wellFormed t (length p) ≡ true) where
       left-is = el;
       room = omega (arith, count-le (unpack t .blocks) (λ b. not (unpack t .bits b)), formed-header .most);
       alive = omega (arith, count-le 8 (λ s. live (unpack t .files f s .state)));
+      tree = store .sets-ok .tree;
     };
     size = store .pages;
     file = hf;

@@ -8,7 +8,7 @@ use native.Mathlib.Nat.{mod-lt}
 use native.Mathlib.Numerals.{add-one}
 use native.Mathlib.Omega.{arith}
 use lib.ListN.{length}
-use Rattle.base.specs.Count.{count, count-less}
+use Rattle.base.specs.Count.{count, count-fewer, count-less}
 use Rattle.base.specs.Logic.{pick, same?, test?}
 use Rattle.base.specs.Search.{firstFree}
 use Rattle.base.specs.Update.{upd, upd-all, upd-keeps, upd-other, upd-same, upd-upd}
@@ -51,15 +51,8 @@ module _ (tb : Tables) (f : ℕ) (x : Files ℕ) where
     left-is = lf ∙ so .left-is;
     room = rm;
     alive = subst (λ (y : Files ℕ). k′ .marks + count 8 (λ s. live (y s .state)) ≤ 8) (sym (upd-same (tb .files) f x)) al;
+    tree = so .tree;
   }
-
--- fewer pass where each that passes passed before
-pub count-fewer : (n : ℕ) (f g : ℕ → Bool) → ((i : ℕ) → g i ≡ true → f i ≡ true) → count n g ≤ count n f
-unfolding count
-count-fewer zero f g h = omega arith
-count-fewer (suc n) f g h =
-    let r = count-fewer n f g h in
-    test? (g n) (λ e. rw (e, h n e) (omega arith)) (λ e. rw e (omega arith))
 
 -- what the new entry and every old one have, every entry has
 pub putEntry-all : (P : Entry ℕ → Type 0) (files : Files ℕ) (c p : ℕ) (e : Entry ℕ) → P e → ((s q : ℕ) → P (files s .map q)) → (s q : ℕ) → P (putEntry files c p e s .map q)
@@ -91,7 +84,7 @@ module _ (tb : Tables) (f : ℕ) {k : Counts} (so : Sound tb f k) where
       let v : File ℕ = record { state = l; size = n; map = x c .map } in
       sound-files tb f (upd x c v) so
       (λ s p b e. so .named s p b (ap (λ (m : ℕ → Entry ℕ). m p) (sym (upd-keeps (λ (y : File ℕ). y .map) x c v refl s)) ∙ e)) refl (so .room)
-      (let m = count-fewer 8 (λ s. live (x s .state)) (λ s. live (upd x c v s .state)) (λ s. upd-live x c v s h) in omega (arith, so .alive))
+      (let m = count-fewer 8 (λ s. live (x s .state)) (λ s. live (upd x c v s .state)) (λ s l. upd-live x c v s h) in omega (arith, so .alive))
 
   -- LAW: a block taken
   pub sound-took : {k′ : Counts} (b : ℕ) → b < tb .blocks → tb .bits b ≡ false → suc (k′ .left) ≡ k .left → k′ .taken + k′ .copies ≡ suc (k .taken + k .copies) → k′ .marks ≡ k .marks
@@ -104,6 +97,7 @@ module _ (tb : Tables) (f : ℕ) {k : Counts} (so : Sound tb f k) where
         (ap not (upd-same (tb .bits) b true)) (λ i n. ap not (upd-other (tb .bits) b true i n)) in omega (arith, so .left-is));
     room = omega (arith, so .room);
     alive = subst (λ m. m + count 8 (λ s. live (tb .files f s .state)) ≤ 8) (sym mk) (so .alive);
+    tree = so .tree;
   }
 
 pub rest-took : (tb : Tables) (f b : ℕ) → rest (took b tb) f ≡ rest tb f

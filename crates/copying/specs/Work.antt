@@ -1,13 +1,15 @@
 -- For the contracts of the code, not for a reader of document 01: the rules' work on the files of one number, read off tables, pages and the counts of the code; what every step of a call needs and keeps; what a step must show.
-use mathlib.Core.Bool.{not}
+use mathlib.Core.Bool.{cond, not}
 use mathlib.Core.List.{List}
 use mathlib.Core.Path.{_≡_}
 use Prim.Native.Nat.{_*_, _+_, _<_, ℕ, _≤_}
 use lib.ListN.{length}
 use Rattle.base.specs.Count.{count}
 use Rattle.base.specs.Update.{upd}
-use Rattle.rules.specs.Rules.{Work, each, give, settle}
-use Rattle.rules.specs.State.{Entry, Files, SetRecord, Tables, absentFile, live, stored, treeOf}
+use Rattle.rules.proofs.Steps.OneStep.{TreeOk}
+use Rattle.rules.specs.Reading.{needs, resolve}
+use Rattle.rules.specs.Rules.{Work, each, give, settle, supply}
+use Rattle.rules.specs.State.{Entry, Files, SetRecord, Tables, Tree, absentFile, live, stored, treeOf}
 use Rattle.rules.specs.Storage.{Memory, PageData, real}
 use Rattle.tables.specs.Calls.{pagesOf}
 use Rattle.tables.specs.Packed.{unpack}
@@ -35,13 +37,14 @@ pub record Rest : Type 0 where
 abbrev pub rest : Tables → ℕ → Rest
 rest tb f = record { blocks = tb .blocks; sets = tb .sets; others = upd (tb .files) f (λ s. absentFile) }
 
--- What a step needs of the state: header and blocks in range, the count of free blocks right, and no count that can grow too large.
+-- What a step needs of the state: header and blocks in range, the count of free blocks right, no count that can grow too large, and sets that are a tree.
 pub record Sound (tb : Tables) (f : ℕ) (k : Counts) : Type 0 where
   pub header : HeaderIn tb
   pub named : (s p b : ℕ) → tb .files f s .map p ≡ stored b → b < tb .blocks
   pub left-is : k .left ≡ count (tb .blocks) (λ b. not (tb .bits b))
   pub room : k .taken + k .copies + k .left ≤ 4096
   pub alive : k .marks + count 8 (λ s. live (tb .files f s .state)) ≤ 8
+  pub tree : TreeOk (treeOf (tb .sets))
 
 -- and of tables and pages
 pub record Ready (t p : List ℕ) (f : ℕ) (k : Counts) : Type 0 where
@@ -80,3 +83,11 @@ settleChildren sets s = each (settle real (treeOf sets)) (treeOf sets .children 
 
 abbrev pub giveChildren : (ℕ → SetRecord) → ℕ → ℕ → Work real → Work real
 giveChildren sets s q = each (give real (treeOf sets) s q) (treeOf sets .children s)
+
+-- child c's turn for page q, which resolves to e
+abbrev pub giveAs : Tree → Entry ℕ → ℕ → ℕ → Work real → Work real
+giveAs t e q c w = cond (needs (w .files) c q) (supply real t e c q w) w
+
+-- what page q of file f resolves to in set s
+abbrev pub shown : List ℕ → ℕ → ℕ → ℕ → Entry ℕ
+shown t f s q = resolve (treeOf (unpack t .sets)) (unpack t .files f) s q

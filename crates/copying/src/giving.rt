@@ -2,14 +2,16 @@
 ghost use mathlib.Core.Path.{_≡_};
 ghost use mathlib.Core.Bool.{true};
 ghost use Prim.Native.Nat.{ℕ, _+_, _<_, _≤_};
+ghost use lib.ListN.{length};
 ghost use Rattle.rules.specs.Rules as Rules;
 ghost use Rattle.rules.specs.State.{live, stored, treeOf};
 ghost use Rattle.rules.specs.Storage.{real};
 ghost use Rattle.tables.specs.Packed.{unpack};
 ghost use Rattle.tables.specs.Meaning.{entryMeant};
-ghost use Rattle.copying.specs.Work.{Ready, Step, giveChildren};
+ghost use Rattle.tables.specs.Views.{entriesOf};
+ghost use Rattle.copying.specs.Work.{Ready, Step, giveAs, giveChildren, shown};
 use crate::marking;
-use maps::reading;
+use maps::resolving;
 use tables::entries;
 use tables::entries::Block;
 use tables::entries::Entry;
@@ -88,22 +90,28 @@ fn supply(t: &mut [u8], p: &mut [u8], f: usize, c: usize, page: Page, e: Entry, 
     }
 }
 
-// Child c's turn for a page of set s.
-fn give(t: &mut [u8], p: &mut [u8], f: usize, s: usize, page: Page, c: usize, k: Counts) -> Counts
-    requires { ⌜ Ready (now t) (now p) f k × (s < 8) × (page .0 < 64) × (c < 8) ⌝ }
-    ensures { λ r. ⌜ Step (now (t .entry)) (now (p .entry)) (now (t .exit)) (now (p .exit)) f k r (Rules.give real (treeOf (unpack (now (t .entry)) .sets)) s (page .0) c) ⌝ }
+// Child c's turn for a page that resolves to e.
+fn give(t: &mut [u8], p: &mut [u8], f: usize, page: Page, e: Entry, c: usize, k: Counts) -> Counts
+    requires { ⌜ Ready (now t) (now p) f k × (page .0 < 64) × ((b : ℕ) → entryMeant e ≡ stored b → b < unpack (now t) .blocks) × (c < 8) ⌝ }
+    ensures { λ r. ⌜ Step (now (t .entry)) (now (p .entry)) (now (t .exit)) (now (p .exit)) f k r (giveAs (treeOf (unpack (now (t .entry)) .sets)) (entryMeant e) (page .0) c) ⌝ }
 {
     if !maps::marking::needs(&*t, f, c, page) {
         return k;
     }
-    let r = reading::resolve_in(&*t, f, page, s);
-    let e = r.entry;
     supply(t, p, f, c, page, e, k)
 }
 
-// Each child's turn for a page of set s, in order of making.
-fn give_children(t: &mut [u8], p: &mut [u8], f: usize, s: usize, page: Page, k: Counts) -> Counts
-    requires { ⌜ Ready (now t) (now p) f k × (s < 8) × (page .0 < 64) × (unpack (now t) .sets s .used ≡ true) ⌝ }
+// Each child's turn for a page of set s, which resolves to e, in order of making.
+fn give_children(
+    t: &mut [u8],
+    p: &mut [u8],
+    f: usize,
+    s: usize,
+    page: Page,
+    e: Entry,
+    k: Counts,
+) -> Counts
+    requires { ⌜ Ready (now t) (now p) f k × (s < 8) × (page .0 < 64) × (unpack (now t) .sets s .used ≡ true) × (entryMeant e ≡ shown (now t) f s (page .0)) ⌝ }
     ensures { λ r. ⌜ Step (now (t .entry)) (now (p .entry)) (now (t .exit)) (now (p .exit)) f k r (giveChildren (unpack (now (t .entry)) .sets) s (page .0)) ⌝ }
 {
     let mut w = k;
@@ -113,14 +121,41 @@ fn give_children(t: &mut [u8], p: &mut [u8], f: usize, s: usize, page: Page, k: 
         if 8 <= c {
             return w;
         }
-        w = give(t, p, f, s, page, c, w);
+        w = give(t, p, f, page, e, c, w);
         c = sets::next_sibling_of(&*t, c);
         n -= 1;
     }
     w
 }
 
-// Each of m pages of set s from page number `first` on, for each child.
+// Each of m pages of set s from page number `first` on, for each child; what they resolve to is kept.
+fn give_pages(
+    t: &mut [u8],
+    p: &mut [u8],
+    kept: &[u16; 64],
+    f: usize,
+    s: usize,
+    first: usize,
+    m: usize,
+    k: Counts,
+) -> Counts
+    requires { ⌜ Ready (now t) (now p) f k × (s < 8) × (first + m ≤ 64) × (unpack (now t) .sets s .used ≡ true) × (length (now kept) ≡ 64) × ((q : ℕ) → first ≤ q → q < first + m → entriesOf (now kept) q ≡ shown (now t) f s q) ⌝ }
+    ensures { λ r. ⌜ Step (now (t .entry)) (now (p .entry)) (now (t .exit)) (now (p .exit)) f k r (Rules.giveAll real (treeOf (unpack (now (t .entry)) .sets)) s (Rules.from first m)) ⌝ }
+{
+    let mut w = k;
+    let mut q = first;
+    let mut n = m;
+    while 0 < n {
+        let page = Page::new(q);
+        let e = entries::kept_entry(kept, page);
+        w = give_children(t, p, f, s, page, e, w);
+        q += 1;
+        n -= 1;
+    }
+    w
+}
+
+// The same; what the pages resolve to is found first, for all at once, since giving does not change it.
 pub fn give_all(
     t: &mut [u8],
     p: &mut [u8],
@@ -133,13 +168,10 @@ pub fn give_all(
     requires { ⌜ Ready (now t) (now p) f k × (s < 8) × (first + m ≤ 64) × (unpack (now t) .sets s .used ≡ true) ⌝ }
     ensures { λ r. ⌜ Step (now (t .entry)) (now (p .entry)) (now (t .exit)) (now (p .exit)) f k r (Rules.giveAll real (treeOf (unpack (now (t .entry)) .sets)) s (Rules.from first m)) ⌝ }
 {
-    let mut w = k;
-    let mut q = first;
-    let mut n = m;
-    while 0 < n {
-        w = give_children(t, p, f, s, Page::new(q), w);
-        q += 1;
-        n -= 1;
+    if 8 <= sets::first_child_of(&*t, s) {
+        return k;
     }
-    w
+    let mut kept = entries::all_holes();
+    resolving::resolve_range(&*t, f, s, first, m, &mut kept);
+    give_pages(t, p, &kept, f, s, first, m, k)
 }

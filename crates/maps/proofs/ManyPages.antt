@@ -10,10 +10,10 @@ use lib.Count.{trailingZeros}
 use lib.Dec.{ltb}
 use lib.ListN.{length}
 use borrow.Author.Tests.{ltb-false, ltb-true}
-use Rattle.base.specs.Count.{count, count-le}
+use Rattle.base.specs.Count.{count, count-fewer, count-le}
 use Rattle.base.specs.Logic.{and-left, and-right, same?, test?}
 use Rattle.base.specs.Update.{upd, upd-other, upd-same}
-use Rattle.masks.proofs.MaskPages.{and-pages, count-fewer, lowest-gone, lowest-others, lowest-page, no-pages, not-pages, range-count}
+use Rattle.masks.proofs.MaskPages.{and-pages, lowest-gone, lowest-others, lowest-page, no-pages, not-pages, range-count}
 use Rattle.masks.proofs.PageMasks.{mask-page}
 use Rattle.masks.specs.Pages.{IsRange, pageMask, pages}
 use Rattle.packing.specs.Bitmap.{number-lt}

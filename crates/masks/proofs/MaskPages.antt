@@ -1,5 +1,5 @@
 -- The pages of masks: of two masks, without the lowest, a range of them, and how many. Assumes nothing.
-use mathlib.Core.Bool.{_&&_, Bool, false, not, true}
+use mathlib.Core.Bool.{_&&_, false, not, true}
 use mathlib.Core.Path.{ap, ap₂, refl, subst, sym, _∙_, _≡_}
 use Prim.Native.Nat.{_%_, _*_, _+_, _-_, _/_, _<_, _^_, min, suc, zero, ℕ, _≤_}
 use native.Mathlib.Nat.{div-eq-of-lt, lt-of-lt-of-le, zero-add}
@@ -105,14 +105,6 @@ ones-pages m h =
     let q : count 64 (pages m) ≡ count 0 (pages m) + ones m = count-word (pages m) 0 64 m h (λ j l. ap (pages m) (sym (zero-add j))) in
     let z = count-le 0 (pages m) in
     omega arith
-
--- LAW: fewer pages
-pub count-fewer : (n : ℕ) (f g : ℕ → Bool) → ((p : ℕ) → p < n → g p ≡ true → f p ≡ true) → count n g ≤ count n f
-unfolding count
-count-fewer zero f g h = omega arith
-count-fewer (suc n) f g h = let r = count-fewer n f g (λ p l e. h p (omega arith) e) in test? (g n)
-    (λ e. rw (e, h n (omega arith) e) (omega (arith, r)))
-    (λ e. rw e (test? (f n) (λ d. rw d (omega (arith, r))) (λ d. rw d (omega (arith, r)))))
 
 module _ (m first n : ℕ) (r : IsRange m first n) where
   count-to : (k : ℕ) → k ≤ 64 → count k (pages m) ≡ min k (first + n) - min k first
