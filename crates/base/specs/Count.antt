@@ -1,7 +1,7 @@
 -- How many of the first n numbers pass a test, and whether all of them do. Assumes nothing.
 use mathlib.Core.Path.{_≡_, refl, sym, _∙_, ap, subst}
 use mathlib.Core.Bool.{Bool, true, false, cond, not, _&&_, true≢false}
-use Prim.Native.Nat.{ℕ, zero, suc, _+_, _-_, _≤_, _<_}
+use Prim.Native.Nat.{ℕ, zero, suc, _+_, _≤_, _<_}
 use native.Mathlib.Omega.{arith}
 use Rattle.base.specs.Logic.{test?, same?, and-left, and-right, and-both}
 use Rattle.base.specs.Update.{upd, upd-same, upd-other}
@@ -73,10 +73,6 @@ count-less (suc n) f g b l h k o =
     (λ e. subst (λ x. cond (f x) 1 0 + count n f ≡ suc (cond (g x) 1 0 + count n g)) e
     (rw (h, k) (let c = count-same n f g (λ x l. o x (λ q. absurd (omega arith))) in omega arith)))
     (λ e. rw (o n e) (let c = count-less n f g b (omega arith) h k o in omega arith))
-
--- a place that does not pass now passes: one more
-pub count-upd : (n : ℕ) (f : ℕ → Bool) (b : ℕ) → b < n → f b ≡ false → count n (upd f b true) ≡ suc (count n f)
-count-upd n f b l h = count-less n (upd f b true) f b l (upd-same f b true) h (λ x q. sym (upd-other f b true x q))
 
 -- a place that passes now does not: one fewer
 pub count-upd-false : (n : ℕ) (f : ℕ → Bool) (b : ℕ) → b < n → f b ≡ true → count n f ≡ suc (count n (upd f b false))

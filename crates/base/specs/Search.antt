@@ -1,6 +1,6 @@
 -- The first number that is not used, from a start on, going round once at most. Assumes nothing.
 use mathlib.Core.Path.{_≡_, refl, sym, _∙_, ap, subst}
-use mathlib.Core.Bool.{Bool, true, false, cond, not, true≢false}
+use mathlib.Core.Bool.{Bool, true, false, cond, not}
 use mathlib.Core.Option.{Option, none, some}
 use Prim.Native.Nat.{ℕ, zero, suc, _+_, _-_, _%_, _≤_, _<_}
 use native.Mathlib.Omega.{arith}
@@ -8,7 +8,7 @@ use native.Mathlib.Nat.{mod-lt, mod-eq-of-lt, mod-self, mod-add-mod, add-mod-rig
 use lib.Dec.{leb}
 use borrow.Author.Tests.{not-true, leb-true, leb-false}
 use Rattle.base.specs.Logic.{test?}
-use Rattle.base.specs.Count.{count, count-some, count-none}
+use Rattle.base.specs.Count.{count, count-some}
 
 -- k numbers are looked at: b, and then the one after it, below n, the one after n - 1 being 0
 unfoldable pub searchFrom : ℕ → ℕ → (ℕ → Bool) → ℕ → Option ℕ

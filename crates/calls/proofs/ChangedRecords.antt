@@ -6,7 +6,6 @@ use Prim.Native.Nat.{_*_, _<_, ℕ}
 use native.Mathlib.Omega.{arith}
 use lib.ListN.{length}
 use lib.Pow.{low}
-use Rattle.base.specs.Logic.{and-right}
 use Rattle.calls.proofs.CallCases.{call-accepted, numberIn, onStore}
 use Rattle.pages.proofs.Whole.{pages-packed}
 use Rattle.calls.specs.Outcomes.{answerMeant, outcome}
@@ -16,13 +15,12 @@ use Rattle.rules.specs.Calls.{Store, accepted, done, viewOf}
 use Rattle.rules.specs.Numbers.{Answer, Call, create, make, noCounts, refusal, remove}
 use Rattle.rules.specs.State.{Tables, absentFile}
 use Rattle.rules.specs.Storage.{real}
-use Rattle.rules.specs.WellFormed.{setsFormed}
-use Rattle.setchanges.proofs.Formed.{unused-absent}
-use Rattle.setchanges.proofs.OnStores.{created-store, made-store, removed-store, storeWith, turns-packs}
+use Rattle.setchanges.proofs.OnStores.{created-store, made-store, removed-store, storeWith}
 use Rattle.setchanges.specs.Changes.{BlocksIn, createdIn, madeIn, removedIn}
 use Rattle.tables.proofs.FormedStore.{FormedStore, formed-store}
+use Rattle.tables.proofs.Written.{turns-pack}
 use Rattle.tables.specs.Calls.{acceptedOn, callOn, lookedAt, pagesOf, repacked, storeOf}
-use Rattle.tables.specs.Packed.{blockRules, fieldsFormed, pack, setRules, unpack, wellFormed}
+use Rattle.tables.specs.Packed.{pack, unpack, wellFormed}
 use Rattle.tables.specs.Views.{PackedTables, Turns, putFiles}
 use Rattle.calls.specs.declared.answer.Answer as declared
 
@@ -42,19 +40,19 @@ module _ (r : declared.Answer) (t p t′ : List ℕ) (formed : wellFormed t (len
   pub created-as : (s f : ℕ) → 0 ≡ numberIn t p (create s f) → Turns t t′ (createdIn f s) → outcome r t′ p [] ≡ callOn (create s f) t p
   unfolding acceptedOn accepted createdIn putFiles
   created-as s f n w = finished (create s f) refl n
-      (done-as t p t′ (createdIn f s (unpack t)) _ (formed-store t p formed) refl (created-store t p f s) (turns-packs (createdIn f s) w bs))
+      (done-as t p t′ (createdIn f s (unpack t)) _ (formed-store t p formed) refl (created-store t p f s) (turns-pack t t′ (createdIn f s) bs w))
 
   -- MAKE
   pub made-as : (s c : ℕ) (x : Bool) → 0 ≡ numberIn t p (make s c x) → Turns t t′ (madeIn s c x) → outcome r t′ p [] ≡ callOn (make s c x) t p
   unfolding acceptedOn accepted madeIn
   made-as s c x n w = finished (make s c x) refl n
-      (done-as t p t′ (madeIn s c x (unpack t)) _ (formed-store t p formed) refl (made-store t p s c x) (turns-packs (madeIn s c x) w bs))
+      (done-as t p t′ (madeIn s c x (unpack t)) _ (formed-store t p formed) refl (made-store t p s c x) (turns-pack t t′ (madeIn s c x) bs w))
 
   -- REMOVE
   pub removed-as : (c : ℕ) → 0 ≡ numberIn t p (remove c) → Turns t t′ (removedIn c) → outcome r t′ p [] ≡ callOn (remove c) t p
   unfolding acceptedOn accepted removedIn
   removed-as c n w = finished (remove c) refl n
-      (done-as t p t′ (removedIn c (unpack t)) _ (formed-store t p formed) refl (removed-store t p c) (turns-packs (removedIn c) w bs))
+      (done-as t p t′ (removedIn c (unpack t)) _ (formed-store t p formed) refl (removed-store t p c) (turns-pack t t′ (removedIn c) bs w))
 
 -- WHAT THE CHANGES ASK FOR, of a call with number 0
 module _ (t p : List ℕ) (formed : wellFormed t (length p) ≡ true) where
@@ -64,12 +62,11 @@ module _ (t p : List ℕ) (formed : wellFormed t (length p) ≡ true) where
 
   pub make-needs : (s c : ℕ) (w : Bool) → 0 ≡ numberIn t p (make s c w)
       → PackedTables t × (s < 8) × (c < 8) × (unpack t .sets s .used ≡ true) × (unpack t .sets s .level < 7) × ((f : ℕ) → f < 16 → unpack t .files f c ≡ absentFile)
-  unfolding wellFormed setRules
   make-needs s c w z =
       let x = passed-make (viewOf real true true (storeOf t p)) s c w (sym z) in
       let l = x .level-in in
-      let y = and-right (fieldsFormed t) (setsFormed (unpack t)) (and-right (blockRules t (length p)) (setRules t) formed) in
-      (formed-store t p formed .packed, x .set .low, x .new, x .set .used, omega (arith, l), unused-absent t y c (x .new) (x .unused))
+      let fs = formed-store t p formed in
+      (fs .packed, x .set .low, x .new, x .set .used, omega (arith, l), λ f hf. let k = fs .files-ok f .shape c in k .empty (k .unused (x .unused)))
 
   pub remove-needs : (c : ℕ) → 0 ≡ numberIn t p (remove c) → PackedTables t × (0 < c) × (c < 8) × ((f : ℕ) → f < 16 → BlocksIn f c (unpack t))
   remove-needs c z =

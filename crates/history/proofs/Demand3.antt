@@ -12,7 +12,7 @@ use Rattle.history.proofs.Image.{image-formed, image-length, image-stor
 use Rattle.history.specs.Demand3.{Demand3, Image, after, afterAll, bothAfter, gave, gaveAll, imageAfter}
 use Rattle.rules.proofs.Whole.Holds.{Holds, holds-step}
 use Rattle.rules.proofs.Whole.HoldsMeans.{agrees-plain, agrees-tally}
-use Rattle.rules.proofs.Whole.StateTheorem.{given-run, holds-run, holds-start}
+use Rattle.rules.proofs.Whole.HoldsRun.{given-run, holds-run, holds-start}
 use Rattle.rules.proofs.Steps.WriterSteps.{bytes}
 use Rattle.rules.specs.Agreement.{AgreesPlain, AgreesTally, bufferAfter, bufferOf, front, frontOf, storeGive, storeGiven, storeRun}
 use Rattle.rules.specs.Calls.{Store, accepted, blankMemory, formatted, readInto, resultOf, step, tablesOf, viewOf, worked}

@@ -15,7 +15,7 @@ use Rattle.rules.proofs.Formed.FilesFormed.{StateOk}
 use Rattle.rules.proofs.Whole.Holds.{Holds}
 use Rattle.rules.proofs.Tree.SetsOk.{SetsOk, first-used, next-used, parent-below, used-below}
 use Rattle.rules.proofs.Formed.Shape.{FileFits}
-use Rattle.rules.proofs.Whole.StateTheorem.{holds-blocks, holds-sets, holds-state}
+use Rattle.rules.proofs.Whole.HoldsRun.{holds-blocks, holds-sets, holds-state}
 use Rattle.rules.specs.Calls.{Store, tablesOf, treeIn}
 use Rattle.rules.specs.Plain.{Plain}
 use Rattle.rules.specs.State.{Entry, File, absentFile, hole, isAbsent, noSet, stored, unmapped}

@@ -34,10 +34,6 @@ wrote-then {d} {m} {e} {cur} {at} {r} {a} {b} A B = record {
 pub wrote-as : {d e : List ℕ} {cur r : ℕ} {a b : List ℕ} → a ≡ b → Wrote d e cur r a → Wrote d e cur r b
 wrote-as {d} {e} {cur} {r} q w = subst (λ (l : List ℕ). Wrote d e cur r l) q w
 
--- the same place told in other words
-pub wrote-at : {d e : List ℕ} {cur x r : ℕ} {a : List ℕ} → x ≡ cur → Wrote d e x r a → Wrote d e cur r a
-wrote-at {d} {e} {cur} {x} {r} {a} q w = subst (λ (n : ℕ). Wrote d e n r a) q w
-
 -- the buffer keeps its length
 pub wrote-length : {d e : List ℕ} {cur r : ℕ} {a : List ℕ} → Wrote d e cur r a → length e ≡ length d
 wrote-length {d} {e} {cur} {r} {a} w = ap length (w .bytes) ∙ length-sets d cur a

@@ -1,7 +1,7 @@
 -- A map of bits in a list of bytes: it begins at byte `at`, and the most significant bit of each byte comes first. One bit is set or cleared,
 -- a word of the map is its bits, and a byte of it is made of eight. Assumes nothing.
 use mathlib.Core.Path.{_≡_, refl, sym, ap, ap₂, _∙_, subst, fun-ext}
-use mathlib.Core.Bool.{Bool, true, false, cond}
+use mathlib.Core.Bool.{Bool, true, false}
 use mathlib.Core.Logic.{_≢_}
 use mathlib.Core.List.{List}
 use Prim.Native.Nat.{ℕ, zero, suc, _+_, _-_, _*_, _/_, _%_, _^_, _<_, _≤_}
@@ -16,7 +16,7 @@ use lib.Pow.{pow-lt}
 use lib.Seq.{getD-set-same, getD-set-other}
 use Rattle.base.specs.Logic.{same?, digit}
 use Rattle.base.specs.Update.{upd, upd-same, upd-other}
-use Rattle.base.specs.Count.{count, count-upd, count-upd-false}
+use Rattle.base.specs.Count.{count}
 use Rattle.packing.specs.Words.{getWord, lowWord, Bytes, Same}
 use Rattle.packing.specs.Bits.{bit, bit-lt, bit-zero, bit-suc, bit-not, bit-mod, bit-shr, bit-or, bit-and, bit-pow-same, bit-pow-other}
 
@@ -130,14 +130,6 @@ module _ (t : List ℕ) (at b : ℕ) where
       (ap isOne (bit-and x (255 - 2 ^ s) s ∙ ap (bitAnd (bit x s)) (hole s (omega arith) ∙ ap (λ (y : ℕ). 1 - y) (bit-pow-same s)) ∙ and-zero-r (bit x s)))
       (λ k l d. bit-and x (255 - 2 ^ s) k ∙ ap (bitAnd (bit x k)) (hole k l ∙ ap (λ (y : ℕ). 1 - y) (bit-pow-other s k d)) ∙ and-one (bit x k) (bit-lt x k))
 
-  -- LAW: a clear bit is set, one more is set
-  pub count-set-bit : (n : ℕ) → b < n → bitAt t at b ≡ false → at + b / 8 < length t → count n (bitAt (setBit t at b) at) ≡ suc (count n (bitAt t at))
-  count-set-bit n l e h = ap (count n) (bits-set h) ∙ count-upd n (bitAt t at) b l e
-
-  -- LAW: a set bit is cleared, one fewer is set
-  pub count-clear-bit : (n : ℕ) → b < n → bitAt t at b ≡ true → at + b / 8 < length t → count n (bitAt t at) ≡ suc (count n (bitAt (clearBit t at b) at))
-  count-clear-bit n l e h = count-upd-false n (bitAt t at) b l e ∙ sym (ap (λ f. suc (count n f)) (bits-clear h))
-
 -- LAW: a bit whose byte lies outside the changed part is the same
 pub bits-same : (lo hi : ℕ) (t t′ : List ℕ) → Same lo hi t t′ → (at b : ℕ) → (lo ≤ at + b / 8 → at + b / 8 < hi → ⊥) → bitAt t′ at b ≡ bitAt t at b
 unfolding bitAt
@@ -244,10 +236,6 @@ map-byte t at k bs =
     number-of (bitAt t at) (k * 8) 8 (getD t (at + k) 0) (bs (at + k)) (λ j l.
     let e : 8 * k + j ≡ k * 8 + j = omega arith in
     word-bit zero t at k bs j l ∙ ap (bitAt t at) e)
-
-pub map-byte-lt : (f : ℕ → Bool) (k : ℕ) → mapByte f k < 256
-unfolding mapByte
-map-byte-lt f k = number-lt f (k * 8) 8
 
 -- LAW: the bits of a byte made of bits are those bits
 pub map-bit : (f : ℕ → Bool) (k j : ℕ) → j < 8 → isOne (bit (mapByte f k) (7 - j)) ≡ f (k * 8 + j)

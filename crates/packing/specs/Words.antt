@@ -1,6 +1,6 @@
 -- A big-endian word at a byte offset of a list of bytes. The number m says its last byte: the word is the bytes at, .., at + m, so it has m + 1 of them.
 -- The laws hold for every m; words of 16, 24, 32 and 64 bits have m = 1, 2, 3 and 7. Assumes nothing.
-use mathlib.Core.Path.{_≡_, refl, ap, ap₂, _∙_}
+use mathlib.Core.Path.{_≡_, refl, ap₂, _∙_}
 use mathlib.Core.Bool.{cond}
 use mathlib.Core.Logic.{_⊎_, inl, inr, ⊎-elim}
 use mathlib.Core.List.{List}
@@ -10,7 +10,7 @@ use native.Mathlib.Nat.{div-add-mod', add-zero}
 use native.Mathlib.Omega.{arith}
 use lib.Dec.{eqb}
 use lib.ListN.{length, getD, set, length-set}
-use lib.Seq.{getD-set-same, getD-set-other, set-getD}
+use lib.Seq.{getD-set-same, getD-set-other}
 use borrow.Author.Tests.{eq-eqb, ne-eqb}
 use Rattle.base.specs.Logic.{same?}
 
@@ -82,20 +82,6 @@ pub get-lt : (m : ℕ) (t : List ℕ) (at : ℕ) → Bytes t → getWord m t at 
 unfolding getWord
 get-lt zero t at h = h at
 get-lt (suc m) t at h = omega (arith, get-lt m t at h, h (at + suc m))
-
--- a word put where it is changes nothing
-pub put-get : (m : ℕ) (t : List ℕ) (at : ℕ) → Bytes t → putWord m t at (getWord m t at) ≡ t
-unfolding getWord putWord
-put-get zero t at h = set-getD t at 0
-put-get (suc m) t at h =
-    let w = getWord m t at in
-    let b = getD t (at + suc m) 0 in
-    let hb = h (at + suc m) in
-    let high : (w * 256 + b) / 256 ≡ w = omega arith in
-    let low : (w * 256 + b) % 256 ≡ b = omega arith in
-    ap₂ (λ (x y : ℕ). set (putWord m t at x) (at + suc m) y) high low
-    ∙ ap (λ (u : List ℕ). set u (at + suc m) b) (put-get m t at h)
-    ∙ set-getD t (at + suc m) 0
 
 -- ---- lists that are the same outside a part
 

@@ -1,13 +1,10 @@
 -- The whole pages buffer and its pages: each gives the other. Assumes nothing.
 use mathlib.Core.List.{List}
 use mathlib.Core.Path.{ap, sym, _∙_, _≡_}
-use Prim.Native.Nat.{_%_, _*_, _/_, ℕ, _≤_}
+use Prim.Native.Nat.{_%_, _*_, _/_, ℕ}
 use native.Mathlib.Nat.{div-add-mod'}
 use native.Mathlib.Omega.{arith}
-use lib.Dec.{ltb}
-use lib.ListN.{List·getD-eq-default, getD, length}
-use lib.Seq.{ext-getD}
-use Rattle.base.specs.Logic.{test?}
+use lib.ListN.{getD, length}
 use Rattle.base.specs.Tabulate.{tab-of}
 use Rattle.pages.proofs.PageRuns.{pages-in}
 use Rattle.tables.specs.Calls.{packPages, pagesOf}
@@ -15,16 +12,6 @@ use Rattle.tables.specs.Calls.{packPages, pagesOf}
 -- a byte of the buffer by its page
 byte-of : (p : List ℕ) (i : ℕ) → pagesOf p (i / 512) (i % 512) ≡ getD p i 0
 byte-of p i = pages-in p (i / 512) (i % 512) (omega arith) ∙ ap (λ x. getD p x 0) (div-add-mod' i 512)
-
--- LAW: a block from the buffer's end on reads as zeros
-pub pages-past : (p : List ℕ) (b i : ℕ) → length p ≤ b * 512 → pagesOf p b i ≡ 0
-unfolding pagesOf
-pages-past p b i h = test? (ltb i 512) (λ e. rw e (List·getD-eq-default p 0 (omega arith))) (λ e. rw e)
-
--- LAW: buffers of whole pages with equal pages are equal
-pub pages-ext : (n : ℕ) (p p′ : List ℕ) → length p ≡ n * 512 → length p′ ≡ n * 512 → pagesOf p ≡ pagesOf p′ → p ≡ p′
-pages-ext n p p′ h h′ e =
-    ext-getD 0 p p′ (h ∙ sym h′) (λ i b. sym (byte-of p i) ∙ ap (λ (g : ℕ → ℕ → ℕ). g (i / 512) (i % 512)) e ∙ byte-of p′ i)
 
 -- LAW: a buffer of n pages is its pages, packed
 pub pages-packed : (n : ℕ) (p : List ℕ) → length p ≡ n * 512 → packPages n (pagesOf p) ≡ p

@@ -4,6 +4,5 @@ pub mod Change
 pub mod Truncate
 pub mod Delete
 pub mod Remove
-pub mod Sets
+pub mod CreateMake
 pub mod AgreeCalls
-pub mod Frames

@@ -2,7 +2,6 @@
 pub mod Sums
 pub mod Tidy
 pub mod TakeBlock
-pub mod BlocksSame
 pub mod GoodWork
 pub mod RealStore
 pub mod RealSim

@@ -1,7 +1,7 @@
--- Whole lists of calls: the invariant, what it means, demand 3 on states; rows and worked session.
+-- Whole lists of calls: the invariant, that it holds after every list of calls, what it means; rows and worked session.
 pub mod Accepted
 pub mod Holds
 pub mod HoldsMeans
-pub mod StateTheorem
+pub mod HoldsRun
 pub mod Rows
 pub mod WorkedSession

@@ -10,5 +10,4 @@ pub mod Trees
 pub mod Plain
 pub mod Tally
 pub mod Agreement
-pub mod StateTheorem
 pub mod Rows

@@ -1,1 +1,1 @@
-// Document 01 as definitions, and demand 3 on states as a theorem. No code.
+// Document 01 as definitions, and what is shown of them. No code.

@@ -8,4 +8,3 @@ pub mod ChildFiles
 pub mod Clearing
 pub mod Unlinking
 pub mod OnStores
-pub mod Formed

@@ -3,16 +3,16 @@
 use mathlib.Core.Bool.{_&&_, Bool, false, not, true, _||_}
 use mathlib.Core.List.{List}
 use mathlib.Core.Path.{refl, sym, _∙_, _≡_}
-use Prim.Native.Nat.{_*_, _<_, ℕ}
+use Prim.Native.Nat.{_*_, ℕ}
 use lib.Dec.{eqb, leb, ltb}
 use lib.ListN.{length}
-use borrow.Author.Tests.{eqb-true, leb-true, ltb-true}
+use borrow.Author.Tests.{leb-true, ltb-true}
 use Rattle.base.specs.Logic.{and-false, and-left, and-right}
 use Rattle.packing.specs.Fields.{getField}
 use Rattle.rules.proofs.Tree.SetsFormed.{sets-formed}
 use Rattle.rules.proofs.Tree.SetsOk.{SetsOk}
-use Rattle.rules.proofs.Formed.Tests.{and-4, sets-at}
-use Rattle.rules.specs.State.{Tables, isAbsent, largestBlocks, pageBytes, setCount}
+use Rattle.rules.proofs.Formed.Tests.{and-4}
+use Rattle.rules.specs.State.{Tables, isAbsent, largestBlocks, pageBytes}
 use Rattle.rules.specs.WellFormed.{allFiles, allSets, bitsFormed, filesFormed, headerFormed, treeFormed, zeroFile, zeroSet, zerosFormed}
 use Rattle.setcheck.specs.Records.{fileRecordsFormed, headerZero, setRecordsFormed, setZero, unusedZero, zerosOfSets}
 use Rattle.tables.proofs.ReadParts.{set-default}
@@ -52,21 +52,11 @@ module _ (tb : Tables) (n : ℕ) (h : headerFormed tb n ≡ true) where
     next-in = ltb-true (tb .next) (tb .blocks) (header-tests .2);
   }
 
-  -- LAW: the pages buffer is B × 512 bytes
-  pub header-size : n ≡ tb .blocks * pageBytes
-  header-size = eqb-true n (tb .blocks * pageBytes) (header-tests .3)
-
 module _ (t : List ℕ) where
   -- LAW: the zero rules on set records are those of `fieldsFormed` and `zerosFormed`
   pub zeros-say : zerosOfSets t ≡ (allSets (λ s. eqb (getField setWidths (setWord t s) 6) 0) && allSets (λ s. unpack t .sets s .used || zeroSet (unpack t .sets s)))
   unfolding zerosOfSets unusedZero
   zeros-say = refl
-
-  -- LAW: all rules on set records, one after the other
-  pub set-records-say : setRecordsFormed t
-      ≡ (allSets (λ s. eqb (getField setWidths (setWord t s) 6) 0) && allSets (λ s. unpack t .sets s .used || zeroSet (unpack t .sets s)) && treeFormed (unpack t))
-  unfolding setRecordsFormed zerosOfSets unusedZero
-  set-records-say = refl
 
   -- LAW: the rules on zero fields, sets and files are those on the header's zero field, on set records and on file records
   pub set-rules-parts : setRules t ≡ (headerZero t && setRecordsFormed t && fileRecordsFormed t)
@@ -101,12 +91,6 @@ module _ (t : List ℕ) where
 
     pub records-unused : allSets (λ s. unpack t .sets s .used || zeroSet (unpack t .sets s)) ≡ true
     records-unused = and-right (allSets (setZero t)) (allSets (λ s. unpack t .sets s .used || zeroSet (unpack t .sets s))) (sym zeros-say ∙ records-zeros)
-
-    -- LAW: the zero field of each set record is zero
-    pub records-fields : (s : ℕ) → s < setCount → getField setWidths (setWord t s) 6 ≡ 0
-    records-fields s l =
-        eqb-true (getField setWidths (setWord t s) 6) 0
-        (sets-at (setZero t) (and-left (allSets (setZero t)) (allSets (λ s. unpack t .sets s .used || zeroSet (unpack t .sets s))) (sym zeros-say ∙ records-zeros)) s l)
 
     -- LAW: the sets are a tree, as the rules take them to be
     pub records-sets : SetsOk (unpack t .sets)

@@ -1,14 +1,10 @@
 -- Changes of the tables, one after another. Assumes nothing.
 use mathlib.Core.List.{List}
-use mathlib.Core.Path.{ap, sym, _∙_, _≡_}
+use mathlib.Core.Path.{ap, _∙_}
 use Prim.Native.Nat.{ℕ}
-use lib.ListN.{length}
 use Rattle.rules.specs.State.{Tables}
-use Rattle.tables.specs.Views.{PackedTables, Turns}
+use Rattle.tables.specs.Views.{Turns}
 
 -- one change after another
 pub turns-then : {t₁ t₂ t₃ : List ℕ} {f g : Tables → Tables} → Turns t₁ t₂ f → Turns t₂ t₃ g → Turns t₁ t₃ (λ x. g (f x))
 turns-then {g} a b = record { view = b .view ∙ ap g (a .view); packed = b .packed }
-
-pub turns-length : {t t′ : List ℕ} {f : Tables → Tables} → PackedTables t → Turns t t′ f → length t′ ≡ length t
-turns-length h a = a .packed .len ∙ sym (h .len)

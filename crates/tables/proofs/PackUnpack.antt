@@ -4,16 +4,16 @@ use mathlib.Core.Path.{ap, ap₂, subst, sym, _∙_, _≡_}
 use Prim.Native.Nat.{_%_, _*_, _+_, _-_, _/_, _<_, ℕ, _≤_}
 use native.Mathlib.Omega.{arith}
 use lib.Dec.{ltb}
-use lib.ListN.{List·getD-eq-default, getD}
+use lib.ListN.{getD}
 use borrow.Author.Tests.{ltb-false, ltb-true}
 use Rattle.base.specs.Logic.{test?}
 use Rattle.base.specs.Tabulate.{tab-of}
-use Rattle.packing.specs.Bitmap.{bitAt, map-byte, map-byte-lt, map-same}
-use Rattle.packing.specs.Words.{Bytes, byte, byte-lt, get-lt, word-byte}
+use Rattle.packing.specs.Bitmap.{bitAt, map-byte, map-same}
+use Rattle.packing.specs.Words.{Bytes, byte, get-lt, word-byte}
 use Rattle.rules.specs.State.{Tables, fileCount, largestBlocks, pageCount, setCount}
 use Rattle.tables.proofs.Fits.{file-in, page-in}
-use Rattle.tables.proofs.Layouts.{entry-formed, head-zero, header-zero, read-blocks-fits, read-entry-fits, read-next-fits, read-set-fits, read-size-fits, read-write-blocks, read-write-entry, read-write-next, read-write-set, read-write-size, read-write-state, set-zero, write-entry-lt, write-head-lt, write-header-lt, write-read-entry, write-read-head, write-read-header, write-read-set, write-set-lt}
-use Rattle.tables.proofs.PackWords.{at-entry, at-head, at-header, at-map, at-set, bit-packed, entry-packed, head-packed, header-packed, length-pack, pack-at, set-packed}
+use Rattle.tables.proofs.Layouts.{entry-formed, head-zero, header-zero, read-blocks-fits, read-entry-fits, read-next-fits, read-set-fits, read-size-fits, read-write-blocks, read-write-entry, read-write-next, read-write-set, read-write-size, read-write-state, set-zero, write-read-entry, write-read-head, write-read-header, write-read-set}
+use Rattle.tables.proofs.PackWords.{at-entry, at-head, at-header, at-map, at-set, bit-packed, entry-packed, head-packed, header-packed, length-pack, set-packed}
 use Rattle.tables.proofs.ReadParts.{bit-default, map-default, read-bit, read-blocks, read-map, read-next, read-set, read-size, read-state, set-default, size-default, state-default}
 use Rattle.tables.specs.Layout.{bitmapAt, entryAt, entryWord, fileAt, headWord, headerAt, headerWord, readBlocks, readEntry, readNext, readSet, readSize, readState, setAt, setWord, tableBytes, writeEntry, writeHead, writeHeader, writeSet}
 use Rattle.tables.specs.OneReading.{Fits}
@@ -97,19 +97,6 @@ at-places P header bits sets heads entries i h =
     subst P (omega arith) (entries (n % 16) (n / 16) ((j - 4) / 2) ((j - 4) % 2) (omega arith) (omega arith) (omega arith) (omega arith))))))
 
 -- ---- the tables of a state are bytes
-
-table-byte-lt : (tb : Tables) → Fits tb → (i : ℕ) → i < tableBytes → tableByte tb i < 256
-table-byte-lt tb h = at-places (λ i. tableByte tb i < 256)
-    (λ j k. rw (at-header tb j k) (byte-lt 3 _ j (write-header-lt (tb .blocks) (tb .next) (h .blocks-fit) (h .next-fits))))
-    (λ k l. rw (at-map tb k l) (map-byte-lt (tb .bits) k))
-    (λ s j hs k. rw (at-set tb s j hs k) (byte-lt 2 _ j (write-set-lt (tb .sets s) (h .set-fits s))))
-    (λ f s j hf hs k. rw (at-head tb f s j hf hs k) (byte-lt 3 _ j (write-head-lt (tb .files f s .state) (tb .files f s .size) (h .size-fits f s))))
-    (λ f s p j hf hs hp k. rw (at-entry tb f s p j hf hs hp k) (byte-lt 1 _ j (write-entry-lt (tb .files f s .map p) (h .block-fits f s p))))
-
-pub pack-bytes : (tb : Tables) → Fits tb → Bytes (pack tb)
-pack-bytes tb h i = test? (ltb i tableBytes)
-    (λ e. let l = ltb-true i tableBytes e in rw (pack-at tb i l) (table-byte-lt tb h i l))
-    (λ e. let l = ltb-false i tableBytes e in let z : getD (pack tb) i 0 ≡ 0 = List·getD-eq-default (pack tb) 0 (omega (arith, length-pack tb)) in rw z (omega arith))
 
 -- ---- tables, their state and its tables
 

@@ -19,7 +19,7 @@ use Rattle.rules.proofs.Agreement.Delete.{agree-gone, deleted}
 use Rattle.rules.proofs.Storages.Model.{model}
 use Rattle.rules.proofs.Steps.OneStep.{FilesOk, TreeOk, live-present}
 use Rattle.rules.proofs.Agreement.Remove.{remove-agree}
-use Rattle.rules.proofs.Agreement.Sets.{create-agree, make-agree}
+use Rattle.rules.proofs.Agreement.CreateMake.{create-agree, make-agree}
 use Rattle.rules.proofs.Agreement.Truncate.{agree-cut, agree-more, agree-same, dropped-in, kept-in, kept-once}
 use Rattle.rules.specs.Calls.{Store, accepted, begin, created, formatted, made, removed, treeIn, viewOf, worked}
 use Rattle.rules.specs.Numbers.{Call, View, create, delete, format, make, numberOf, read, remove, tellFree, tellSize, truncate, write}

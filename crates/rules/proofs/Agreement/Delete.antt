@@ -9,7 +9,7 @@ use Rattle.base.specs.Update.{upd, upd-other, upd-same}
 use Rattle.rules.proofs.Agreement.Agree.{Agree, agree-one, from-mem}
 use Rattle.rules.proofs.Storages.Model.{model}
 use Rattle.rules.proofs.Steps.OneStep.{Alive, FilesOk, TreeOk, cut-page, cut-size, keep-refl, needs-yes}
-use Rattle.rules.proofs.Agreement.Sets.{away-page, away-size}
+use Rattle.rules.proofs.Agreement.CreateMake.{away-page, away-size}
 use Rattle.rules.proofs.Steps.StepFour.{Given, Going, giveAll-done, giveAll-going, given-refl}
 use Rattle.rules.proofs.Steps.WriterSteps.{Settled, settle-calm, settle-each}
 use Rattle.rules.specs.Reading.{needs, resolve, sizeByReading}

@@ -1,5 +1,5 @@
 -- Removing a set over the model.
-use mathlib.Core.Bool.{Bool, cond, false, true, true≢false}
+use mathlib.Core.Bool.{Bool, cond, false, true}
 use mathlib.Core.List.{List, List·Memᴰ, List·Memᴰ·cases-cons, List·Memᴰ·head, List·Memᴰ·tail, _∷_, []}
 use mathlib.Core.Logic.{inl, inr, _⊎_, ⊎-elim}
 use mathlib.Core.Option.{Option, none}
@@ -12,7 +12,7 @@ use Rattle.base.specs.Logic.{same?}
 use Rattle.base.specs.Update.{upd, upd-other, upd-same}
 use Rattle.rules.proofs.Agreement.Agree.{Agree, agree-one}
 use Rattle.rules.proofs.Steps.OneStep.{Alive, FilesOk, TreeOk}
-use Rattle.rules.proofs.Agreement.Sets.{away-page, away-size}
+use Rattle.rules.proofs.Agreement.CreateMake.{away-page, away-size}
 use Rattle.rules.specs.State.{File, Files, Tree, absent, isAbsent, live, unmapped}
 use Rattle.rules.specs.Storage.{PageData}
 use Rattle.rules.specs.Trees.{takeAway, without}
@@ -96,26 +96,11 @@ module _ (t : Tree) (ok : TreeOk t) (c : ℕ) (leaf : (x : ℕ) → List·Memᴰ
   }
 
   module _ (a b : Files PageData) (k : FilesOk t a) (empty : b c .state ≡ absent) (others : (x : ℕ) → (c ≡ x → ⊥) → b x ≡ a x) (pf : ℕ → Option (List ℕ)) (g : Agree t a pf) where
-    r-not : (x : ℕ) → Alive b x → c ≡ x → ⊥
-    r-not x al e = true≢false (sym al ∙ ap (λ y. live (b y .state)) (sym e) ∙ ap live empty)
-
     r-was : (x : ℕ) → (c ≡ x → ⊥) → Alive b x → Alive a x
     r-was x n al = ap (λ (f : File PageData). live (f .state)) (sym (others x n)) ∙ al
 
     r-leaf : (x p : ℕ) → p < 64 → Alive a x → a x .map p ≡ unmapped → c ≡ t .parent x → ⊥
     r-leaf x p l al u e = leaf x (subst (λ y. List·Memᴰ x (t .children y)) (sym e) (k .listed x p l al u))
-
-    r-ent : (x p : ℕ) → (c ≡ x → ⊥) → b x .map p ≡ unmapped → a x .map p ≡ unmapped
-    r-ent x p n u = ap (λ (f : File PageData). f .map p) (sym (others x n)) ∙ u
-
-    pub remove-ok : FilesOk t′ b
-    remove-ok = record {
-      closed = λ x p l al u. let n = r-not x al in let v = r-ent x p n u in let o = r-leaf x p l (r-was x n al) v in
-          rw (r-links x n) (ap (λ (f : File PageData). live (f .state)) (others (t .parent x) o) ∙ k .closed x p l (r-was x n al) v);
-      listed = λ x p l al u. let n = r-not x al in let v = r-ent x p n u in
-          rw (r-links x n) (r-kids (t .parent x) x (r-leaf x p l (r-was x n al) v) n (k .listed x p l (r-was x n al) v));
-      bare = λ x p l v. let n = r-not x (ap live v) in ap (λ (f : File PageData). f .map p) (others x n) ∙ k .bare x p l (ap (λ (f : File PageData). f .state) (sym (others x n)) ∙ v);
-    }
 
     pub remove-agree : Agree t′ b (upd pf c none)
     remove-agree =

@@ -2,7 +2,7 @@
 use mathlib.Core.Bool.{Bool, cond, false, true, true≢false}
 use mathlib.Core.List.{List, _∷_, []}
 use mathlib.Core.Logic.{inl, inr, _⊎_, ⊎-elim}
-use mathlib.Core.Path.{_≡_, ap, fun-ext, refl, subst, sym, _∙_}
+use mathlib.Core.Path.{_≡_, ap, refl, subst, sym, _∙_}
 use Prim.Native.Nat.{_<_, ℕ, _≤_}
 use native.Mathlib.Omega.{arith}
 use lib.Dec.{eqb, ltb}
@@ -16,10 +16,10 @@ use Rattle.rules.proofs.Blocks.GoodWork.{not-stored}
 use Rattle.rules.proofs.Storages.Model.{model}
 use Rattle.rules.proofs.Blocks.RealSim.{pagesSeen, realDemands, toModel}
 use Rattle.rules.proofs.Blocks.RealStore.{BlocksOk, Outer, PagesInside, ProperTree, RealKept, good-begin, kept-finish, none-stored}
-use Rattle.rules.proofs.Storages.StoreSim.{Same, Standing, StoreSim, calls-same, view-same}
+use Rattle.rules.proofs.Storages.StoreSim.{Same, Standing, StoreSim, calls-same}
 use Rattle.rules.proofs.Agreement.Truncate.{apart}
-use Rattle.rules.specs.Calls.{Store, blankMemory, created, formatted, made, newFile, step, treeIn, viewOf}
-use Rattle.rules.specs.Numbers.{Call, numberOf}
+use Rattle.rules.specs.Calls.{Store, blankMemory, created, formatted, made, newFile, step, treeIn}
+use Rattle.rules.specs.Numbers.{Call}
 use Rattle.rules.specs.Plain.{present}
 use Rattle.rules.specs.Rules.{holes}
 use Rattle.rules.specs.Sets.{appendSet, childFile, linkBehind, linkLast, rootAlone, unlinkSet}
@@ -206,14 +206,7 @@ realStore B l = record {
 abbrev pub Stands : Store real → Store model → Type 0
 Stands r m = Standing pagesSeen r m
 
-pub number-same : (r : Store real) (m : Store model) → Stands r m → (formed formats : Bool) (c : Call) → numberOf (viewOf model formed formats m) c ≡ numberOf (viewOf real formed formats r) c
-number-same r m h formed formats c = ap (λ v. numberOf v c) (view-same pagesSeen r m h refl formed formats)
-
 -- EVERY CALL: the answers are the same, the stores go together again, and B, blocks and pages are in order again
 pub step-same : (B : ℕ) → 1 ≤ B → (r : Store real) (m : Store model) → r .memory .blocks ≡ B → BlocksOk r → PagesInside r → Stands r m → ProperTree (treeIn real r) → (c : Call) →
     Same pagesSeen (RealKept B) (step real (blankMemory B) c r) (step model B c m)
 step-same B l r m e k pi h p c = calls-same (realStore B l) r m h (record { blocks = e; blocks-ok = k; pages-in = pi }) p c
-
--- a page past the last block is as it was
-pub page-past : (B : ℕ) (r r′ : Store real) → RealKept B r → RealKept B r′ → (b : ℕ) → B ≤ b → r′ .memory .pages b ≡ r .memory .pages b
-page-past B r r′ k k′ b l = fun-ext (λ i. k′ .pages-in b i (inr (rw (k′ .blocks) l)) ∙ sym (k .pages-in b i (inr (rw (k .blocks) l))))

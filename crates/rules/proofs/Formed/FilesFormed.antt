@@ -256,12 +256,3 @@ state-formed tb k =
     (zero-sets-formed tb (k .sets-ok)) (tests-absent tb (λ f l. k .files-ok f)) (tests-unused tb (λ f l. k .files-ok f)))
     (tree-formed tb (k .sets-ok))
     (tests-files tb (λ f l. k .files-ok f))
-
--- nothing stands out of range, if no file number does
-pub state-ranged : (tb : Tables) → StateOk tb → ((f s : ℕ) → 16 ≤ f → tb .files f s ≡ absentFile) → Ranged tb
-state-ranged tb k h = record {
-  no-sets = k .sets-ok .out;
-  no-numbers = h;
-  no-files = λ f s l. let x = k .files-ok f .shape s in x .empty (x .out l);
-  no-pages = λ f s p l. k .files-ok f .shape s .beyond p l;
-}

@@ -12,7 +12,7 @@ use Rattle.rules.proofs.Steps.OneStep.{Alive, TreeOk, live-present, res
 use Rattle.rules.proofs.Formed.Past.{past-one}
 use Rattle.rules.proofs.Agreement.Remove.{remove-tree}
 use Rattle.rules.proofs.Tree.RemoveSet.{remove-same}
-use Rattle.rules.proofs.Agreement.Sets.{away-page, away-size, make-tree}
+use Rattle.rules.proofs.Agreement.CreateMake.{away-page, away-size, make-tree}
 use Rattle.rules.proofs.Tree.SetsOk.{SetsOk}
 use Rattle.rules.proofs.Formed.Shape.{FileFits, FilesFormed, absent-is, fits-absent}
 use Rattle.rules.proofs.Steps.WriterSteps.{resolve-here}

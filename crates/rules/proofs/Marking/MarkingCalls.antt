@@ -205,12 +205,3 @@ module _ (ta : Tally) (ok : TreeOk (ta .tree)) (shallow : (x : ℕ) → ta .tree
   becomes-marked (remove s) = remove-marks s
   becomes-marked (tellSize s f) = never _ h
   becomes-marked tellFree = never _ h
-
--- DELETE AND REMOVE leave the file absent
-pub delete-absent : (ta : Tally) (blocks s f : ℕ) → tallyCall blocks (delete s f) ta .tally .files f s .state ≡ absent
-unfolding tallyCall tallyDelete
-delete-absent ta blocks s f = ap (λ (x : TallyFile). x .state) (leaves-here ta f s 0 _ _ _)
-
-pub remove-absent : (ta : Tally) (blocks s f : ℕ) → tallyCall blocks (remove s) ta .tally .files f s .state ≡ absent
-unfolding tallyCall tallyTold
-remove-absent ta blocks s f = ap (λ (x : TallyFile). x .state) (upd-same (ta .files f) s _)

@@ -1,17 +1,17 @@
--- The model and the counting store go together through every call; so do the store and the counting store. Assumes nothing.
+-- The model and the counting store go together through every call. Assumes nothing.
 use mathlib.Core.Bool.{Bool}
-use mathlib.Core.Path.{ap, refl, _∙_, _≡_}
+use mathlib.Core.Path.{ap, refl, _≡_}
 use Prim.Native.Nat.{ℕ}
 use Rattle.rules.proofs.Storages.CountSim.{bytesForgotten, noDemands, toCount}
-use Rattle.rules.proofs.Storages.MapBlocks.{mapEntry, mapFiles}
+use Rattle.rules.proofs.Storages.MapBlocks.{mapFiles}
 use Rattle.rules.proofs.Storages.Model.{counting, model}
 use Rattle.rules.proofs.Blocks.RealCalls.{Stands}
 use Rattle.rules.proofs.Blocks.RealStore.{good-begin, kept-finish}
 use Rattle.rules.proofs.Storages.StoreSim.{Standing, StoreSim, calls-same, view-same}
 use Rattle.rules.specs.Calls.{Result, Store, step, treeIn, viewOf}
 use Rattle.rules.specs.Numbers.{Call, numberOf}
-use Rattle.rules.specs.State.{Entry, Files, Tree, hole, stored, unmapped}
-use Rattle.rules.specs.Storage.{PageData, freeBlocks, real}
+use Rattle.rules.specs.State.{Tree}
+use Rattle.rules.specs.Storage.{freeBlocks, real}
 
 -- THE MODEL AND THE COUNT: the bytes are forgotten
 abbrev pub Counted : Store model → Store counting → Type 0
@@ -48,27 +48,6 @@ step-counted B m k h c = let q = calls-same (countStore B) m k h tt tt c in reco
 -- a block is forgotten
 abbrev pub forget : {K : Type 0} → K → Unit {0}
 forget b = tt
-
--- THE STORE AND THE COUNT: sets, free blocks, and files without their block numbers
-pub record CountsFor (r : Store real) (k : Store counting) : Type 0 where
-  pub sets : k .sets ≡ r .sets
-  pub memory : k .memory ≡ freeBlocks (r .memory)
-  pub files : (f : ℕ) → k .files f ≡ mapFiles forget (r .files f)
-
-forget-map : (g : ℕ → PageData) (c : Files ℕ) → mapFiles forget (mapFiles g c) ≡ mapFiles forget c
-forget-map g c = λ i s. record { state = c s .state; size = c s .size; map = λ p. go (c s .map p) i }
-  where
-    go : (e : Entry ℕ) → mapEntry forget (mapEntry g e) ≡ mapEntry forget e
-    go unmapped = refl
-    go hole = refl
-    go (stored b) = refl
-
-pub counts-for : (r : Store real) (m : Store model) (k : Store counting) → Stands r m → Counted m k → CountsFor r k
-counts-for r m k h c = record {
-  sets = c .sets ∙ h .sets;
-  memory = c .memory ∙ h .memory;
-  files = λ f. c .files f ∙ ap (mapFiles forget) (h .files f) ∙ forget-map (r .memory .pages) (r .files f);
-}
 
 -- the model and the count of a store
 abbrev pub modelOf : Store real → Store model

@@ -111,10 +111,6 @@ module _ (sets : ℕ → SetRecord) where
     follows-once xs (sets x .nextSibling) (f .2),
   )
 
-  pub follows-below : (xs : List ℕ) (k x : ℕ) → Follows sets xs k → List·Memᴰ x xs → x < 8
-  follows-below [] k x f m = elim m [ ]
-  follows-below (y ∷ ys) k x f m = ⊎-elim (λ e. subst (λ z. z < 8) (sym e) (f .1)) (λ m. follows-below ys (sets y .nextSibling) x (f .2) m) (List·Memᴰ·cases-cons m)
-
   -- what follows a set of the chain: none, or another of them
   pub follows-next : (xs : List ℕ) (k x : ℕ) → Follows sets xs k → List·Memᴰ x xs → (sets x .nextSibling ≡ 8) ⊎ List·Memᴰ (sets x .nextSibling) xs
   follows-next [] k x f m = elim m [ ]

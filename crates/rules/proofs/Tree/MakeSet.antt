@@ -9,7 +9,7 @@ use lib.ListN.{length, length-append}
 use Rattle.base.specs.Logic.{same?, test?}
 use Rattle.base.specs.Update.{upd, upd-all, upd-map, upd-other, upd-same}
 use Rattle.rules.proofs.Tree.Chains.{Follows, children-are, children-length, children-none, few-below, follows-frame, last-first, last-follows, last-keeps, last-other, last-sibling}
-use Rattle.rules.proofs.Agreement.Sets.{make-tree}
+use Rattle.rules.proofs.Agreement.CreateMake.{make-tree}
 use Rattle.rules.proofs.Tree.SetsOk.{SetsOk, child-below, children-once, not-own-child, root-no-child, tree-ext}
 use Rattle.rules.specs.Sets.{appendSet, withFirstChild, withNextSibling}
 use Rattle.rules.specs.State.{SetRecord, childrenOf, noSet, treeOf}

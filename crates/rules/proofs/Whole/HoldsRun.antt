@@ -1,18 +1,17 @@
--- DEMAND 3 ON STATES, by induction on the list of calls. Assumes nothing.
+-- The invariant after every list of calls from a format on, what plain store and tally give, and that the tables are well formed. Assumes nothing.
 use mathlib.Core.Bool.{true, true≢false}
 use mathlib.Core.List.{List, _∷_, []}
 use mathlib.Core.Path.{ap₂, refl, sym, _≡_}
 use Prim.Native.Nat.{_*_, ℕ, _≤_}
 use native.Mathlib.Omega.{arith}
 use Rattle.base.specs.Logic.{and-both}
-use Rattle.rules.proofs.Formed.BitsFormed.{bits-formed, blocks-formed, header-formed}
+use Rattle.rules.proofs.Formed.BitsFormed.{bits-formed, header-formed}
 use Rattle.rules.proofs.Formed.FilesFormed.{StateOk, state-formed}
 use Rattle.rules.proofs.Formed.FilesMapped.{unmap-formed}
 use Rattle.rules.proofs.Formed.FilesOfSets.{format-formed}
 use Rattle.rules.proofs.Whole.Holds.{Holds, holds-step}
-use Rattle.rules.proofs.Whole.HoldsMeans.{agrees-plain, agrees-tally, given-step}
+use Rattle.rules.proofs.Whole.HoldsMeans.{given-step}
 use Rattle.rules.proofs.Blocks.RealCalls.{fresh-free, kept-format}
-use Rattle.rules.proofs.Tree.SetsFormed.{sets-formed}
 use Rattle.rules.proofs.Tree.SetsOk.{format-same, format-sets}
 use Rattle.rules.specs.Agreement.{bothGiven, bothRun, storeGiven, storeRun}
 use Rattle.rules.specs.Calls.{Store, blankMemory, formatted, tablesOf, treeIn}
@@ -20,7 +19,6 @@ use Rattle.rules.specs.Numbers.{Call}
 use Rattle.rules.specs.Plain.{Plain, plainFormat}
 use Rattle.rules.specs.Sets.{rootAlone}
 use Rattle.rules.specs.State.{treeOf}
-use Rattle.rules.specs.StateTheorem.{StateTheorem}
 use Rattle.rules.specs.Storage.{real}
 use Rattle.rules.specs.Tally.{Tally, tallyFormat}
 use Rattle.rules.specs.WellFormed.{bitsFormed, blocksFormed, headerFormed, setsFormed}
@@ -70,15 +68,3 @@ module _ (B : ℕ) (least : 1 ≤ B) where
 
   pub holds-start : Holds B (formatted real (blankMemory B)) plainFormat (tallyFormat B)
   holds-start = format-holds B least
-
--- THEOREM
-pub state-theorem : (B : ℕ) → 1 ≤ B → B ≤ 4096 → (cs : List Call) → StateTheorem B cs
-state-theorem B least most cs =
-    let v = holds-run B least cs _ _ _ (holds-start B least) in
-    record {
-      blocks-formed = holds-blocks B least most _ _ _ v;
-      sets-formed = holds-sets B least most _ _ _ v;
-      plain = agrees-plain B _ _ _ v;
-      tally = agrees-tally B _ _ _ v;
-      given = given-run B least cs _ _ _ (holds-start B least);
-    }

