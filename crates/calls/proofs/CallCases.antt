@@ -1,4 +1,4 @@
--- The calls on bytes, case by case: tables that are not well formed, a refusal, and each accepted call. Assumes nothing.
+-- A call on bytes by its three cases: tables not well formed, refused, accepted. Assumes nothing.
 use mathlib.Core.Bool.{Bool, false, not, true, true≢false}
 use mathlib.Core.List.{List}
 use mathlib.Core.Path.{ap, refl, sym, _∙_, _≡_}

@@ -1,4 +1,4 @@
--- A listing visits every set of a well-formed store, and no buffer is written past what it holds. Assumes nothing.
+-- A listing visits every set of a well-formed store; a text written from a buffer's front on. Assumes nothing.
 use mathlib.Core.Bool.{true}
 use mathlib.Core.List.{_++_, List, List·Memᴰ, List·Memᴰ·head, List·Memᴰ·tail, append-nil, _∷_, []}
 use mathlib.Core.Path.{_≡_, ap, refl, subst, sym, _∙_}

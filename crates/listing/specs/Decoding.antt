@@ -13,7 +13,7 @@ use Rattle.listing.specs.declared.decoding.Decoded.{Decoded}
 use Rattle.listing.specs.declared.decoding.Fields.{Fields}
 use Rattle.listing.specs.declared.decoding.Decoded.the-variants as decoded
 
--- what 8 bytes ask for: a call with its op, or nothing that makes sense
+-- what the bytes of a call ask for: a call with its op, or bad
 pub data Request : Type 0 where
   bad : Request
   ask : ℕ → Call → Request

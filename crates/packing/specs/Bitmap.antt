@@ -1,5 +1,5 @@
 -- A map of bits in a list of bytes: it begins at byte `at`, and the most significant bit of each byte comes first. One bit is set or cleared,
--- a word of the map is its bits, and a byte of it is made of eight. Assumes nothing.
+-- a word of the map is its bits, and a byte of it is made of eight. A word adds its ones to the count of set bits. Assumes nothing.
 use mathlib.Core.Path.{_≡_, refl, sym, ap, ap₂, _∙_, subst, fun-ext}
 use mathlib.Core.Bool.{Bool, true, false}
 use mathlib.Core.Logic.{_≢_}

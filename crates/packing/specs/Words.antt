@@ -1,5 +1,5 @@
 -- A big-endian word at a byte offset of a list of bytes. The number m says its last byte: the word is the bytes at, .., at + m, so it has m + 1 of them.
--- The laws hold for every m; words of 16, 24, 32 and 64 bits have m = 1, 2, 3 and 7. Assumes nothing.
+-- The laws hold for every m; words of 16, 24, 32 and 64 bits have m = 1, 2, 3 and 7. A word whose first byte is the least significant is `lowWord`. Assumes nothing.
 use mathlib.Core.Path.{_≡_, refl, ap₂, _∙_}
 use mathlib.Core.Bool.{cond}
 use mathlib.Core.Logic.{_⊎_, inl, inr, ⊎-elim}

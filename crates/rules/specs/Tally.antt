@@ -76,11 +76,12 @@ module _ (t : Tree) where
   unfoldable pub tallySize : TallyFiles → ℕ → ℕ
   tallySize fs s = sizeIn fs (t .level s) s
 
-  -- has the file an unmapped page, being own or virgin: then it depends on the parent set's file
+  -- is one of the first n pages unmapped
   unfoldable pub anyUnmapped : ℕ → (ℕ → Kind) → Bool
   anyUnmapped zero m = false
   anyUnmapped (suc n) m = isUnmapped (m n) || anyUnmapped n m
 
+  -- an own or virgin file with an unmapped page depends on the parent set's file
   unfoldable pub dependsAbove : TallyFile → Bool
   dependsAbove x = live (x .state) && anyUnmapped pageCount (x .map)
 

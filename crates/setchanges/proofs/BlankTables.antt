@@ -21,7 +21,7 @@ use Rattle.rules.specs.Storage.{real}
 use Rattle.setchanges.proofs.Turning.{file-default}
 use Rattle.setchanges.specs.Changes.{putHeaderIn}
 use Rattle.tables.proofs.Codes.{header-word}
-use Rattle.tables.proofs.Fits.{file-in}
+use Rattle.tables.proofs.InRange.{file-in}
 use Rattle.tables.proofs.Kept.{bits-kept, files-kept, packed-kept, sets-kept}
 use Rattle.tables.proofs.Layouts.{header-zero, read-write-blocks, read-write-next, write-header-lt}
 use Rattle.tables.proofs.PackUnpack.{pack-unpack}

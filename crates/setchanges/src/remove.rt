@@ -74,7 +74,7 @@ fn past(link: usize, c: usize, next: usize) -> usize
     link
 }
 
-// The links of set x.
+// The links of set x to set c lead to set `next`.
 fn link_past(t: &mut [u8], x: usize, c: usize, next: usize)
     requires { ⌜ PackedTables (now t) × (x < 8) × (next < 16) ⌝ }
     ensures { λ _. ⌜ Turns (now (t .entry)) (now (t .exit)) (pastIn x c next) ⌝ }

@@ -13,7 +13,7 @@ use Rattle.packing.specs.Bitmap.{bits-same}
 use Rattle.packing.specs.Fields.{getField}
 use Rattle.packing.specs.Words.{Same, getWord, word-same}
 use Rattle.rules.specs.State.{File, fileCount, largestBlocks, pageCount, setCount}
-use Rattle.tables.proofs.Fits.{file-in, page-in}
+use Rattle.tables.proofs.InRange.{file-in, page-in}
 use Rattle.tables.proofs.ReadParts.{bit-default, map-default, read-bit, read-blocks, read-map, read-next, read-set, read-size, read-state, set-default, size-default, state-default}
 use Rattle.tables.specs.Layout.{bitmapAt, entryAt, entryWord, fileAt, headWidths, headWord, headerAt, headerWidths, headerWord, readBlocks, readEntry, readNext, readSet, readSize, readState, setAt, setWidths, setWord}
 use Rattle.tables.specs.Packed.{entryFormed, isFile, isPage, unpack}

@@ -1,4 +1,4 @@
-pub mod Fits
+pub mod InRange
 pub mod Layouts
 pub mod PackedTables
 pub mod ReadParts

@@ -11,7 +11,7 @@ use Rattle.base.specs.Tabulate.{tab-of}
 use Rattle.packing.specs.Bitmap.{bitAt, map-byte, map-same}
 use Rattle.packing.specs.Words.{Bytes, byte, get-lt, word-byte}
 use Rattle.rules.specs.State.{Tables, fileCount, largestBlocks, pageCount, setCount}
-use Rattle.tables.proofs.Fits.{file-in, page-in}
+use Rattle.tables.proofs.InRange.{file-in, page-in}
 use Rattle.tables.proofs.Layouts.{entry-formed, head-zero, header-zero, read-blocks-fits, read-entry-fits, read-next-fits, read-set-fits, read-size-fits, read-write-blocks, read-write-entry, read-write-next, read-write-set, read-write-size, read-write-state, set-zero, write-read-entry, write-read-head, write-read-header, write-read-set}
 use Rattle.tables.proofs.PackWords.{at-entry, at-head, at-header, at-map, at-set, bit-packed, entry-packed, head-packed, header-packed, length-pack, set-packed}
 use Rattle.tables.proofs.ReadParts.{bit-default, map-default, read-bit, read-blocks, read-map, read-next, read-set, read-size, read-state, set-default, size-default, state-default}
@@ -95,8 +95,6 @@ at-places P header bits sets heads entries i h =
     test? (ltb j 4) (λ e. let l = ltb-true j 4 e in subst P (omega arith) (heads (n % 16) (n / 16) j (omega arith) (omega arith) (omega arith)))
     (λ e₄. let l₄ = ltb-false j 4 e₄ in
     subst P (omega arith) (entries (n % 16) (n / 16) ((j - 4) / 2) ((j - 4) % 2) (omega arith) (omega arith) (omega arith) (omega arith))))))
-
--- ---- the tables of a state are bytes
 
 -- ---- tables, their state and its tables
 

@@ -1,4 +1,4 @@
--- The words of the tables of a state, by place, are those written of the state; so the state of the tables of a state that fits is that state. Assumes nothing.
+-- The bytes and the words of the tables of a state, by place, are those written of the state. Assumes nothing.
 use mathlib.Core.Path.{ap, _∙_, _≡_}
 use Prim.Native.Nat.{_%_, _*_, _+_, _-_, _/_, _<_, ℕ, _≤_}
 use native.Mathlib.Omega.{arith}

@@ -6,7 +6,7 @@ use Prim.Native.Nat.{_<_, ℕ, _≤_}
 use borrow.Author.Tests.{le-ltb, lt-ltb}
 use Rattle.packing.specs.Bitmap.{bitAt}
 use Rattle.rules.specs.State.{absent, fileCount, largestBlocks, pageCount, setCount, unmapped, unusedSet}
-use Rattle.tables.proofs.Fits.{is-file, is-page}
+use Rattle.tables.proofs.InRange.{is-file, is-page}
 use Rattle.tables.specs.Layout.{bitmapAt, entryWord, headWord, headerWord, readBlocks, readEntry, readNext, readSet, readSize, readState, setWord}
 use Rattle.tables.specs.Packed.{isFile, isPage, unpack}
 

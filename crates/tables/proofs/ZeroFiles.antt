@@ -12,7 +12,7 @@ use Rattle.base.specs.Logic.{same?, test?}
 use Rattle.packing.specs.Fields.{getField}
 use Rattle.packing.specs.Words.{Bytes, get-lt, getWord}
 use Rattle.rules.specs.State.{absent, absentFile, fileCount, pageCount, setCount, unmapped, unusedSet}
-use Rattle.tables.proofs.Fits.{page-in}
+use Rattle.tables.proofs.InRange.{page-in}
 use Rattle.tables.proofs.Layouts.{write-read-entry, write-read-head}
 use Rattle.tables.proofs.ReadParts.{map-default, read-map, read-size, read-state}
 use Rattle.tables.specs.Layout.{entryAt, entryWord, fileAt, headWidths, headWord, headerWidths, readBlocks, readEntry, readNext, readSet, readSize, readState, setWidths, writeEntry, writeHead}

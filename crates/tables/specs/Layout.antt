@@ -43,7 +43,7 @@ headWidths = 2 ∷ 16 ∷ 14 ∷ []
 abbrev pub entryWidths : List ℕ
 entryWidths = 2 ∷ 14 ∷ []
 
--- The words, by place. Bytes are counted to the last: 1, 2, 3 are words of 16, 24, 32 bits.
+-- The words, by place. The first argument of getWord is the number of the word's last byte: 1, 2, 3 for words of 16, 24, 32 bits.
 abbrev pub headerWord : List ℕ → ℕ
 headerWord t = getWord 3 t headerAt
 

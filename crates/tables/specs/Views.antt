@@ -55,7 +55,7 @@ pub record Turns (t t′ : List ℕ) (op : Tables → Tables) : Type 0 where
   pub view : unpack t′ ≡ op (unpack t)
   pub packed : PackedTables t′
 
--- block count and next start make sense
+-- B is 1 to 4,096, next start is below B
 pub record HeaderIn (tb : Tables) : Type 0 where
   pub at-least : 1 ≤ tb .blocks
   pub most : tb .blocks ≤ largestBlocks

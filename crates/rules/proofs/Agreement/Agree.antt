@@ -1,4 +1,4 @@
--- The plain store's files, and what it means that the model agrees with them. The write.
+-- The plain store's files, and what it means that the model agrees with them. The write. Assumes nothing.
 use mathlib.Core.Bool.{_&&_, Bool, cond, true}
 use mathlib.Core.List.{_++_, List, List·Memᴰ, List·Memᴰ·cases-cons, List·Memᴰ·head, List·Memᴰ·tail, []}
 use mathlib.Core.Logic.{⊎-elim}

@@ -1,4 +1,4 @@
--- Any change of one file over the model: the write, and both truncates.
+-- Any change of one file over the model: the write, and both truncates. Assumes nothing.
 use mathlib.Core.Bool.{false}
 use mathlib.Core.List.{List, List·Memᴰ, List·Memᴰ·head, List·Memᴰ·tail, _∷_}
 use mathlib.Core.Logic.{⊎-elim}

@@ -1,4 +1,4 @@
--- The delete over the model.
+-- The delete over the model. Assumes nothing.
 use mathlib.Core.Bool.{Bool, false, true, true≢false}
 use mathlib.Core.List.{List, List·Memᴰ}
 use mathlib.Core.Option.{Option, none}

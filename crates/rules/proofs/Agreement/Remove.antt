@@ -1,4 +1,4 @@
--- Removing a set over the model.
+-- Removing a set over the model. Assumes nothing.
 use mathlib.Core.Bool.{Bool, cond, false, true}
 use mathlib.Core.List.{List, List·Memᴰ, List·Memᴰ·cases-cons, List·Memᴰ·head, List·Memᴰ·tail, _∷_, []}
 use mathlib.Core.Logic.{inl, inr, _⊎_, ⊎-elim}

@@ -1,4 +1,4 @@
--- The truncate over the model agrees with the plain store.
+-- The truncate over the model agrees with the plain store. Assumes nothing.
 use mathlib.Core.Bool.{_&&_, Bool, cond, false, not, true, true≢false}
 use mathlib.Core.List.{List, List·Memᴰ, List·Memᴰ·cases-cons, List·Memᴰ·head, _∷_, []}
 use mathlib.Core.Logic.{⊎-elim}

@@ -1,4 +1,4 @@
--- When one child's turn of step 4 marks a file, in the words of document 01, of the tally. Assumes nothing.
+-- When one child's turn of step 4 marks a file: on the tally, in document 01's words. Assumes nothing.
 use mathlib.Core.Bool.{_&&_, Bool, false, true, true≢false, _||_}
 use mathlib.Core.List.{List·Memᴰ}
 use mathlib.Core.Logic.{inl, inr, _↔_, _⊎_, ⊎-elim}

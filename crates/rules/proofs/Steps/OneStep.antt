@@ -1,4 +1,4 @@
--- What one step does to the files of one number: who stays alive, what they read, and their sizes.
+-- What one step does to the files of one number: who stays alive, what they read, and their sizes. Assumes nothing.
 use mathlib.Core.Bool.{Bool, cond, false, true, true≢false}
 use mathlib.Core.List.{List·Memᴰ}
 use mathlib.Core.Option.{none, some}

@@ -1,4 +1,4 @@
--- One step of step 4 (a page, a child), over the model, where an entry holds its bytes; and the loops.
+-- One turn of step 4 (a page, a child), over the model, where an entry holds its bytes; and the loops. Assumes nothing.
 use mathlib.Core.Bool.{_&&_, Bool, false, true}
 use mathlib.Core.List.{List, List·Memᴰ, List·Memᴰ·head, List·Memᴰ·tail, _∷_, []}
 use mathlib.Core.Option.{some}

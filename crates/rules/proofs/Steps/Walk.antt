@@ -37,7 +37,7 @@ module _ {X Y : Type 0} (par : ℕ → ℕ) (look : X → Option Y) (d : Y) (col
         (λ q. subst (λ x. walk par look d (suc n) col′ x ≡ walk par look d (suc n) col x) q (walk-fill-at (suc n) (ap lvl q ∙ e)))
         (λ q. rw (others s q) (pick-eq (look (col s)) _ _ (λ _. walk-fill n (par s) (lower s n e))))
 
--- The same with other links: a region in which what nothing is shown links alike.
+-- The same with other parents: in the region, a set that shows nothing has the same parent in both.
 module _ {X Y : Type 0} (par par′ : ℕ → ℕ) (look : X → Option Y) (d : Y) (col col′ : ℕ → X) (Q : ℕ → Type 0) (same : (s : ℕ) → Q s → look (col′ s) ≡ look (col s))
     (links : (s : ℕ) → Q s → par′ s ≡ par s) (up : (s : ℕ) → Q s → look (col s) ≡ none → Q (par s)) where
   pub walk-move : (n s : ℕ) → Q s → walk par′ look d n col′ s ≡ walk par look d n col s

@@ -1,4 +1,4 @@
--- The rules see only kinds: every rule on the files commutes with a map of the blocks.
+-- The rules see only kinds: every rule on the files commutes with a map of the blocks. Assumes nothing.
 use mathlib.Core.Bool.{Bool, cond, false, true}
 use mathlib.Core.Path.{ap, fun-ext, refl, sym, _∙_, _≡_}
 use Prim.Native.Nat.{suc, zero, ℕ}

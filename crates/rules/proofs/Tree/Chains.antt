@@ -75,7 +75,7 @@ module _ (sets : ℕ → SetRecord) where
       let r = length-chain n (sets k .nextSibling) in
       test? (ltb k 8) (λ e. rw e (omega arith)) (λ e. rw e (omega arith))
 
-  -- the fuel is enough
+  -- n sets are enough for the chain
   pub chain-is : (xs : List ℕ) (n k : ℕ) → length xs ≤ n → Follows sets xs k → chain sets n k ≡ xs
   unfolding chain
   chain-is [] zero k l f = refl

@@ -1,4 +1,4 @@
--- In range and out of range, by test. Assumes nothing.
+-- Numbers of files and pages in range: the test from the bounds, and back. Assumes nothing.
 use mathlib.Core.Bool.{true}
 use mathlib.Core.Path.{_≡_}
 use Prim.Native.Nat.{_<_, ℕ}
