@@ -2,6 +2,7 @@
 use mathlib.Core.Path.{_≡_, refl, sym, _∙_, ap, subst}
 use mathlib.Core.Bool.{Bool, true, false, cond, not, _&&_, true≢false}
 use Prim.Native.Nat.{ℕ, zero, suc, _+_, _≤_, _<_}
+use native.Mathlib.Numerals.{add-one}
 use native.Mathlib.Omega.{arith}
 use Rattle.base.specs.Logic.{test?, same?, and-left, and-right, and-both}
 use Rattle.base.specs.Update.{upd, upd-same, upd-other}
@@ -49,6 +50,13 @@ pub count-none : (n : ℕ) (f : ℕ → Bool) → ((x : ℕ) → x < n → f x �
 unfolding count
 count-none zero f h = refl
 count-none (suc n) f h = rw (h n (omega arith)) (omega (arith, count-none n f (λ x l. h x (omega arith))))
+
+-- what passes nowhere from m on is counted below m
+pub count-cut : (n m : ℕ) (f : ℕ → Bool) → m ≤ n → ((b : ℕ) → m ≤ b → f b ≡ false) → count n f ≡ count m f
+unfolding count
+count-cut zero m f l h = let e : 0 ≡ m = omega arith in ap (λ k. count k f) e
+count-cut (suc n) m f l h =
+    same? m (suc n) (λ e. ap (λ k. count k f) (sym e)) (λ d. rw (h n (omega arith)) (omega (arith, count-cut n m f (omega arith) h)))
 
 -- every one passes
 pub count-all : (n : ℕ) (f : ℕ → Bool) → ((x : ℕ) → x < n → f x ≡ true) → count n f ≡ n
@@ -103,6 +111,10 @@ all-more n f = refl
 pub all-none : (f : ℕ → Bool) → all 0 f ≡ true
 unfolding all
 all-none f = refl
+
+-- one number more has passed
+pub all-next : (f : ℕ → Bool) (n : ℕ) → all n f ≡ true → f n ≡ true → all (n + 1) f ≡ true
+all-next f n h k = rw (add-one, all-more) (and-both (f n) (all n f) k h)
 
 -- one that fails
 pub all-not : (n : ℕ) (f : ℕ → Bool) (x : ℕ) → x < n → f x ≡ false → all n f ≡ false

@@ -120,3 +120,15 @@ module _ (n : ℕ) (used : ℕ → Bool) where
       (λ h. let h′ = leb-false b (r .0) h in
       search-found n b (r .0 + n - b) low (omega arith)
       (ap used (ap (λ x. x % n) (let z : b + (r .0 + n - b) ≡ r .0 + n = omega arith in z) ∙ add-mod-right (r .0) n ∙ mod-eq-of-lt l) ∙ e))
+
+-- ---- two functions that agree below a limit
+
+search-same : (k n : ℕ) (f g : ℕ → Bool) (b : ℕ) → b < n → ((c : ℕ) → c < n → g c ≡ f c) → searchFrom k n g b ≡ searchFrom k n f b
+unfolding searchFrom
+search-same zero n f g b l h = refl
+search-same (suc k) n f g b l h = rw (h b l, search-same k n f g ((b + 1) % n) (mod-lt (b + 1) (omega arith)) h)
+
+-- LAW: the first free number depends on the numbers below the limit alone
+pub first-same : (n : ℕ) (f g : ℕ → Bool) (b : ℕ) → b < n → ((c : ℕ) → c < n → g c ≡ f c) → firstFree n g b ≡ firstFree n f b
+unfolding firstFree
+first-same n f g b l h = search-same n n f g b l h

@@ -36,6 +36,17 @@ module _ {A : Type 0} where
       (λ e. subst (λ x. P (upd f i v x)) e (subst P (sym (upd-same f i v)) a))
       (λ n. subst P (sym (upd-other f i v j n)) (b j))
 
+  -- a function with one value changed is known by its values
+  pub upd-is : (g g′ : ℕ → A) (i : ℕ) (v : A) → g′ i ≡ v → ((j : ℕ) → (i ≡ j → ⊥) → g′ j ≡ g j) → g′ ≡ upd g i v
+  upd-is g g′ i v here other = fun-ext (λ j. same? i j
+      (λ e. subst (λ x. g′ x ≡ upd g i v x) e (here ∙ sym (upd-same g i v)))
+      (λ n. other j n ∙ sym (upd-other g i v j n)))
+
+-- the same of two arguments
+pub upd-in : {A : Type 0} (g g′ : ℕ → ℕ → A) (i j : ℕ) (v : A) → g′ i j ≡ v → ((x y : ℕ) → (i ≡ x → j ≡ y → ⊥) → g′ x y ≡ g x y) → g′ ≡ upd g i (upd (g i) j v)
+upd-in g g′ i j v here other =
+    upd-is g g′ i (upd (g i) j v) (upd-is (g i) (g′ i) j v here (λ y n. other i y (λ _. n))) (λ x n. fun-ext (λ y. other x y (λ e _. n e)))
+
 module _ {A B : Type 0} where
   -- what the changed value shares with the old one, every value shares
   pub upd-keeps : (g : A → B) (f : ℕ → A) (i : ℕ) (v : A) → g v ≡ g (f i) → (j : ℕ) → g (upd f i v j) ≡ g (f j)

@@ -1,13 +1,12 @@
 -- Format on bytes, case by case. Assumes nothing.
-use mathlib.Core.Bool.{_&&_, Bool, cond, false, not, true, true≢false}
+use mathlib.Core.Bool.{Bool, cond, false, not, true, true≢false}
 use mathlib.Core.List.{List, []}
 use mathlib.Core.Path.{ap, refl, sym, _∙_, _≡_}
 use Prim.Native.Nat.{_%_, _*_, _/_, _<_, ℕ, _≤_}
 use native.Mathlib.Omega.{arith}
-use lib.Dec.{eqb, leb}
+use lib.Dec.{leb}
 use lib.ListN.{length}
-use borrow.Author.Tests.{eq-eqb, eqb-true, le-leb, leb-true, lt-leb, ne-eqb}
-use Rattle.base.specs.Logic.{and-left, and-right}
+use borrow.Author.Tests.{eq-eqb, le-leb, lt-leb, ne-eqb}
 use Rattle.base.specs.Tabulate.{tab-of}
 use Rattle.calls.specs.Outcomes.{answerMeant, outcome}
 use Rattle.pages.specs.Run.{length-zeroed, zeroed, zeroed-in}
@@ -17,6 +16,7 @@ use Rattle.rules.specs.Storage.{real}
 use Rattle.tables.specs.Calls.{acceptedOn, callOn, formatLengths, lookedAt, outcomeOf, packPages}
 use Rattle.tables.specs.Packed.{pack}
 use Rattle.calls.specs.declared.answer.Answer as declared
+use Rattle.tables.proofs.Lengths.{lengths-in}
 
 -- lengths that do not fit: number 1, and nothing changed
 pub format-refused : (t p : List ℕ) → formatLengths (length t) (length p) ≡ false → callOn format t p ≡ lookedAt (refusal 1) t p []
@@ -29,23 +29,6 @@ unfolding packPages
 zero-pages p n h =
     tab-of 0 (n * 512) (λ i. 0) (zeroed p 0 (length p)) (length-zeroed p 0 (length p) ∙ h)
     (λ i k. zeroed-in p 0 (length p) i (omega arith) (omega (arith, h)) (omega arith))
-
--- the pages of lengths that fit are whole
-pub lengths-whole : (n m : ℕ) → formatLengths n m ≡ true → m ≡ m / 512 * 512
-unfolding formatLengths
-lengths-whole n m h =
-    let a = and-left (eqb n 17436 && eqb (m % 512) 0 && leb 512 m) (leb m 2097152) h in
-    let b = and-left (eqb n 17436 && eqb (m % 512) 0) (leb 512 m) a in
-    let c = eqb-true (m % 512) 0 (and-right (eqb n 17436) (eqb (m % 512) 0) b) in
-    omega (arith, c)
-
-pub lengths-in : (n m : ℕ) → formatLengths n m ≡ true → (n ≡ 17436) × (m / 512 ≤ 4096)
-unfolding formatLengths
-lengths-in n m h =
-    let a = and-left (eqb n 17436 && eqb (m % 512) 0 && leb 512 m) (leb m 2097152) h in
-    let b = and-left (eqb n 17436 && eqb (m % 512) 0) (leb 512 m) a in
-    let c = leb-true m 2097152 (and-right (eqb n 17436 && eqb (m % 512) 0 && leb 512 m) (leb m 2097152) h) in
-    (eqb-true n 17436 (and-left (eqb n 17436) (eqb (m % 512) 0) b), omega (arith, c))
 
 -- LAWS: the test of the lengths, one after another
 pub lengths-tables : (n m : ℕ) → (n ≡ 17436 → ⊥) → false ≡ formatLengths n m
@@ -70,7 +53,7 @@ pub format-accepted : (t p t′ : List ℕ) → formatLengths (length t) (length
     → callOn format t p ≡ lookedAt noCounts t′ (zeroed p 0 (length p)) []
 unfolding callOn outcomeOf numberOf conditions lowest acceptedOn accepted formatted
 format-accepted t p t′ h e =
-    let w = lengths-whole (length t) (length p) h in
+    let w = lengths-in (length t) (length p) h .1 in
     ap (λ (b : Bool). outcomeOf (cond (not b) 1 0) format t p) h
     ∙ (λ i. lookedAt noCounts (sym e i) (zero-pages p (length p / 512) w i) [])
 
@@ -82,7 +65,7 @@ refused-as r t p false a h n = ap (λ (x : Answer). lookedAt x t p []) a ∙ sym
 
 -- the tables and the pages can be written
 pub format-fits : (n m : ℕ) (b : Bool) → b ≡ formatLengths n m → not b ≡ false → (n ≡ 17436) × (m / 512 ≤ 4096)
-format-fits n m true h k = lengths-in n m (sym h)
+format-fits n m true h k = let l = lengths-in n m (sym h) in (l .0, l .3)
 format-fits n m false h k = absurd (true≢false k)
 
 pub accepted-as : (r : declared.Answer) (t p t′ p′ : List ℕ) (b : Bool) → answerMeant r ≡ refusal 0 → b ≡ formatLengths (length t) (length p) → not b ≡ false

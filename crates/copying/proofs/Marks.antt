@@ -9,7 +9,7 @@ use lib.Dec.{eqb, ltb}
 use borrow.Author.Tests.{eqb-true, le-ltb, lt-ltb, ltb-false, ltb-true, ne-eqb}
 use Rattle.base.specs.Count.{count, count-le}
 use Rattle.base.specs.Logic.{and-left, digit, same?, test?}
-use Rattle.base.specs.Update.{upd, upd-same, upd-self, upd-upd}
+use Rattle.base.specs.Update.{upd, upd-is, upd-same, upd-self, upd-upd}
 use Rattle.copying.proofs.Kept.{changed, sound-files}
 use Rattle.copying.specs.Changes.{MarkedBy, markIf, markTo, marksDown, reached}
 use Rattle.copying.specs.Work.{Ready, Step, memoryOf}
@@ -20,7 +20,6 @@ use Rattle.rules.specs.Reading.{dependent, dependsOn, reaches}
 use Rattle.rules.specs.Rules.{mark, markDown, markFile}
 use Rattle.rules.specs.State.{File, Files, SetRecord, Tables, Tree, live, marked, treeOf}
 use Rattle.rules.specs.Storage.{real}
-use Rattle.tables.proofs.Kept.{upd-is}
 use Rattle.tables.proofs.ReadParts.{set-default}
 use Rattle.tables.specs.Calls.{pagesOf}
 use Rattle.tables.specs.Packed.{unpack}

@@ -12,8 +12,8 @@ use Rattle.base.specs.Count.{all, all-at, all-of, count, sum}
 use Rattle.base.specs.Logic.{and-both, and-left, and-right, digit, test?}
 use Rattle.entrycheck.proofs.Counts.{Counts, digit-most, digit-same, entry-counts, through-counts}
 use Rattle.entrycheck.specs.Marking.{Seen, entriesFormed, formedBy, markAll, markEntry, markFile, markNumber, noneSeen, same-bits-at, same-bits-of, sameBits}
-use Rattle.rules.proofs.Formed.BitsFormed.{all-files-at, all-files-of}
 use Rattle.rules.proofs.Blocks.Sums.{count-sum, sum-same, sum-zero}
+use Rattle.rules.proofs.Formed.Tests.{files-at, files-of}
 use Rattle.rules.specs.WellFormed.{allFiles, allPages, bitsFormed, blockBelow, names, timesNamed}
 use Rattle.tables.proofs.ReadParts.{read-map}
 use Rattle.tables.specs.Layout.{entryWord, readEntry}
@@ -80,11 +80,11 @@ module _ (t : List ℕ) where
       let at : (f s p : ℕ) → f < 16 → s < 8 → p < 64 → good limit f s p ≡ true =
       (λ f s p lf ls lp. all-at 64 (good limit f s) (all-at 8 (λ s. all 64 (good limit f s)) (all-at 16 (λ f. all 8 (λ s. all 64 (good limit f s))) (r .0) f lf) s ls) p lp) in
       and-both _ _
-      (all-files-of _ (λ f s lf ls. all-of 64 _ (λ p lp. and-left (entryFormed [] (entryWord t f s p)) _ (at f s p lf ls lp))))
+      (files-of _ (λ f s lf ls. all-of 64 _ (λ p lp. and-left (entryFormed [] (entryWord t f s p)) _ (at f s p lf ls lp))))
       (and-both _ _
       (all-of 4096 _ (λ b l. eq-eqb (timesNamed (unpack t) b) (digit (unpack t .bits b))
       (times-named b ∙ sym (r .1 b ∙ zero-add _) ∙ ap digit (same-bits-at t x h b l))))
-      (all-files-of _ (λ f s lf ls. all-of 64 _ (λ p lp.
+      (files-of _ (λ f s lf ls. all-of 64 _ (λ p lp.
       ap (blockBelow limit) (read-map t f s p lf ls lp) ∙ and-right (entryFormed [] (entryWord t f s p)) _ (at f s p lf ls lp)))))
 
   -- ---- from the rules to the pass
@@ -95,8 +95,8 @@ module _ (t : List ℕ) where
     all-good =
         all-of 16 _ (λ f lf. all-of 8 _ (λ s ls. all-of 64 _ (λ p lp.
         and-both (entryFormed [] (entryWord t f s p)) _
-        (all-at 64 _ (all-files-at _ kinds f s lf ls) p lp)
-        (ap (blockBelow limit) (sym (read-map t f s p lf ls lp)) ∙ all-at 64 _ (all-files-at _ (and-right (all 4096 _) _ bits) f s lf ls) p lp))))
+        (all-at 64 _ (files-at _ kinds f s lf ls) p lp)
+        (ap (blockBelow limit) (sym (read-map t f s p lf ls lp)) ∙ all-at 64 _ (files-at _ (and-right (all 4096 _) _ bits) f s lf ls) p lp))))
 
     named-is : (b : ℕ) → b < 4096 → sum 16 (λ f. sum 8 (λ s. sum 64 (λ p. hit b f s p))) ≡ digit (unpack t .bits b)
     unfolding bitsFormed

@@ -23,8 +23,9 @@ use Rattle.rules.proofs.Tree.SetsOk.{SetsOk, used-below}
 use Rattle.rules.proofs.Formed.Tests.{all-4, and-4, and-5, files-at, files-of, not-of, not-then}
 use Rattle.rules.specs.State.{SetRecord, isAbsent}
 use Rattle.rules.specs.WellFormed.{aboveFormed, allFiles, bitsFormed, filesFormed, headerFormed, pastFormed, rootFileFormed, sizeFormed, virginFormed, zeroFile}
-use Rattle.setcheck.proofs.Rules.{header-in, records-sets, well-formed-parts}
+use Rattle.setcheck.proofs.Rules.{records-sets, well-formed-parts}
 use Rattle.setcheck.specs.Records.{fileRecordsFormed, headerZero, setRecordsFormed}
+use Rattle.tables.proofs.FormedStore.{header-in}
 use Rattle.tables.specs.Layout.{headWidths, headWord, tableBytes}
 use Rattle.tables.specs.Packed.{kindsFormed, unpack, wellFormed}
 
@@ -180,7 +181,7 @@ sets-falling t s e h = falling (unpack t .sets) (records-sets t (sym e ∙ not-f
 
 -- LAW: where the header passes
 pub blocks-most : (t : List ℕ) (n : ℕ) (h : Bool) → h ≡ headerFormed (unpack t) n → not h ≡ false → unpack t .blocks ≤ 4096
-blocks-most t n h e k = header-in (unpack t) n (sym e ∙ not-false h k) .most
+blocks-most t n h e k = header-in (unpack t) n (sym e ∙ not-false h k) .0 .most
 
 -- ---- the whole check
 module _ (t : List ℕ) (n : ℕ) where

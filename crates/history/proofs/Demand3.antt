@@ -1,13 +1,11 @@
 -- DEMAND 3 on bytes: the image goes with the store, call by call. Assumes nothing.
-use mathlib.Core.Bool.{_&&_, Bool, true}
+use mathlib.Core.Bool.{Bool, true}
 use mathlib.Core.List.{List, _∷_, []}
 use mathlib.Core.Path.{ap, ap₂, refl, subst, sym, _∙_, _≡_}
 use Prim.Native.Nat.{_%_, _*_, _/_, suc, zero, ℕ, _≤_}
 use native.Mathlib.Omega.{arith}
-use lib.Dec.{eqb, leb}
 use lib.ListN.{length}
-use borrow.Author.Tests.{eqb-true, le-leb, leb-true}
-use Rattle.base.specs.Logic.{and-left, and-right}
+use borrow.Author.Tests.{le-leb}
 use Rattle.history.proofs.Image.{image-formed, image-length, image-store, imageOf}
 use Rattle.history.specs.Demand3.{Demand3, Image, after, afterAll, bothAfter, gave, gaveAll, imageAfter}
 use Rattle.rules.proofs.Whole.Holds.{Holds, holds-step}
@@ -20,22 +18,11 @@ use Rattle.rules.specs.Numbers.{Call, Look, View, bytesAsked, conditions, creat
 use Rattle.rules.specs.Plain.{Plain}
 use Rattle.rules.specs.Storage.{Memory, real}
 use Rattle.rules.specs.Tally.{Tally}
+use Rattle.tables.proofs.Lengths.{lengths-in}
 use Rattle.tables.proofs.PackWords.{length-pack}
 use Rattle.tables.specs.Calls.{Outcome, acceptedOn, bufferIn, callOn, formatLengths, freshOf, lookedAt, outcomeOf, repacked, storeOf, viewOn}
 use Rattle.tables.specs.Layout.{tableBytes}
 use Rattle.tables.specs.Packed.{wellFormed}
-
--- lengths that a format accepts: the right tables, and pages of 1 to 4,096 blocks
-lengths-in : (n m : ℕ) → formatLengths n m ≡ true → (n ≡ tableBytes) × (m ≡ m / 512 * 512) × (1 ≤ m / 512) × (m / 512 ≤ 4096)
-unfolding formatLengths
-lengths-in n m h =
-    let a = and-left (eqb n tableBytes && eqb (m % 512) 0 && leb 512 m) (leb m 2097152) h in
-    let b = and-left (eqb n tableBytes && eqb (m % 512) 0) (leb 512 m) a in
-    let p = eqb-true n tableBytes (and-left (eqb n tableBytes) (eqb (m % 512) 0) b) in
-    let q = eqb-true (m % 512) 0 (and-right (eqb n tableBytes) (eqb (m % 512) 0) b) in
-    let x = leb-true 512 m (and-right (eqb n tableBytes && eqb (m % 512) 0) (leb 512 m) a) in
-    let y = leb-true m 2097152 (and-right (eqb n tableBytes && eqb (m % 512) 0 && leb 512 m) (leb m 2097152) h) in
-    (p, omega arith, omega arith, omega arith)
 
 lengths-of : (B : ℕ) → 1 ≤ B → B ≤ 4096 → formatLengths tableBytes (B * 512) ≡ true
 unfolding formatLengths

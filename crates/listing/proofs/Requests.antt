@@ -1,5 +1,5 @@
 -- Requests: tests of fields, and copies of a byte. Assumes nothing.
-use mathlib.Core.Bool.{_&&_, Bool, cond, false, true}
+use mathlib.Core.Bool.{Bool, cond}
 use mathlib.Core.List.{List, _∷_}
 use mathlib.Core.Path.{ap, refl, _∙_, _≡_}
 use Prim.Native.Nat.{_%_, _/_, _<_, suc, zero, ℕ, _≤_}
@@ -7,10 +7,6 @@ use native.Mathlib.Omega.{arith}
 use lib.ListN.{replicate, take}
 use Rattle.listing.specs.Decoding.{Request, allZero, ask, bad, copies, unless}
 use Rattle.rules.specs.Numbers.{Call}
-
-pub and-true : (b : Bool) → b ≡ (b && true)
-and-true true = refl
-and-true false = refl
 
 take-same : (k n v : ℕ) → n ≤ k → take n (replicate k v) ≡ replicate n v
 take-same k zero v h = refl

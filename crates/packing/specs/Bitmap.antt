@@ -10,6 +10,7 @@ use native.Mathlib.Nat.{add-zero, add-suc}
 use native.Mathlib.Omega.{arith}
 use lib.Arith.{lt-one}
 use lib.Bits.{bitOr, bitAnd, or-zero-r, and-zero-r}
+use lib.Dec.{eqb}
 use lib.Count.{ones, ones-cat, ones-step}
 use lib.ListN.{length, getD, set, length-set}
 use lib.Pow.{pow-lt}
@@ -51,6 +52,12 @@ Digits f base k x = (j : ℕ) → j < k → isOne (bit x (k - 1 - j)) ≡ f (bas
 pub digit-lt : (b : Bool) → digit b < 2
 digit-lt true = omega arith
 digit-lt false = omega arith
+
+-- a digit is compared with 1
+pub is-one : (d : ℕ) → d < 2 → eqb d 1 ≡ isOne d
+is-one zero h = refl
+is-one (suc zero) h = refl
+is-one (suc (suc d)) h = absurd (omega arith)
 
 pub digit-one : (x : ℕ) → x < 2 → digit (isOne x) ≡ x
 digit-one zero h = refl

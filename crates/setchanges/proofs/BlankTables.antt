@@ -18,9 +18,9 @@ use Rattle.rules.specs.Calls.{blankMemory, formatted, tablesOf}
 use Rattle.rules.specs.Sets.{rootAlone}
 use Rattle.rules.specs.State.{SetRecord, Tables, absentFile, largestBlocks, noSet, setCount, unusedSet}
 use Rattle.rules.specs.Storage.{real}
-use Rattle.setchanges.proofs.Turning.{file-default}
 use Rattle.setchanges.specs.Changes.{putHeaderIn}
 use Rattle.tables.proofs.Codes.{header-word}
+use Rattle.tables.proofs.FormedStore.{absent-default}
 use Rattle.tables.proofs.InRange.{file-in}
 use Rattle.tables.proofs.Kept.{bits-kept, files-kept, packed-kept, sets-kept}
 use Rattle.tables.proofs.Layouts.{header-zero, read-write-blocks, read-write-next, write-header-lt}
@@ -63,7 +63,7 @@ module _ (t : List ℕ) (len : length t ≡ tableBytes) (zeros : (i : ℕ) → g
   blank-file : (f s : ℕ) → unpack t .files f s ≡ absentFile
   blank-file f s = test? (isFile f s)
       (λ e. let l = file-in f s e in file-zero t f s (l .0) (l .1) (λ j k. zeros (fileAt f s + j)))
-      (λ e. file-default t f s e)
+      (λ e. absent-default t f s e)
 
   blank-view : unpack t ≡ blankTables
   blank-view =

@@ -8,12 +8,12 @@ use native.Mathlib.Omega.{arith}
 use lib.Dec.{ltb}
 use borrow.Author.Tests.{le-ltb, lt-ltb, ltb-false, ltb-true}
 use Rattle.base.specs.Logic.{test?}
-use Rattle.base.specs.Update.{upd, upd-self}
+use Rattle.base.specs.Update.{upd, upd-is, upd-self}
 use Rattle.rules.specs.Sets.{childFile, childState}
 use Rattle.rules.specs.State.{File, Files, State, Tables, absentFile, fileCount}
-use Rattle.setchanges.proofs.Turning.{file-default, files-same, turns-as, turns-more, turns-start}
 use Rattle.setchanges.specs.Changes.{appendedIn, childFilesIn, madeIn}
-use Rattle.tables.proofs.Kept.{upd-is}
+use Rattle.tables.proofs.FormedStore.{absent-default}
+use Rattle.tables.proofs.Operations.{files-same, turns-as, turns-more, turns-start}
 use Rattle.tables.specs.Packed.{unpack}
 use Rattle.tables.specs.Views.{PackedTables, Turns, putFiles, putHead, putHeadIn}
 
@@ -68,7 +68,7 @@ module _ (s c : ℕ) (tb : Tables) where
 
 -- files past the last number
 pub past-last : (t : List ℕ) (f : ℕ) → fileCount ≤ f → (x : ℕ) → unpack t .files f x ≡ absentFile
-past-last t f l x = file-default t f x (rw (le-ltb f fileCount l))
+past-last t f l x = absent-default t f x (rw (le-ltb f fileCount l))
 
 -- LAWS of the loop
 module _ {t₀ : List ℕ} (s c : ℕ) where

@@ -9,16 +9,15 @@ use native.Mathlib.Omega.{arith}
 use lib.Dec.{ltb}
 use borrow.Author.Tests.{le-ltb, lt-ltb, ltb-false, ltb-true}
 use Rattle.base.specs.Logic.{test?}
-use Rattle.base.specs.Update.{upd, upd-self}
+use Rattle.base.specs.Update.{upd, upd-is, upd-self}
+use Rattle.rules.proofs.Tally.TallyLoops.{from-last, from-none}
 use Rattle.rules.specs.Rules.{each, freeMap, from}
 use Rattle.rules.specs.State.{Files, Tables, absentFile, fileCount}
 use Rattle.rules.specs.Storage.{Memory, PageData, real}
 use Rattle.setchanges.proofs.ChildFiles.{past-last}
-use Rattle.setchanges.proofs.Freeing.{each-last, each-none, each-through, free-map-bits, freedBits, memoryWith}
-use Rattle.setchanges.proofs.Turning.{turns-as, turns-more, turns-start}
+use Rattle.setchanges.proofs.Freeing.{each-through, free-map-bits, freedBits, memoryWith}
 use Rattle.setchanges.specs.Changes.{erasedIn, BlocksIn, clearedIn, freedIn, memoryOf, noPages, withBits}
-use Rattle.tables.proofs.Kept.{upd-is}
-use Rattle.tables.proofs.Operations.{turns-then}
+use Rattle.tables.proofs.Operations.{turns-as, turns-more, turns-start, turns-then}
 use Rattle.tables.specs.Packed.{unpack}
 use Rattle.tables.specs.Views.{PackedTables, Turns, putFiles}
 
@@ -57,7 +56,7 @@ module _ (c : ℕ) (tb : Tables) where
   unfolding clearedTo
   cleared-none =
       bits-files tb (bitsTo 0) (tb .bits) (partly 0) (tb .files)
-      (each-none (λ f. freedBits (tb .files f c .map)) 0 (tb .bits)) (fun-ext (λ f. rw (le-ltb f 0 (omega arith))))
+      (from-none (λ f. freedBits (tb .files f c .map)) 0 (tb .bits)) (fun-ext (λ f. rw (le-ltb f 0 (omega arith))))
 
   -- a file that is still to be done
   pub cleared-later : (n f : ℕ) → n ≤ f → clearedTo c n tb .files f ≡ tb .files f
@@ -68,7 +67,7 @@ module _ (c : ℕ) (tb : Tables) where
   bits-more n =
       let one : ℕ → (ℕ → Bool) → ℕ → Bool = λ f. freedBits (tb .files f c .map) in
       let here : partly n n ≡ tb .files n = rw (le-ltb n n (omega arith)) in
-      ap (λ (x : Files ℕ). freedBits (x c .map) (bitsTo n)) here ∙ ap (λ x. one x (bitsTo n)) (sym (zero-add n)) ∙ sym (each-last one n 0 (tb .bits))
+      ap (λ (x : Files ℕ). freedBits (x c .map) (bitsTo n)) here ∙ ap (λ x. one x (bitsTo n)) (sym (zero-add n)) ∙ sym (from-last one n 0 (tb .bits))
 
   files-more : (n : ℕ) → upd (partly n) n (upd (partly n n) c absentFile) ≡ partly (suc n)
   files-more n =

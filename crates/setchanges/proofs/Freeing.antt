@@ -5,15 +5,15 @@ use mathlib.Core.Path.{ap, fun-ext, refl, subst, sym, _∙_, _≡_}
 use Prim.Native.Nat.{_*_, _+_, _<_, suc, zero, ℕ}
 use native.Mathlib.Nat.{zero-add}
 use native.Mathlib.Numerals.{add-one}
-use native.Mathlib.Omega.{arith}
 use lib.Pow.{low}
 use Rattle.base.specs.Update.{upd}
 use Rattle.packing.specs.Zeros.{zero-at, zeroBytes}
+use Rattle.rules.proofs.Tally.TallyLoops.{from-last, from-none}
 use Rattle.rules.specs.Rules.{each, freeEntry, freeMap, from}
 use Rattle.rules.specs.State.{Entry, Files, Tables, hole, largestBlocks, pageCount, stored, unmapped}
 use Rattle.rules.specs.Storage.{Memory, PageData, real}
-use Rattle.setchanges.proofs.Turning.{turns-as, turns-more, turns-start}
 use Rattle.setchanges.specs.Changes.{BlocksIn, blockIn, freedEntryIn, freedIn, memoryOf, noPages, withBits}
+use Rattle.tables.proofs.Operations.{turns-as, turns-more, turns-start}
 use Rattle.tables.proofs.ZeroFiles.{map-zero}
 use Rattle.tables.specs.Packed.{unpack}
 use Rattle.tables.specs.Views.{PackedTables, Turns, putBitIn}
@@ -24,19 +24,7 @@ freeBit unmapped bits = bits
 freeBit hole bits = bits
 freeBit (stored b) bits = upd bits b false
 
--- ---- a loop: one more turn, and seen through a function
-
-module _ {W : Type 0} where
-  -- nothing is done yet
-  pub each-none : (f : ℕ → W → W) (a : ℕ) (w : W) → each f (from a 0) w ≡ w
-  unfolding each from
-  each-none f a w = refl
-
-  -- the last turn
-  pub each-last : (f : ℕ → W → W) (n a : ℕ) (w : W) → each f (from a (suc n)) w ≡ f (a + n) (each f (from a n) w)
-  unfolding each from
-  each-last f zero a w = let e : a + 0 ≡ a = omega arith in rw e
-  each-last f (suc n) a w = let e : suc a + n ≡ a + suc n = omega arith in each-last f n (suc a) (f a w) ∙ ap (λ x. f x (each f (from (suc a) n) (f a w))) e
+-- ---- a loop seen through a function
 
 module _ {A W : Type 0} where
   pub each-through : (h : A → W) (g : ℕ → A → A) (f : ℕ → W → W) → ((x : ℕ) (a : A) → f x (h a) ≡ h (g x a)) → (xs : List ℕ) (a : A) → each f xs (h a) ≡ h (each g xs a)
@@ -86,7 +74,7 @@ freedTo f s n tb = withBits (each (λ p. freeBit (tb .files f s .map p)) (from 0
 module _ (f s : ℕ) (tb : Tables) where
   freed-none : freedTo f s 0 tb ≡ tb
   unfolding freedTo
-  freed-none = ap (λ (b : ℕ → Bool). withBits b tb) (each-none (λ p. freeBit (tb .files f s .map p)) 0 (tb .bits))
+  freed-none = ap (λ (b : ℕ → Bool). withBits b tb) (from-none (λ p. freeBit (tb .files f s .map p)) 0 (tb .bits))
 
   entry-freed : (e : Entry ℕ) → freedEntryIn e tb ≡ withBits (freeBit e (tb .bits)) tb
   unfolding freedEntryIn putBitIn
@@ -99,7 +87,7 @@ unfolding freedTo
 freed-more f s n tb =
     let e = tb .files f s .map n in
     let one : ℕ → (ℕ → Bool) → ℕ → Bool = λ p. freeBit (tb .files f s .map p) in
-    entry-freed f s (freedTo f s n tb) e ∙ ap (λ (b : ℕ → Bool). withBits b tb) (ap (λ x. one x (each one (from 0 n) (tb .bits))) (sym (zero-add n)) ∙ sym (each-last one n 0 (tb .bits)))
+    entry-freed f s (freedTo f s n tb) e ∙ ap (λ (b : ℕ → Bool). withBits b tb) (ap (λ x. one x (each one (from 0 n) (tb .bits))) (sym (zero-add n)) ∙ sym (from-last one n 0 (tb .bits)))
 
 freed-all : (f s : ℕ) (tb : Tables) → freedTo f s pageCount tb ≡ freedIn f s tb
 unfolding freedTo freedIn freedBits

@@ -8,12 +8,12 @@ use native.Mathlib.Omega.{arith}
 use lib.Dec.{ltb}
 use borrow.Author.Tests.{le-ltb, lt-ltb, ltb-false, ltb-true}
 use Rattle.base.specs.Logic.{test?}
-use Rattle.base.specs.Update.{upd}
+use Rattle.base.specs.Update.{upd, upd-is}
 use Rattle.rules.specs.Rules.{holes, putEntry}
 use Rattle.rules.specs.State.{Entry, File, State, Tables, hole, own, unmapped}
-use Rattle.setchanges.proofs.Turning.{change-none, change-twice, changeFile, no-page, turns-as, turns-more, turns-start}
+use Rattle.setchanges.proofs.Turning.{change-none, change-twice, changeFile}
 use Rattle.setchanges.specs.Changes.{createdIn, holesIn}
-use Rattle.tables.proofs.Kept.{upd-is}
+use Rattle.tables.proofs.Operations.{no-page, turns-as, turns-more, turns-start}
 use Rattle.tables.proofs.ReadParts.{map-default}
 use Rattle.tables.specs.Packed.{unpack}
 use Rattle.tables.specs.Views.{PackedTables, Turns, putEntryIn, putFiles, putHead, putHeadIn}

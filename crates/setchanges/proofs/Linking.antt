@@ -1,18 +1,19 @@
 -- Making a set, the set records: the last of a chain, and the new set behind it. Assumes nothing.
 use mathlib.Core.Bool.{Bool, true}
 use mathlib.Core.List.{List, _∷_, []}
-use mathlib.Core.Path.{ap, refl, subst, sym, _∙_, _≡_}
+use mathlib.Core.Path.{ap, subst, sym, _∙_, _≡_}
 use Prim.Native.Nat.{_+_, _-_, _<_, suc, zero, ℕ, _≤_}
 use native.Mathlib.Numerals.{add-one}
 use native.Mathlib.Omega.{arith}
 use lib.Dec.{ltb}
-use borrow.Author.Tests.{le-ltb, lt-ltb, ltb-false, ltb-true}
+use borrow.Author.Tests.{ltb-false, ltb-true}
 use Rattle.base.specs.Logic.{test?}
 use Rattle.base.specs.Update.{upd}
+use Rattle.rules.proofs.Tree.Chains.{chain-more, chain-past}
 use Rattle.rules.specs.Sets.{appendSet, linkBehind, linkLast, withFirstChild, withNextSibling}
 use Rattle.rules.specs.State.{SetRecord, Tables, chain, childrenOf, noSet, setCount}
-use Rattle.setchanges.proofs.Turning.{turns-as, turns-more}
 use Rattle.setchanges.specs.Changes.{appendedIn, childPutIn, childRecord, firstChildIn, last-done, last-here, last-next, lastOf, nextSiblingIn, withSets}
+use Rattle.tables.proofs.Operations.{turns-as, turns-more}
 use Rattle.tables.specs.Packed.{unpack}
 use Rattle.tables.specs.Views.{Turns, putSetIn}
 
@@ -33,16 +34,6 @@ module _ (sets : ℕ → SetRecord) where
   pub last-end : (n x : ℕ) → n ≡ 0 → lastOf sets n x ≡ x
   last-end n x e = ap (λ m. lastOf sets m x) e ∙ last-done sets x
 
-  -- one set more of a chain, or none
-  chain-first : (n k : ℕ) → k < setCount → chain sets (suc n) k ≡ k ∷ chain sets n (sets k .nextSibling)
-  unfolding chain
-  chain-first n k h = rw (lt-ltb k setCount h)
-
-  chain-none : (n k : ℕ) → setCount ≤ k → chain sets n k ≡ []
-  unfolding chain
-  chain-none zero k h = refl
-  chain-none (suc n) k h = rw (le-ltb k setCount h)
-
   -- behind the chain that goes on from x is behind its last
   behind-last : (c : ℕ) (after : ℕ → SetRecord) (n x : ℕ) → linkBehind c x (chain sets n (sets x .nextSibling)) after ≡ upd after (lastOf sets n x) (withNextSibling (after (lastOf sets n x)) c)
   unfolding linkBehind chain
@@ -52,18 +43,18 @@ module _ (sets : ℕ → SetRecord) where
       let at-last : ℕ → ℕ → SetRecord = λ y. upd after y (withNextSibling (after y) c) in
       test? (ltb next setCount)
       (λ e. let l = ltb-true next setCount e in
-      ap (λ (xs : List ℕ). linkBehind c x xs after) (chain-first n next l) ∙ behind-last c after n next ∙ ap at-last (sym (last-next sets n x l)))
+      ap (λ (xs : List ℕ). linkBehind c x xs after) (chain-more sets (suc n) next (omega arith) l) ∙ behind-last c after n next ∙ ap at-last (sym (last-next sets n x l)))
       (λ e. let l = ltb-false next setCount e in
-      ap (λ (xs : List ℕ). linkBehind c x xs after) (chain-none (suc n) next l) ∙ ap at-last (sym (last-here sets n x l)))
+      ap (λ (xs : List ℕ). linkBehind c x xs after) (chain-past sets (suc n) next l) ∙ ap at-last (sym (last-here sets n x l)))
 
   -- the children of a used set
   children-first : (s : ℕ) → sets s .used ≡ true → sets s .firstChild < setCount → childrenOf sets s ≡ sets s .firstChild ∷ chain sets 7 (sets (sets s .firstChild) .nextSibling)
   unfolding childrenOf
-  children-first s u l = rw u (chain-first 7 (sets s .firstChild) l)
+  children-first s u l = rw u (chain-more sets 8 (sets s .firstChild) (omega arith) l)
 
   children-empty : (s : ℕ) → sets s .used ≡ true → setCount ≤ sets s .firstChild → childrenOf sets s ≡ []
   unfolding childrenOf
-  children-empty s u l = rw u (chain-none setCount (sets s .firstChild) l)
+  children-empty s u l = rw u (chain-past sets setCount (sets s .firstChild) l)
 
 -- ---- the set records of a make
 

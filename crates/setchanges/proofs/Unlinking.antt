@@ -8,13 +8,12 @@ use native.Mathlib.Omega.{arith}
 use lib.Dec.{eqb, ltb}
 use borrow.Author.Tests.{eq-eqb, le-ltb, lt-ltb, ltb-false, ltb-true, ne-eqb}
 use Rattle.base.specs.Logic.{same?, test?}
-use Rattle.base.specs.Update.{upd, upd-other, upd-same}
+use Rattle.base.specs.Update.{upd, upd-is, upd-other, upd-same}
 use Rattle.rules.proofs.Tree.Chains.{unlink-other}
 use Rattle.rules.specs.Sets.{unlinkSet, withFirstChild, withNextSibling}
 use Rattle.rules.specs.State.{SetRecord, Tables, setCount, unusedSet}
-use Rattle.setchanges.proofs.Turning.{turns-as, turns-more, turns-start}
 use Rattle.setchanges.specs.Changes.{clearedIn, pastIn, removedIn, unlinkedIn, withSets}
-use Rattle.tables.proofs.Kept.{upd-is}
+use Rattle.tables.proofs.Operations.{turns-as, turns-more, turns-start}
 use Rattle.tables.proofs.ReadParts.{set-default}
 use Rattle.tables.specs.Packed.{unpack}
 use Rattle.tables.specs.Views.{PackedTables, Turns, putSetIn}

@@ -1,13 +1,14 @@
 -- The links and the child chain of a set, in the order of the code's tests; a chain followed set by set. Assumes nothing.
 use mathlib.Core.Bool.{_&&_, Bool, cond, false, not, true}
-use mathlib.Core.List.{List, _∷_, []}
-use mathlib.Core.Path.{ap, refl, sym, _∙_, _≡_}
+use mathlib.Core.List.{List, []}
+use mathlib.Core.Path.{ap, sym, _∙_, _≡_}
 use Prim.Native.Nat.{_+_, _-_, _<_, suc, zero, ℕ, _≤_}
 use native.Mathlib.Numerals.{sub-one}
 use native.Mathlib.Omega.{arith}
 use lib.Dec.{eqb, leb, ltb}
 use borrow.Author.Tests.{eq-eqb, le-leb, le-ltb, lt-leb, lt-ltb, ltb-false, ltb-true, ne-eqb, not-false, not-true}
 use Rattle.base.specs.Logic.{test?}
+use Rattle.rules.proofs.Tree.Chains.{chain-more, chain-past, chain-zero}
 use Rattle.rules.specs.Rules.{countIn}
 use Rattle.rules.specs.State.{SetRecord, Tables, chain, childrenOf}
 use Rattle.rules.specs.WellFormed.{allIn, chainEnds, chainFormed, linkFormed}
@@ -42,20 +43,6 @@ module _ (tb : Tables) where
 
 -- ---- a chain, set by set
 module _ (sets : ℕ → SetRecord) where
-  pub chain-over : (n k : ℕ) → 8 ≤ k → chain sets n k ≡ []
-  unfolding chain
-  chain-over zero k h = refl
-  chain-over (suc n) k h = rw (le-ltb k 8 h)
-
-  pub chain-none : (n k : ℕ) → n ≡ 0 → chain sets n k ≡ []
-  unfolding chain
-  chain-none zero k e = refl
-  chain-none (suc n) k e = absurd (omega arith)
-
-  pub chain-more : (n k : ℕ) → 0 < n → k < 8 → chain sets n k ≡ k ∷ chain sets (n - 1) (sets k .nextSibling)
-  unfolding chain
-  chain-more zero k h l = absurd (omega arith)
-  chain-more (suc n) k h l = rw (lt-ltb k 8 l, sub-one)
 
   -- do all have the parent s
   module _ (s : ℕ) where
@@ -68,13 +55,13 @@ module _ (sets : ℕ → SetRecord) where
 
     below-cons : (n k : ℕ) → 0 < n → k < 8 → below n k ≡ (eqb (sets k .parent) s && below (n - 1) (sets k .nextSibling))
     unfolding allIn
-    below-cons n k h l = rw (chain-more n k h l)
+    below-cons n k h l = rw (chain-more sets n k h l)
 
     pub below-over : (b : Bool) (n k : ℕ) → 8 ≤ k → b ≡ below n k → true ≡ b
-    below-over b n k h e = below-empty n k (chain-over n k h) ∙ sym e
+    below-over b n k h e = below-empty n k (chain-past sets n k h) ∙ sym e
 
     pub below-done : (b : Bool) (n k : ℕ) → n ≡ 0 → b ≡ below n k → true ≡ b
-    below-done b n k h e = below-empty n k (chain-none n k h) ∙ sym e
+    below-done b n k h e = below-empty n k (chain-zero sets n k h) ∙ sym e
 
     module _ (b : Bool) (n k : ℕ) (r : SetRecord) (h : 0 < n) (l : k < 8) (i : b ≡ below n k) (e : r ≡ sets k) where
       pub below-other : (r .parent ≡ s → ⊥) → false ≡ b
@@ -98,13 +85,13 @@ module _ (sets : ℕ → SetRecord) where
 
     times-cons : (n k : ℕ) → 0 < n → k < 8 → times n k ≡ cond (eqb c k) 1 0 + times (n - 1) (sets k .nextSibling)
     unfolding countIn
-    times-cons n k h l = rw (chain-more n k h l)
+    times-cons n k h l = rw (chain-more sets n k h l)
 
     pub times-over : (a m n k : ℕ) → 8 ≤ k → a ≡ m + times n k → m ≡ a
-    times-over a m n k h e = omega (arith, times-empty n k (chain-over n k h))
+    times-over a m n k h e = omega (arith, times-empty n k (chain-past sets n k h))
 
     pub times-done : (a m n k : ℕ) → n ≡ 0 → a ≡ m + times n k → m ≡ a
-    times-done a m n k h e = omega (arith, times-empty n k (chain-none n k h))
+    times-done a m n k h e = omega (arith, times-empty n k (chain-zero sets n k h))
 
     pub times-more : (a m n k d x : ℕ) → 0 < n → k < 8 → a ≡ m + times n k → d ≡ cond (eqb c k) 1 0 → x ≡ sets k .nextSibling
         → a ≡ m + d + times (n - 1) x

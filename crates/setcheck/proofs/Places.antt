@@ -6,12 +6,11 @@ use Prim.Native.Nat.{_+_, _<_, suc, ℕ, _≤_}
 use native.Mathlib.Omega.{arith}
 use lib.Dec.{eqb, leb}
 use borrow.Author.Tests.{eq-eqb, le-ltb, lt-ltb, ne-eqb, not-false, not-true}
-use Rattle.base.specs.Count.{all, all-not}
+use Rattle.base.specs.Count.{all, all-next, all-not}
 use Rattle.base.specs.Logic.{and-both, and-false}
 use Rattle.rules.specs.Rules.{countIn}
 use Rattle.rules.specs.State.{SetRecord, Tables, childrenOf}
 use Rattle.rules.specs.WellFormed.{allSets, chainFormed, placeFormed, rootFormed, treeFormed}
-use Rattle.setcheck.proofs.Zeros.{all-next}
 use Rattle.setcheck.specs.Records.{setInTree, setRecordsFormed, zerosOfSets}
 use Rattle.tables.specs.Packed.{unpack}
 

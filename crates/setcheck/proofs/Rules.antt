@@ -3,22 +3,19 @@
 use mathlib.Core.Bool.{_&&_, Bool, false, not, true, _||_}
 use mathlib.Core.List.{List}
 use mathlib.Core.Path.{refl, sym, _∙_, _≡_}
-use Prim.Native.Nat.{_*_, ℕ}
-use lib.Dec.{eqb, leb, ltb}
+use Prim.Native.Nat.{ℕ}
+use lib.Dec.{eqb}
 use lib.ListN.{length}
-use borrow.Author.Tests.{leb-true, ltb-true}
 use Rattle.base.specs.Logic.{and-false, and-left, and-right}
 use Rattle.packing.specs.Fields.{getField}
 use Rattle.rules.proofs.Tree.SetsFormed.{sets-formed}
 use Rattle.rules.proofs.Tree.SetsOk.{SetsOk}
-use Rattle.rules.proofs.Formed.Tests.{and-4}
-use Rattle.rules.specs.State.{Tables, isAbsent, largestBlocks, pageBytes}
+use Rattle.rules.specs.State.{isAbsent}
 use Rattle.rules.specs.WellFormed.{allFiles, allSets, bitsFormed, filesFormed, headerFormed, treeFormed, zeroFile, zeroSet, zerosFormed}
 use Rattle.setcheck.specs.Records.{fileRecordsFormed, headerZero, setRecordsFormed, setZero, unusedZero, zerosOfSets}
 use Rattle.tables.proofs.ReadParts.{set-default}
 use Rattle.tables.specs.Layout.{headWidths, headWord, setWidths, setWord, tableBytes}
 use Rattle.tables.specs.Packed.{blockRules, fieldsFormed, kindsFormed, setRules, unpack, wellFormed}
-use Rattle.tables.specs.Views.{HeaderIn}
 
 -- the parts of `setRules` in another order
 by-record : (a b c d e f g h : Bool) → (a && b && c && (d && e && f && g && h)) ≡ (a && (b && d && g) && (c && e && f && h))
@@ -37,20 +34,6 @@ header-first true false f b z s r = sym (and-false (f && z && s))
 header-first true true false b z s r = refl
 header-first true true true false z s r = sym (and-false (z && s))
 header-first true true true true z s r = refl
-
--- a header that passes
-module _ (tb : Tables) (n : ℕ) (h : headerFormed tb n ≡ true) where
-  header-tests : (leb 1 (tb .blocks) ≡ true) × (leb (tb .blocks) largestBlocks ≡ true) × (ltb (tb .next) (tb .blocks) ≡ true) × (eqb n (tb .blocks * pageBytes) ≡ true)
-  unfolding headerFormed
-  header-tests = and-4 (leb 1 (tb .blocks)) (leb (tb .blocks) largestBlocks) (ltb (tb .next) (tb .blocks)) (eqb n (tb .blocks * pageBytes)) h
-
-  -- LAW: B is 1 to 4,096, next start is below B
-  pub header-in : HeaderIn tb
-  header-in = record {
-    at-least = leb-true 1 (tb .blocks) (header-tests .0);
-    most = leb-true (tb .blocks) largestBlocks (header-tests .1);
-    next-in = ltb-true (tb .next) (tb .blocks) (header-tests .2);
-  }
 
 module _ (t : List ℕ) where
   -- LAW: the zero rules on set records are those of `fieldsFormed` and `zerosFormed`

@@ -3,10 +3,9 @@ use mathlib.Core.Bool.{Bool, false, not, true}
 use mathlib.Core.List.{List}
 use mathlib.Core.Path.{subst, sym, _∙_, _≡_}
 use Prim.Native.Nat.{_+_, _<_, ℕ}
-use native.Mathlib.Numerals.{add-one}
 use lib.Dec.{eqb}
 use borrow.Author.Tests.{eq-eqb, ne-eqb, not-false, not-true}
-use Rattle.base.specs.Count.{all, all-more, all-none, all-not}
+use Rattle.base.specs.Count.{all, all-next, all-none, all-not}
 use Rattle.base.specs.Logic.{and-both, and-false}
 use Rattle.rules.specs.State.{SetRecord, Tables}
 use Rattle.rules.specs.WellFormed.{allSets, zeroSet}
@@ -39,10 +38,6 @@ module _ (tb : Tables) (s : ℕ) (r : SetRecord) (e : r ≡ tb .sets s) where
   pub unused-by-fields : (b : Bool) → r .used ≡ false → b ≡ zeroSet r → b ≡ unusedZero tb s
   unfolding unusedZero
   unused-by-fields b h k = k ∙ rw (← e, h)
-
--- one number more has passed
-pub all-next : (f : ℕ → Bool) (n : ℕ) → all n f ≡ true → f n ≡ true → all (n + 1) f ≡ true
-all-next f n h k = rw (add-one, all-more) (and-both (f n) (all n f) k h)
 
 -- the sets one after the other
 module _ (t : List ℕ) where

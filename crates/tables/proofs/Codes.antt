@@ -1,13 +1,13 @@
 -- The numbers that the code computes: what it takes from a word is what the layout reads, the words that it makes are those of the layout,
 -- and the places are the layout's. Assumes nothing.
 use mathlib.Core.List.{List}
-use mathlib.Core.Path.{ap, refl, sym, _∙_, _≡_}
-use Prim.Native.Nat.{_%_, _*_, _+_, _-_, _/_, _<_, suc, zero, ℕ, _≤_}
+use mathlib.Core.Path.{ap, sym, _∙_, _≡_}
+use Prim.Native.Nat.{_%_, _*_, _+_, _-_, _/_, _<_, suc, ℕ, _≤_}
 use native.Mathlib.Omega.{arith}
 use lib.Dec.{eqb}
 use lib.ListN.{getD, set}
 use lib.Seq.{set-getD}
-use Rattle.packing.specs.Bitmap.{isOne}
+use Rattle.packing.specs.Bitmap.{is-one, isOne}
 use Rattle.packing.specs.Words.{Bytes, getWord, putWord}
 use Rattle.rules.specs.State.{SetRecord, State, fileCount, hole, marked, pageCount, setCount, stored, unmapped}
 use Rattle.tables.proofs.ReadParts.{read-blocks, read-map, read-next, read-set, read-size, read-state}
@@ -63,11 +63,6 @@ unfolding writeHead
 head-word l n k e = omega arith
 
 -- ---- a set record
-
-is-one : (d : ℕ) → d < 2 → eqb d 1 ≡ isOne d
-is-one zero h = refl
-is-one (suc zero) h = refl
-is-one (suc (suc d)) h = absurd (omega arith)
 
 module _ (w : ℕ) where
   -- the record that the code takes from a word

@@ -24,6 +24,20 @@ use Rattle.tables.specs.Layout.{tableBytes}
 use Rattle.tables.specs.Packed.{blockRules, fieldsFormed, isFile, kindsFormed, setRules, unpack, wellFormed}
 use Rattle.tables.specs.Views.{HeaderIn, PackedTables}
 
+-- a header that passes: B is 1 to 4,096, next start is below B, and the pages buffer is B × 512 bytes
+pub header-in : (tb : Tables) (n : ℕ) → headerFormed tb n ≡ true → HeaderIn tb × (n ≡ tb .blocks * pageBytes)
+unfolding headerFormed
+header-in tb n h =
+    let a = and-left (leb 1 (tb .blocks) && leb (tb .blocks) 4096 && ltb (tb .next) (tb .blocks)) (eqb n (tb .blocks * 512)) h in
+    let b = and-left (leb 1 (tb .blocks) && leb (tb .blocks) 4096) (ltb (tb .next) (tb .blocks)) a in (
+      record {
+        at-least = leb-true 1 (tb .blocks) (and-left (leb 1 (tb .blocks)) (leb (tb .blocks) 4096) b);
+        most = leb-true (tb .blocks) 4096 (and-right (leb 1 (tb .blocks)) (leb (tb .blocks) 4096) b);
+        next-in = ltb-true (tb .next) (tb .blocks) (and-right (leb 1 (tb .blocks) && leb (tb .blocks) 4096) (ltb (tb .next) (tb .blocks)) a);
+      },
+      eqb-true n (tb .blocks * 512) (and-right (leb 1 (tb .blocks) && leb (tb .blocks) 4096 && ltb (tb .next) (tb .blocks)) (eqb n (tb .blocks * 512)) h),
+    )
+
 pub record FormedStore (t p : List ℕ) : Type 0 where
   -- words are well formed; block count, next start and pages fit
   pub packed : PackedTables t
@@ -39,7 +53,7 @@ pub record FormedStore (t p : List ℕ) : Type 0 where
 
 module _ (t : List ℕ) where
   -- out of range the unpacked tables are the default
-  absent-default : (f s : ℕ) → isFile f s ≡ false → unpack t .files f s ≡ absentFile
+  pub absent-default : (f s : ℕ) → isFile f s ≡ false → unpack t .files f s ≡ absentFile
   absent-default f s h = λ i. record {
     state = state-default t f s h i;
     size = size-default t f s h i;
@@ -68,19 +82,6 @@ module _ (t : List ℕ) where
     set-state = λ f s h. ap (λ (x : File ℕ). x .state) (ranged .no-files f s h);
     set-used = λ s h. ap (λ (x : SetRecord). x .used) (ranged .no-sets s h);
   }
-
-header-in : (tb : Tables) (n : ℕ) → headerFormed tb n ≡ true → HeaderIn tb × (n ≡ tb .blocks * pageBytes)
-unfolding headerFormed
-header-in tb n h =
-    let a = and-left (leb 1 (tb .blocks) && leb (tb .blocks) 4096 && ltb (tb .next) (tb .blocks)) (eqb n (tb .blocks * 512)) h in
-    let b = and-left (leb 1 (tb .blocks) && leb (tb .blocks) 4096) (ltb (tb .next) (tb .blocks)) a in (
-      record {
-        at-least = leb-true 1 (tb .blocks) (and-left (leb 1 (tb .blocks)) (leb (tb .blocks) 4096) b);
-        most = leb-true (tb .blocks) 4096 (and-right (leb 1 (tb .blocks)) (leb (tb .blocks) 4096) b);
-        next-in = ltb-true (tb .next) (tb .blocks) (and-right (leb 1 (tb .blocks) && leb (tb .blocks) 4096) (ltb (tb .next) (tb .blocks)) a);
-      },
-      eqb-true n (tb .blocks * 512) (and-right (leb 1 (tb .blocks) && leb (tb .blocks) 4096 && ltb (tb .next) (tb .blocks)) (eqb n (tb .blocks * 512)) h),
-    )
 
 -- LAW
 pub formed-store : (t p : List ℕ) → wellFormed t (length p) ≡ true → FormedStore t p

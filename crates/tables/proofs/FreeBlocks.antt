@@ -1,16 +1,15 @@
 -- The bitmap of the tables and the bits of the state: the first free block, the number of free blocks, and a block that is taken. Assumes nothing.
-use mathlib.Core.Bool.{Bool, false, not, true}
+use mathlib.Core.Bool.{false, not, true}
 use mathlib.Core.List.{List}
 use mathlib.Core.Option.{none, some}
 use mathlib.Core.Path.{ap, refl, sym, _∙_, _≡_}
-use Prim.Native.Nat.{_%_, _+_, _<_, suc, zero, ℕ, _≤_}
-use native.Mathlib.Nat.{mod-lt}
+use Prim.Native.Nat.{_%_, _+_, _<_, ℕ, _≤_}
 use native.Mathlib.Omega.{arith}
 use lib.Dec.{leb}
 use borrow.Author.Tests.{le-leb, leb-false, leb-true, lt-leb}
-use Rattle.base.specs.Count.{count, count-not, count-same}
-use Rattle.base.specs.Logic.{same?, test?}
-use Rattle.base.specs.Search.{Free, first-found, first-says, firstFree, searchFrom}
+use Rattle.base.specs.Count.{count, count-cut, count-not, count-same}
+use Rattle.base.specs.Logic.{test?}
+use Rattle.base.specs.Search.{first-found, first-same, first-says, firstFree, Free}
 use Rattle.packing.specs.Bitmap.{bitAt, setBit}
 use Rattle.packing.specs.FirstFree.{found-at, found-none, foundOf}
 use Rattle.packing.specs.declared.bitmap.Found.{Found}
@@ -21,25 +20,6 @@ use Rattle.tables.proofs.Written.{bit-set}
 use Rattle.tables.specs.Layout.{bitmapAt}
 use Rattle.tables.specs.Packed.{unpack}
 use Rattle.tables.specs.Views.{HeaderIn, PackedTables, Took, Turns, putBitIn, putNextIn, took}
-
--- ---- two functions that agree below a limit
-
-search-same : (k n : ℕ) (f g : ℕ → Bool) (b : ℕ) → b < n → ((c : ℕ) → c < n → g c ≡ f c) → searchFrom k n g b ≡ searchFrom k n f b
-unfolding searchFrom
-search-same zero n f g b l h = refl
-search-same (suc k) n f g b l h = rw (h b l, search-same k n f g ((b + 1) % n) (mod-lt (b + 1) (omega arith)) h)
-
--- LAW: the first free number depends on the numbers below the limit alone
-pub first-same : (n : ℕ) (f g : ℕ → Bool) (b : ℕ) → b < n → ((c : ℕ) → c < n → g c ≡ f c) → firstFree n g b ≡ firstFree n f b
-unfolding firstFree
-first-same n f g b l h = search-same n n f g b l h
-
--- LAW: what passes nowhere from m on is counted below m
-pub count-cut : (n m : ℕ) (f : ℕ → Bool) → m ≤ n → ((b : ℕ) → m ≤ b → f b ≡ false) → count n f ≡ count m f
-unfolding count
-count-cut zero m f l h = let e : 0 ≡ m = omega arith in ap (λ k. count k f) e
-count-cut (suc n) m f l h =
-    same? m (suc n) (λ e. ap (λ k. count k f) (sym e)) (λ d. rw (h n (omega arith)) (omega (arith, count-cut n m f (omega arith) h)))
 
 -- ---- free blocks
 

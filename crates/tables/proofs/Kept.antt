@@ -7,8 +7,8 @@ use native.Mathlib.Omega.{arith}
 use lib.Dec.{ltb}
 use lib.ListN.{length}
 use borrow.Author.Tests.{ltb-false, ltb-true}
-use Rattle.base.specs.Logic.{same?, test?}
-use Rattle.base.specs.Update.{upd, upd-other, upd-same}
+use Rattle.base.specs.Logic.{test?}
+use Rattle.base.specs.Update.{upd, upd-in}
 use Rattle.packing.specs.Bitmap.{bits-same}
 use Rattle.packing.specs.Fields.{getField}
 use Rattle.packing.specs.Words.{Same, getWord, word-same}
@@ -18,20 +18,6 @@ use Rattle.tables.proofs.ReadParts.{bit-default, map-default, read-bit,
 use Rattle.tables.specs.Layout.{bitmapAt, entryAt, entryWord, fileAt, headWidths, headWord, headerAt, headerWidths, headerWord, readBlocks, readEntry, readNext, readSet, readSize, readState, setAt, setWidths, setWord}
 use Rattle.tables.specs.Packed.{entryFormed, isFile, isPage, unpack}
 use Rattle.tables.specs.Views.{PackedTables, putFiles}
-
--- ---- a function with one value changed is known by its values
-
-module _ {A : Type 0} where
-  pub upd-is : (g g′ : ℕ → A) (i : ℕ) (v : A) → g′ i ≡ v → ((j : ℕ) → (i ≡ j → ⊥) → g′ j ≡ g j) → g′ ≡ upd g i v
-  upd-is g g′ i v here other = fun-ext (λ j. same? i j
-      (λ e. subst (λ x. g′ x ≡ upd g i v x) e (here ∙ sym (upd-same g i v)))
-      (λ n. other j n ∙ sym (upd-other g i v j n)))
-
-module _ {A : Type 0} where
-  -- of two arguments
-  pub upd-in : (g g′ : ℕ → ℕ → A) (i j : ℕ) (v : A) → g′ i j ≡ v → ((x y : ℕ) → (i ≡ x → j ≡ y → ⊥) → g′ x y ≡ g x y) → g′ ≡ upd g i (upd (g i) j v)
-  upd-in g g′ i j v here other =
-      upd-is g g′ i (upd (g i) j v) (upd-is (g i) (g′ i) j v here (λ y n. other i y (λ _. n))) (λ x n. fun-ext (λ y. other x y (λ e _. n e)))
 
 module _ (lo hi : ℕ) (t t′ : List ℕ) (same : Same lo hi t t′) where
   -- ---- the parts of the state

@@ -1,5 +1,6 @@
 pub mod InRange
 pub mod Layouts
+pub mod Lengths
 pub mod PackedTables
 pub mod ReadParts
 pub mod PackWords

@@ -1,28 +1,20 @@
 -- Tables of the right length whose words are well formed: by each word, and by the tests of all words. Assumes nothing.
-use mathlib.Core.Bool.{_&&_, Bool, true}
+use mathlib.Core.Bool.{_&&_, true}
 use mathlib.Core.List.{List}
 use mathlib.Core.Path.{_≡_}
-use Prim.Native.Nat.{_<_, ℕ}
+use Prim.Native.Nat.{ℕ}
 use lib.Dec.{eqb}
 use lib.ListN.{length}
 use borrow.Author.Tests.{eq-eqb, eqb-true}
-use Rattle.base.specs.Count.{all, all-at, all-of}
+use Rattle.base.specs.Count.{all-at, all-of}
 use Rattle.base.specs.Logic.{and-both, and-left, and-right}
 use Rattle.packing.specs.Fields.{getField}
-use Rattle.rules.specs.State.{fileCount, pageCount, setCount}
+use Rattle.rules.proofs.Formed.Tests.{files-at, files-of}
+use Rattle.rules.specs.State.{pageCount, setCount}
 use Rattle.rules.specs.WellFormed.{allFiles, allPages, allSets}
 use Rattle.tables.specs.Layout.{entryWord, headWidths, headWord, headerWidths, headerWord, setWidths, setWord, tableBytes}
 use Rattle.tables.specs.Packed.{entryFormed, fieldsFormed, kindsFormed}
 use Rattle.tables.specs.Views.{PackedTables}
-
--- a test of every file holds at each, and back
-files-at : (g : ℕ → ℕ → Bool) → allFiles g ≡ true → (f s : ℕ) → f < fileCount → s < setCount → g f s ≡ true
-unfolding allFiles
-files-at g h f s hf hs = all-at fileCount (λ f. g f s) (all-at setCount (λ s. all fileCount (λ f. g f s)) h s hs) f hf
-
-files-of : (g : ℕ → ℕ → Bool) → ((f s : ℕ) → f < fileCount → s < setCount → g f s ≡ true) → allFiles g ≡ true
-unfolding allFiles
-files-of g h = all-of setCount (λ s. all fileCount (λ f. g f s)) (λ s hs. all-of fileCount (λ f. g f s) (λ f hf. h f s hf hs))
 
 module _ (t : List ℕ) where
   -- the words from the tests

@@ -8,13 +8,13 @@ use lib.Dec.{ltb}
 use lib.ListN.{length}
 use borrow.Author.Tests.{ltb-false, ltb-true}
 use Rattle.base.specs.Logic.{test?}
-use Rattle.base.specs.Update.{upd, upd-other, upd-same}
+use Rattle.base.specs.Update.{upd, upd-is, upd-other, upd-same}
 use Rattle.packing.specs.Bitmap.{bitAt, bits-clear, bits-set, clear-same, clearBit, length-clear-bit, length-set-bit, set-same, setBit}
 use Rattle.packing.specs.Fields.{getField}
 use Rattle.packing.specs.Words.{Same, get-put-same, getWord, length-put, put-same, putWord}
 use Rattle.rules.specs.Rules.{putEntry}
 use Rattle.rules.specs.State.{Entry, SetRecord, State, fileCount, largestBlocks, pageCount, setCount}
-use Rattle.tables.proofs.Kept.{bits-kept, blocks-kept, file-put, files-kept, map-kept, next-kept, packed-kept, set-kept, sets-kept, size-kept, state-kept, upd-is}
+use Rattle.tables.proofs.Kept.{bits-kept, blocks-kept, file-put, files-kept, map-kept, next-kept, packed-kept, set-kept, sets-kept, size-kept, state-kept}
 use Rattle.tables.proofs.Layouts.{entry-formed, head-zero, header-zero, read-write-blocks, read-write-entry, read-write-next, read-write-set, read-write-size, read-write-state, set-zero, write-entry-lt, write-head-lt, write-header-lt, write-set-lt}
 use Rattle.tables.proofs.ReadParts.{bit-default, read-bit, read-blocks, read-map, read-next, read-set, read-size, read-state}
 use Rattle.tables.specs.Layout.{bitmapAt, entryAt, fileAt, headWidths, headerAt, headerWidths, readBlocks, readEntry, readNext, readSet, readSize, readState, setAt, setWidths, writeEntry, writeHead, writeHeader, writeSet}

@@ -6,7 +6,7 @@ use Prim.Native.Nat.{ℕ, zero, suc, _+_, _-_, _*_, _/_, _%_, _^_, _<_, _≤_}
 use native.Mathlib.Decide.{decLt}
 use native.Mathlib.Omega.{arith}
 use lib.Count.{ones}
-use lib.Dec.{eqb, leb}
+use lib.Dec.{leb}
 use lib.Pow.{shl-exact}
 use borrow.Author.Tests.{le-leb}
 use Rattle.base.specs.Count.{count, count-mono, count-not}
@@ -22,12 +22,6 @@ use Rattle.packing.specs.FirstFree.{foundOf, FoundIn, scanned}
 -- `1 << s` in a byte
 pub one-shl : (s : ℕ) → s < 8 → 1 * 2 ^ s % 256 ≡ 2 ^ s
 one-shl s h = shl-exact {a = 1} 1 s 8 (omega arith) (omega arith) ∙ omega arith
-
--- a digit is compared with 1
-pub is-one : (d : ℕ) → d < 2 → eqb d 1 ≡ isOne d
-is-one zero h = refl
-is-one (suc zero) h = refl
-is-one (suc (suc d)) h = absurd (omega arith)
 
 -- ---- a word more is counted
 

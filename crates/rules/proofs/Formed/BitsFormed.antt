@@ -13,6 +13,7 @@ use Rattle.rules.proofs.Blocks.GoodWork.{Used, at}
 use Rattle.rules.proofs.Blocks.RealStore.{BlocksOk, Named, Placed, none-stored}
 use Rattle.rules.proofs.Blocks.Sums.{count-sum, sum3, sum3-one, sum3-some, sum3-term, sum3-two, sum3-zero}
 use Rattle.rules.proofs.Agreement.Truncate.{apart}
+use Rattle.rules.proofs.Formed.Tests.{files-at, files-of}
 use Rattle.rules.specs.Calls.{Store, tablesOf}
 use Rattle.rules.specs.Plain.{present}
 use Rattle.rules.specs.State.{Entry, Tables, absent, hole, isAbsent, isUnmapped, stored, unmapped}
@@ -62,15 +63,6 @@ digit-most : (x : Bool) → digit x ≤ 1
 digit-most true = omega arith
 digit-most false = omega arith
 
--- every file below 16 of every set below 8
-pub all-files-of : (g : ℕ → ℕ → Bool) → ((f s : ℕ) → f < 16 → s < 8 → g f s ≡ true) → allFiles g ≡ true
-unfolding allFiles
-all-files-of g h = all-of 8 _ (λ s l. all-of 16 _ (λ f k. h f s k l))
-
-pub all-files-at : (g : ℕ → ℕ → Bool) → allFiles g ≡ true → (f s : ℕ) → f < 16 → s < 8 → g f s ≡ true
-unfolding allFiles
-all-files-at g h f s k l = all-at 16 (λ f. g f s) (all-at 8 (λ s. all 16 (λ f. g f s)) h s l) f k
-
 -- FROM BLOCKS IN ORDER: the bitmap passes
 module _ (r : Store real) (k : BlocksOk r) where
   place-low : (f s p b : ℕ) → r .files f s .map p ≡ stored b → (f < 16) × (s < 8) × (p < 64)
@@ -91,7 +83,7 @@ module _ (r : Store real) (k : BlocksOk r) where
   bits-formed =
       and-both _ _
       (all-of 4096 _ (λ b l. eq-eqb _ _ (times-right b)))
-      (all-files-of _ (λ f s i j. all-of 64 _ (λ p l. below-of (r .memory .blocks) (r .files f s .map p) (λ b e. k .used f s p b e .below))))
+      (files-of _ (λ f s i j. all-of 64 _ (λ p l. below-of (r .memory .blocks) (r .files f s .map p) (λ b e. k .used f s p b e .below))))
 
   pub header-formed : r .memory .blocks ≤ 4096 → headerFormed (tablesOf r) (r .memory .blocks * 512) ≡ true
   unfolding headerFormed
@@ -127,7 +119,7 @@ module _ (r : Store real) (out : EmptyBeyond (tablesOf r)) where
     unfolding bitsFormed allPages
     blocks-below f s p b e =
         let l = low-place f s p b e in
-        below-is (r .memory .blocks) (r .files f s .map p) b (all-at 64 _ (all-files-at _ (and-right (all 4096 _) _ h) f s (l .0) (l .1)) p (l .2)) e
+        below-is (r .memory .blocks) (r .files f s .map p) b (all-at 64 _ (files-at _ (and-right (all 4096 _) _ h) f s (l .0) (l .1)) p (l .2)) e
 
     pub formed-used : (f s p b : ℕ) → r .files f s .map p ≡ stored b → Used (r .memory) b
     formed-used f s p b e =
@@ -176,7 +168,7 @@ module _ (r : Store real) (out : EmptyBeyond (tablesOf r)) (gone : AbsentBeyond 
     unfolding zerosFormed allPages
     absent-none f s p b a e =
         let l = low-place r out f s p b e in
-        let z : (not (isAbsent (r .files f s .state)) || zeroFile (r .files f s)) ≡ true = all-files-at _ (and-right (allSets _) _ (and-left _ _ h)) f s (l .0) (l .1) in
+        let z : (not (isAbsent (r .files f s .state)) || zeroFile (r .files f s)) ≡ true = files-at _ (and-right (allSets _) _ (and-left _ _ h)) f s (l .0) (l .1) in
         let y : zeroFile (r .files f s) ≡ true = rw a at z in
         let x : isUnmapped (r .files f s .map p) ≡ true = all-at 64 _ (and-right (eqb (r .files f s .size) 0) _ y) p (l .2) in
         true≢false (sym x ∙ ap isUnmapped e)
@@ -187,7 +179,7 @@ module _ (r : Store real) (out : EmptyBeyond (tablesOf r)) (gone : AbsentBeyond 
     present-used f s e =
         let l : f < 16 = test? (ltb f 16) (ltb-true f 16) (λ z. absurd (true≢false (sym (ap isAbsent (gone .file-state f s (ltb-false f 16 z))) ∙ e))) in
         let k : s < 8 = test? (ltb s 8) (ltb-true s 8) (λ z. absurd (true≢false (sym (ap isAbsent (gone .set-state f s (ltb-false s 8 z))) ∙ e))) in
-        let z : (r .sets s .used || isAbsent (r .files f s .state)) ≡ true = all-files-at _
+        let z : (r .sets s .used || isAbsent (r .files f s .state)) ≡ true = files-at _
         (and-right (allSets (λ s. r .sets s .used || zeroSet (r .sets s)) && allFiles (λ f s. not (isAbsent (r .files f s .state)) || zeroFile (r .files f s))) _ h) f s l k in
         test? (r .sets s .used) (λ u. u) (λ u. absurd (true≢false (sym z ∙ rw (u, e))))
 

@@ -7,7 +7,7 @@ use Prim.Native.Nat.{_<_, suc, zero, ℕ, _≤_}
 use native.Mathlib.Omega.{arith}
 use lib.Dec.{eqb}
 use borrow.Author.Tests.{eqb-true}
-use Rattle.base.specs.Logic.{and-both, and-left, and-right, or-right, same?, test?}
+use Rattle.base.specs.Logic.{and-both, and-left, and-right, or-false, or-right, same?, test?}
 use Rattle.base.specs.Update.{upd, upd-keeps}
 use Rattle.rules.proofs.Steps.OneStep.{TreeOk}
 use Rattle.rules.proofs.Tally.TallyReach.{any-some, depends-above, marked-reaches, one-up, self-up}
@@ -79,10 +79,6 @@ is-stored : (k : Kind) → isStored k ≡ true → k ≡ stored tt
 is-stored unmapped h = cc
 is-stored hole h = cc
 is-stored (stored b) h = refl
-
-or-false : (a : Bool) → (a || false) ≡ a
-or-false true = refl
-or-false false = refl
 
 or-either : (a b : Bool) → (a || b) ≡ true → (a ≡ true) ⊎ (b ≡ true)
 or-either true b h = inl refl

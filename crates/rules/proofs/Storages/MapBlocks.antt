@@ -2,21 +2,11 @@
 use mathlib.Core.Bool.{Bool, cond, false, true}
 use mathlib.Core.Path.{ap, fun-ext, refl, sym, _∙_, _≡_}
 use Prim.Native.Nat.{suc, zero, ℕ}
-use lib.Dec.{eqb}
 use Rattle.base.specs.Logic.{pick}
-use Rattle.base.specs.Update.{upd}
+use Rattle.base.specs.Update.{upd, upd-map}
 use Rattle.rules.specs.Reading.{dependent, dependsOn, needs, reaches, resolve, shownEntry, shownSize, sizeByReading, someUnmapped, walk}
 use Rattle.rules.specs.Rules.{markDown, markFile, putEntry, settleAs, settleFile}
 use Rattle.rules.specs.State.{Entry, File, Files, State, Tree, absent, hole, isStored, isUnmapped, marked, own, stored, unmapped, virgin}
-
--- a change seen through g is a change
-pub upd-map : {A B : Type 0} (g : A → B) (f : ℕ → A) (i : ℕ) (v : A) (j : ℕ) → g (upd f i v j) ≡ upd (λ k. g (f k)) i (g v) j
-unfolding upd
-upd-map g f i v j = go (eqb i j)
-  where
-    go : (b : Bool) → g (cond b v (f j)) ≡ cond b (g v) (g (f j))
-    go true = refl
-    go false = refl
 
 module _ {K L : Type 0} (f : K → L) where
   abbrev pub mapEntry : Entry K → Entry L
@@ -90,7 +80,7 @@ module _ {K L : Type 0} (f : K → L) where
 
   pub putEntry-map : (files : Files K) (c p : ℕ) (e : Entry K) → mapFiles (putEntry files c p e) ≡ putEntry (mapFiles files) c p (mapEntry e)
   unfolding putEntry
-  putEntry-map files c p e = fun-ext (λ s. upd-map mapFile files c _ s ∙ ap (λ (x : File L). upd (mapFiles files) c x s) (λ i. record { state = files c .state; size = files c .size; map = λ q. upd-map mapEntry (files c .map) p e q i }))
+  putEntry-map files c p e = fun-ext (λ s. upd-map (λ _. mapFile) files c _ s ∙ ap (λ (x : File L). upd (mapFiles files) c x s) (λ i. record { state = files c .state; size = files c .size; map = λ q. upd-map (λ _. mapEntry) (files c .map) p e q i }))
 
   pub settle-map : (t : Tree) (c : ℕ) (files : Files K) → mapFiles (settleFile t c files) ≡ settleFile t c (mapFiles files)
   unfolding settleFile settleAs
@@ -100,7 +90,7 @@ module _ {K L : Type 0} (f : K → L) where
       go absent = refl
       go own = refl
       go marked = refl
-      go virgin = fun-ext (λ s. upd-map mapFile files c _ s ∙ ap (λ n. upd (mapFiles files) c (record { state = own; size = n; map = λ p. mapEntry (files c .map p) }) s) (sym (size-map t files c)))
+      go virgin = fun-ext (λ s. upd-map (λ _. mapFile) files c _ s ∙ ap (λ n. upd (mapFiles files) c (record { state = own; size = n; map = λ p. mapEntry (files c .map p) }) s) (sym (size-map t files c)))
 
   pub mark-map : (t : Tree) (files : Files K) (c : ℕ) → mapFiles (markDown t files c) ≡ markDown t (mapFiles files) c
   unfolding markDown markFile

@@ -7,9 +7,9 @@ use native.Mathlib.Nat.{add-zero}
 use native.Mathlib.Omega.{arith}
 use lib.Dec.{eqb, ltb}
 use lib.ListN.{length}
-use borrow.Author.Tests.{eq-eqb, eqb-false, lt-ltb, ltb-false, ne-eqb, not-true}
+use borrow.Author.Tests.{eqb-false, lt-ltb, ltb-false, not-true}
 use Rattle.base.specs.Count.{count, sum}
-use Rattle.base.specs.Logic.{and-left, and-right, pick, same?}
+use Rattle.base.specs.Logic.{and-left, and-right, pick}
 use Rattle.base.specs.Update.{upd, upd-self}
 use Rattle.rules.proofs.Storages.Model.{counting}
 use Rattle.rules.proofs.Tally.TallyChange.{change-leaves, changeLeaves, newKinds}
@@ -19,15 +19,16 @@ use Rattle.rules.proofs.Whole.Accepted.{passed-write}
 use Rattle.rules.proofs.Tally.TallyReach.{NoVirginRoot, kind-resolve, no-virgin-root, size-reading}
 use Rattle.rules.proofs.Tally.TallySteps.{give-all, settle-all, settle-maps, withTurn}
 use Rattle.rules.proofs.Tally.TallyWriter.{free-map, turns-inv, turns-self}
+use Rattle.rules.proofs.Tree.SetsOk.{root-alone-tree}
 use Rattle.rules.specs.Calls.{Result, Store, accepted, begin, created, formatted, made, readCount, removed, resultOf, step, treeIn, viewOf, worked}
 use Rattle.rules.specs.Numbers.{Call, create, delete, format, make, numberOf, read, refusal, remove, tellFree, tellSize, truncate, write}
 use Rattle.rules.specs.Plain.{Plain}
 use Rattle.rules.specs.Reading.{resolve, shownSize, sizeByReading, walk}
 use Rattle.rules.specs.Rules.{Work, change, countIn, cutPages, deleteAs, deleteFile, droppedPages, each, eraseFile, freeMap, from, giveAll, holes, keptPages, ownNeed, touched, truncateAs, truncateFile, withFiles, writeFile}
-use Rattle.rules.specs.Sets.{appendSet, childFile, childState, rootAlone, unlinkSet}
-use Rattle.rules.specs.State.{SetRecord, State, Tree, absent, absentFile, chain, childrenOf, fileCount, hole, isStored, largestSize, live, marked, own, pageBytes, pageCount, setCount, stored, treeOf, unmapped, unusedSet, virgin}
+use Rattle.rules.specs.Sets.{appendSet, childFile, childState, unlinkSet}
+use Rattle.rules.specs.State.{State, Tree, absent, absentFile, fileCount, hole, isStored, largestSize, live, marked, own, pageBytes, pageCount, setCount, stored, treeOf, unmapped, virgin}
 use Rattle.rules.specs.Tally.{Both, Kind, Tally, TallyFile, TallyFiles, TallyResult, Turn, bothAs, bothStep, cutKinds, eachChild, kindAt, partPage, storedPages, tallyCall, tallyChild, tallyCut, tallyDelete, tallyFormat, tallyGive, tallyGrow, tallyLeaves, tallySettle, tallySize, tallyTold, tallyTruncate, tallyTruncateNeed, tallyTurns, tallyWrite, truncateTouches, writeTouches}
-use Rattle.rules.specs.Trees.{addChild, rootTree, takeAway}
+use Rattle.rules.specs.Trees.{addChild, takeAway}
 
 -- a result of the store as one of the tally
 abbrev pub resultOfTally : Result counting → TallyResult
@@ -200,32 +201,9 @@ module _ (k : Store counting) (o : TallyOrderly k) where
           ∙ ap (λ n. tallyLeaves (tallyOf k) f s 0 (start (k .files f) n) absentFile (storedPages (k .files f s))) (sym none)
           ∙ ap (λ x. tallyLeaves (tallyOf k) f s 0 x absentFile (storedPages (k .files f s))) (sym (turns-none sets s (start (k .files f) (k .memory - 0))))
 
--- FORMAT
-cond-self : (b : Bool) → cond b true false ≡ b
-cond-self true = refl
-cond-self false = refl
-
-cond-same : {A : Type 0} (b : Bool) (x : A) → cond b x x ≡ x
-cond-same true x = refl
-cond-same false x = refl
-
-root-at : {A : Type 0} (g : SetRecord → A) (s : ℕ) → g (rootAlone s) ≡ cond (eqb s 0) (g (rootAlone 0)) (g unusedSet)
-unfolding rootAlone
-root-at g s = same? 0 s (λ e. rw (eq-eqb 0 s e, eq-eqb s 0 (sym e))) (λ n. rw (ne-eqb 0 s n, ne-eqb s 0 (λ e. n (sym e))))
-
-pub root-tree : treeOf rootAlone ≡ rootTree
-unfolding rootAlone rootTree childrenOf chain
-root-tree = λ i. record {
-  used = λ s. (root-at (λ r. r .used) s ∙ cond-self (eqb s 0)) i;
-  writeable = λ s. (root-at (λ r. r .writeable) s ∙ cond-self (eqb s 0)) i;
-  level = λ s. (root-at (λ r. r .level) s ∙ cond-same (eqb s 0) 0) i;
-  parent = λ s. root-at (λ r. r .parent) s i;
-  children = λ s. (root-at (λ r. cond (r .used) (chain rootAlone setCount (r .firstChild)) []) s ∙ cond-same (eqb s 0) []) i;
-}
-
 format-same : (k : Store counting) (blocks : ℕ) → resultOfTally (accepted counting blocks format k) ≡ tallyCall blocks format (tallyOf k)
 unfolding accepted tallyCall tallyTold formatted tallyFormat
-format-same k blocks = λ i. record { answer = refusal 0; tally = record { tree = root-tree i; files = λ f s. absentFile; free = blocks } }
+format-same k blocks = λ i. record { answer = refusal 0; tally = record { tree = root-alone-tree i; files = λ f s. absentFile; free = blocks } }
 
 -- CREATE
 create-same : (k : Store counting) (blocks s f : ℕ) → resultOfTally (accepted counting blocks (create s f) k) ≡ tallyCall blocks (create s f) (tallyOf k)

@@ -9,7 +9,7 @@ use native.Mathlib.Omega.{arith}
 use lib.Dec.{eqb, leb, ltb}
 use borrow.Author.Tests.{eq-eqb, le-leb, lt-leb, lt-ltb, ltb-false, ltb-true, ne-eqb}
 use Rattle.base.specs.Count.{count, sum}
-use Rattle.base.specs.Logic.{and-both, and-false, and-left, and-right, same?, test?}
+use Rattle.base.specs.Logic.{and-both, and-false, and-left, and-right, and-true, same?, test?}
 use Rattle.base.specs.Update.{upd, upd-other, upd-same}
 use Rattle.rules.proofs.Agreement.Agree.{from-high, from-low, from-mem, from-once}
 use Rattle.rules.proofs.Steps.StepFour.{each-all, each-inv}
@@ -33,11 +33,13 @@ module _ {A W P : Type 0} (view : W → P) (back : W → P → W) (same : (w : W
       rw (h x w) (each-part f g h xs (back w (g x (view w))) ∙ rw (seen w (g x (view w))) (again w _ _))
 
 module _ {W : Type 0} (g : ℕ → W → W) where
-  from-none : (a : ℕ) (w : W) → each g (from a 0) w ≡ w
+  -- nothing is done yet
+  pub from-none : (a : ℕ) (w : W) → each g (from a 0) w ≡ w
   unfolding each from
   from-none a w = refl
 
-  from-last : (n a : ℕ) (w : W) → each g (from a (suc n)) w ≡ g (a + n) (each g (from a n) w)
+  -- the last turn
+  pub from-last : (n a : ℕ) (w : W) → each g (from a (suc n)) w ≡ g (a + n) (each g (from a n) w)
   unfolding each from
   from-last zero a w = let e : a + 0 ≡ a = omega arith in rw e
   from-last (suc n) a w = let e : suc a + n ≡ a + suc n = omega arith in from-last n (suc a) (g a w) ∙ rw e
@@ -155,10 +157,6 @@ no-pages = record { first = 0; number = 0; is = refl; fit = omega arith; passes 
 
 pub all-pages : PagesOf (from 0 pageCount) (λ p. true)
 all-pages = record { first = 0; number = pageCount; is = refl; fit = omega arith; passes = λ p a b. refl; before = λ p a. absurd (omega arith); behind = λ p a b. absurd (omega arith) }
-
-and-true : (a : Bool) → (a && true) ≡ a
-and-true true = refl
-and-true false = refl
 
 within : (a b p : ℕ) → a ≤ p → p ≤ b → (leb a p && leb p b) ≡ true
 within a b p h k = rw (le-leb a p h, le-leb p b k)

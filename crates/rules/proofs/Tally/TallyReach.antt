@@ -1,6 +1,6 @@
 -- The tally's readings are the store's without blocks: the kind of a page, the size of a file, who depends on the file above;
 -- and the files that are marked with a file, found by going down through the children, are those that the store finds by going up the parents. Assumes nothing.
-use mathlib.Core.Bool.{_&&_, Bool, cond, false, true, true≢false}
+use mathlib.Core.Bool.{_&&_, Bool, cond, true, true≢false}
 use mathlib.Core.List.{List, List·Memᴰ, List·Memᴰ·head, List·Memᴰ·tail, _∷_, []}
 use mathlib.Core.Path.{ap, fun-ext, refl, subst, sym, _∙_, _≡_}
 use Prim.Native.Nat.{suc, zero, ℕ, _≤_}
@@ -8,7 +8,7 @@ use native.Mathlib.Omega.{arith}
 use lib.Dec.{eqb, lit<}
 use borrow.Author.Tests.{eq-eqb, eqb-true}
 use Rattle.base.specs.Count.{count, count-same}
-use Rattle.base.specs.Logic.{and-both, and-left, and-right, or-right, pick, test?}
+use Rattle.base.specs.Logic.{and-both, and-left, and-right, or-right, pick, same-test, test?}
 use Rattle.rules.proofs.Steps.OneStep.{FilesOk, TreeOk}
 use Rattle.rules.specs.Reading.{dependent, dependsOn, reaches, resolve, shownEntry, shownSize, sizeByReading, someUnmapped, walk}
 use Rattle.rules.specs.Rules.{markDown, markFile}
@@ -85,12 +85,6 @@ any-some [] f h = absurd (true≢false (sym h))
 any-some (y ∷ ys) f h =
     test? (f y) (λ e. (y, List·Memᴰ·head refl, e))
     (λ e. let r = any-some ys f (rw e at h) in (r .0, List·Memᴰ·tail (r .1), r .2))
-
--- two tests that imply each other
-same-test : (a b : Bool) → (a ≡ true → b ≡ true) → (b ≡ true → a ≡ true) → a ≡ b
-same-test true b h k = sym (h refl)
-same-test false true h k = k refl
-same-test false false h k = refl
 
 module _ (t : Tree) (ok : TreeOk t) (fs : TallyFiles) where
   -- UP: who depends on a child that depends on the file above it depends on that

@@ -3,11 +3,12 @@ use mathlib.Core.Bool.{Bool, false, true}
 use mathlib.Core.List.{_++_, List, List·Memᴰ, List·Memᴰ·cases-cons, List·Memᴰ·head, List·Memᴰ·tail, Memᴰ·cast, _∷_, []}
 use mathlib.Core.Logic.{inl, inr, _⊎_, ⊎-elim}
 use mathlib.Core.Path.{ap, refl, subst, sym, _∙_, _≡_}
-use Prim.Native.Nat.{_<_, suc, zero, ℕ, _≤_}
+use Prim.Native.Nat.{_-_, _<_, suc, zero, ℕ, _≤_}
+use native.Mathlib.Numerals.{sub-one}
 use native.Mathlib.Omega.{arith}
 use lib.Dec.{eqb, ltb}
 use lib.ListN.{length}
-use borrow.Author.Tests.{eq-eqb, lt-ltb, ne-eqb}
+use borrow.Author.Tests.{eq-eqb, le-ltb, lt-ltb, ne-eqb}
 use Rattle.base.specs.Count.{count, count-le, count-upd-false}
 use Rattle.base.specs.Logic.{same?, test?}
 use Rattle.base.specs.Update.{upd, upd-keeps, upd-other, upd-same}
@@ -68,6 +69,22 @@ Follows sets [] k = k ≡ 8
 Follows sets (x ∷ xs) k = (k ≡ x) × (x < 8) × Follows sets xs (sets x .nextSibling)
 
 module _ (sets : ℕ → SetRecord) where
+  -- a chain that begins at no set; one that is not followed at all; one set of it, and the rest
+  pub chain-past : (n k : ℕ) → 8 ≤ k → chain sets n k ≡ []
+  unfolding chain
+  chain-past zero k h = refl
+  chain-past (suc n) k h = rw (le-ltb k 8 h)
+
+  pub chain-zero : (n k : ℕ) → n ≡ 0 → chain sets n k ≡ []
+  unfolding chain
+  chain-zero zero k e = refl
+  chain-zero (suc n) k e = absurd (omega arith)
+
+  pub chain-more : (n k : ℕ) → 0 < n → k < 8 → chain sets n k ≡ k ∷ chain sets (n - 1) (sets k .nextSibling)
+  unfolding chain
+  chain-more zero k h l = absurd (omega arith)
+  chain-more (suc n) k h l = rw (lt-ltb k 8 l, sub-one)
+
   pub length-chain : (n k : ℕ) → length (chain sets n k) ≤ n
   unfolding chain
   length-chain zero k = omega arith

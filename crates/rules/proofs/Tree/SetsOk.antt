@@ -104,9 +104,9 @@ root-children : (x : ℕ) → childrenOf rootAlone x ≡ []
 root-children x = same? 0 x (λ e. subst (λ y. childrenOf rootAlone y ≡ []) e (children-are rootAlone 0 [] (rw root-0) (omega arith) (rw root-0)))
     (λ n. children-none rootAlone x (rw (root-x x n)))
 
-pub format-same : treeOf rootAlone ≡ rootTree
+pub root-alone-tree : treeOf rootAlone ≡ rootTree
 unfolding rootTree
-format-same = tree-ext (treeOf rootAlone) rootTree
+root-alone-tree = tree-ext (treeOf rootAlone) rootTree
     (by-root (λ x r. r .used ≡ eqb x 0) (rw root-0) (λ x n. sym (ne-eqb x 0 (λ e. n (sym e)))))
     (by-root (λ x r. r .writeable ≡ eqb x 0) (rw root-0) (λ x n. sym (ne-eqb x 0 (λ e. n (sym e)))))
     (by-root (λ x r. r .level ≡ 0) (rw root-0) (λ x n. refl))

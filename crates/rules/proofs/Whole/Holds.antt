@@ -14,7 +14,7 @@ use Rattle.rules.proofs.Blocks.RealCalls.{Stands, step-same}
 use Rattle.rules.proofs.Blocks.RealSim.{pagesSeen}
 use Rattle.rules.proofs.Blocks.RealStore.{RealKept, proper-tree}
 use Rattle.rules.proofs.Tree.RemoveSet.{remove-same}
-use Rattle.rules.proofs.Tree.SetsOk.{format-same}
+use Rattle.rules.proofs.Tree.SetsOk.{root-alone-tree}
 use Rattle.rules.proofs.Storages.StoreSim.{Same}
 use Rattle.rules.proofs.Tally.TallyCalls.{SameStep, SetsAfter, step-tallies}
 use Rattle.rules.proofs.Tally.TallyNumbers.{Tallies, TallyOrderly, same-numbers}
@@ -108,7 +108,7 @@ module _ (B : ℕ) (some : 1 ≤ B) (r : Store real) (pl : Plain) (ta : Tally) (
       accepted-plain m pl (v .plainly) (orderly m (v .formed)) B (viewOf model true true m) refl
       (λ s d w a. make-same (m .sets) (v .formed .sets-ok) s d w (a .set .used) (a .new) (a .unused))
       (λ d a. remove-same (m .sets) (v .formed .sets-ok) d (a .set .used) (a .not-root) (a .childless))
-      format-same c e
+      root-alone-tree c e
   plain-as (suc n) e = v .plainly
 
   -- the model after the call is that of the store after it

@@ -100,8 +100,6 @@ module _ (B : ℕ) (r : Store real) (pl : Plain) (ta : Tally) (v : Holds B r pl 
 
   -- what a call gives back is what plain store and tally give
   module _ (least : 1 ≤ B) where
-    answer-same : (c : Call) → step real (blankMemory B) c r .answer ≡ bothStep B c pl ta .answer
-    answer-same c = answer-step B least r pl ta v c
 
     -- a file that is looked at has a list in the plain store
     listed : (s f : ℕ) → live (r .files f s .state) ≡ true → (l : List ℕ) × (pl .files f s ≡ some l)
@@ -181,6 +179,6 @@ module _ (B : ℕ) (r : Store real) (pl : Plain) (ta : Tally) (v : Holds B r pl 
     unfolding step
     given-step c =
         let q = looks-same c (numberOf (viewOf real true true r) c) refl in
-        let e : step real (blankMemory B) c r .answer ≡ bothStep B c pl ta .answer = answer-same c in
+        let e : step real (blankMemory B) c r .answer ≡ bothStep B c pl ta .answer = answer-step B least r pl ta v c in
         let a : step real (blankMemory B) c r .answer ≡ bothAnswer (bothStep B c pl ta .answer .number) c pl (bothStep B c pl ta .answer) = q .count ∙ ap (λ (x : Answer). bothAnswer (x .number) c pl x) e in
         λ i. record { answer = a i; bytes = (q .shown ∙ ap (λ (x : Answer). front c x (plainBytes (lookOf c) pl)) a) i }

@@ -12,7 +12,7 @@ use Rattle.rules.proofs.Formed.FilesOfSets.{format-formed}
 use Rattle.rules.proofs.Whole.Holds.{Holds, holds-step}
 use Rattle.rules.proofs.Whole.HoldsMeans.{given-step}
 use Rattle.rules.proofs.Blocks.RealCalls.{fresh-free, kept-format}
-use Rattle.rules.proofs.Tree.SetsOk.{format-same, format-sets}
+use Rattle.rules.proofs.Tree.SetsOk.{root-alone-tree, format-sets}
 use Rattle.rules.specs.Agreement.{bothGiven, bothRun, storeGiven, storeRun}
 use Rattle.rules.specs.Calls.{Store, blankMemory, formatted, tablesOf, treeIn}
 use Rattle.rules.specs.Numbers.{Call}
@@ -30,10 +30,10 @@ format-holds B l = record {
   kept = kept-format B l;
   formed = record { sets-ok = format-sets; files-ok = λ f. format-formed (treeOf rootAlone); numbers = λ f s h. refl };
   plainly = record {
-    trees = sym format-same;
+    trees = sym root-alone-tree;
     agree = λ f. record { there = λ s. refl; size = λ s l e a. absurd (true≢false (sym a)); byte = λ s l e a i h. absurd (true≢false (sym a)) };
   };
-  tallies = record { tree = sym format-same; files = λ f. refl; free = fresh-free B };
+  tallies = record { tree = sym root-alone-tree; files = λ f. refl; free = fresh-free B };
 }
 
 module _ (B : ℕ) (least : 1 ≤ B) where

@@ -1,6 +1,6 @@
 -- `listing::decoding::are_zero` meets its contract. Assumes nothing.
 use borrow.Author.Tests.{eq-eqb, ne-eqb}
-use Rattle.listing.proofs.Requests.{and-true}
+use Rattle.base.specs.Logic.{and-true}
 use Rattle.listing.proofs.decoding.are_zero.Statement.{statement}
 use Rattle.listing.proofs.decoding.are_zero.Tie as tie
 
@@ -30,7 +30,7 @@ returns-6 c =
     let at-if3 = at-if4 .before in
     let at-if2 = at-if3 .before in
     let at-if1 = at-if2 .before in
-    simp (eq-eqb _ _ (at-if1 .if1 .left), eq-eqb _ _ (at-if2 .if2 .left), eq-eqb _ _ (at-if3 .if3 .left), eq-eqb _ _ (at-if4 .if4 .left), eq-eqb _ _ (c .if5 .left)) (and-true _)
+    simp (eq-eqb _ _ (at-if1 .if1 .left), eq-eqb _ _ (at-if2 .if2 .left), eq-eqb _ _ (at-if3 .if3 .left), eq-eqb _ _ (at-if4 .if4 .left), eq-eqb _ _ (c .if5 .left)) (sym (and-true _))
 
 pub are-zero-spec : {M : Type 1} → statement M
 are-zero-spec =

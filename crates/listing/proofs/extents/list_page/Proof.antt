@@ -7,10 +7,10 @@ use Rattle.tables.specs.OneReading.{blockFits}
 use Rattle.tables.specs.Packed.{unpack}
 use Rattle.listing.specs.Listing.{extLine}
 use Rattle.listing.proofs.LineTexts.{page-none, page-some}
-use Rattle.listing.proofs.Runs.{entry-fits}
 use Rattle.listing.proofs.Writing.{wrote-as, wrote-none}
 use Rattle.listing.proofs.extents.list_page.Statement.{statement}
 use Rattle.listing.proofs.extents.list_page.Tie as tie
+use Rattle.tables.proofs.PackUnpack.{unpack-fits}
 
 returns : tie.Need-returns
 returns c = let a = c .before .before .before .before .args in let m = unpack (a .t .now) .files (a .f) (a .s) .map in
@@ -25,7 +25,7 @@ put-ext-requires c κs =
     let a = start .args in (
       omega arith,
       omega arith,
-      subst blockFits (sym (at-entry-at .entry-at .ensures)) (entry-fits (a .t .now) (a .f) (a .s) (at-new .new .result .0) (λ i. at-shared-slice-known .shared-slice-known .given i .fits) (omega arith) (omega arith) (omega arith)),
+      subst blockFits (sym (at-entry-at .entry-at .ensures)) (unpack-fits (a .t .now) (λ i. at-shared-slice-known .shared-slice-known .given i .fits) .block-fits (a .f) (a .s) (at-new .new .result .0)),
     )
 
 returns-2 : tie.Need-returns-2

@@ -1,15 +1,14 @@
 -- `listing::extents::starts` meets its contract. Assumes nothing.
 use mathlib.Core.Bool.{not}
 use mathlib.Core.Path.{ap, ap₂, subst, sym, _∙_}
-use Prim.Native.Nat.{_-_}
-use native.Mathlib.Omega.{arith}
 use borrow.Author.Needs.{needs}
 use Rattle.tables.specs.OneReading.{blockFits}
 use Rattle.tables.specs.Packed.{unpack}
 use Rattle.listing.specs.Listing.{continues}
-use Rattle.listing.proofs.Runs.{begins-at, entry-fits}
+use Rattle.listing.proofs.Runs.{begins-at}
 use Rattle.listing.proofs.extents.starts.Statement.{statement}
 use Rattle.listing.proofs.extents.starts.Tie as tie
+use Rattle.tables.proofs.PackUnpack.{unpack-fits}
 
 goes-on-requires : tie.Need-goes-on-requires
 goes-on-requires c κs =
@@ -17,7 +16,7 @@ goes-on-requires c κs =
     let at-shared-slice-known = at-entry-at .before .before .before in
     let start = at-shared-slice-known .before in
     let a = start .args in
-    subst blockFits (sym (at-entry-at .entry-at .ensures)) (entry-fits (a .t .now) (a .f) (a .s) _ (λ i. at-shared-slice-known .shared-slice-known .given i .fits) (omega arith) (omega arith) (omega arith))
+    subst blockFits (sym (at-entry-at .entry-at .ensures)) (unpack-fits (a .t .now) (λ i. at-shared-slice-known .shared-slice-known .given i .fits) .block-fits (a .f) (a .s) _)
 
 returns-2 : tie.Need-returns-2
 returns-2 c =

@@ -4,7 +4,7 @@ use lib.ListN.{getD}
 use borrow.Author.Needs.{needs}
 use Rattle.packing.specs.Bits.{bit, bit-lt}
 use Rattle.packing.specs.Bitmap.{bitAt}
-use Rattle.packing.proofs.bitmap.Turns.{is-one}
+use Rattle.packing.specs.Bitmap.{is-one}
 use Rattle.packing.proofs.bitmap.bit_at.Statement.{statement}
 use Rattle.packing.proofs.bitmap.bit_at.Tie as tie
 
