@@ -10,12 +10,12 @@ ghost use Rattle.rules.specs.Calls.{viewOf};
 ghost use Rattle.rules.specs.Numbers;
 ghost use Rattle.rules.specs.Numbers.{lowest, numberOf};
 ghost use Rattle.rules.specs.Rules.{from, ownNeed, touched, truncateNeed};
-ghost use Rattle.rules.specs.State.{isAbsent, isMarked, isStored, treeOf};
+ghost use Rattle.rules.specs.State.{isStored, treeOf};
 ghost use Rattle.rules.specs.Storage.{real};
 ghost use Rattle.base.specs.Logic;
 ghost use Rattle.tables.specs.Calls.{storeOf};
 ghost use Rattle.tables.specs.Layout.{tableBytes};
-ghost use Rattle.tables.specs.Meaning.{entryMeant, stateMeant};
+ghost use Rattle.tables.specs.Meaning.{entryMeant};
 ghost use Rattle.tables.specs.Packed.{unpack};
 ghost use Rattle.tables.proofs.FormedStore.{FormedStore};
 ghost use Rattle.numbers.specs.Shared.{noSuchPlace, notChangeable, notReadable, readOnlyPlace, viewIn};
@@ -24,31 +24,8 @@ use tables::entries;
 use tables::entries::Entry;
 use tables::entries::Page;
 use tables::files;
-use tables::files::State;
 use tables::header;
 use tables::sets;
-
-fn is_absent(l: State) -> bool
-    ensures { λ r. ⌜ r ≡ isAbsent (stateMeant l) ⌝ }
-{
-    match l {
-        State::Absent => true,
-        State::Own => false,
-        State::Virgin => false,
-        State::Marked => false,
-    }
-}
-
-fn is_marked(l: State) -> bool
-    ensures { λ r. ⌜ r ≡ isMarked (stateMeant l) ⌝ }
-{
-    match l {
-        State::Absent => false,
-        State::Own => false,
-        State::Virgin => false,
-        State::Marked => true,
-    }
-}
 
 // Is it the number of a used set?
 fn is_used(t: &[u8], set: u32) -> bool
@@ -98,10 +75,10 @@ fn not_readable(t: &[u8], f: usize, s: usize) -> u32
     ensures { λ r. ⌜ r ≡ lowest (notReadable (viewIn (now (t .entry))) s f) ⌝ }
 {
     let l = files::state_at(t, f, s);
-    if is_absent(l) {
+    if files::is_absent(l) {
         return 5;
     }
-    if is_marked(l) {
+    if files::is_marked(l) {
         return 6;
     }
     0
@@ -195,7 +172,7 @@ pub fn of_create(t: &[u8], p: &[u8], set: u32, file: u32) -> u32
     if n != 0 {
         return n;
     }
-    if !is_absent(files::state_at(t, file as usize, set as usize)) {
+    if !files::is_absent(files::state_at(t, file as usize, set as usize)) {
         return 9;
     }
     0
@@ -257,7 +234,7 @@ pub fn of_delete(t: &[u8], p: &[u8], set: u32, file: u32) -> u32
     if n != 0 {
         return n;
     }
-    if is_absent(files::state_at(t, file as usize, set as usize)) {
+    if files::is_absent(files::state_at(t, file as usize, set as usize)) {
         return 5;
     }
     0

@@ -66,7 +66,7 @@ pub fn zero_tail(pages: &mut [u8], b: Block, n: usize)
     zero_bytes(pages, b.number() * 512 + n, 512 - n);
 }
 
-fn larger(a: usize, b: usize) -> usize
+pub fn larger(a: usize, b: usize) -> usize
     ensures { λ r. ⌜ r ≡ max a b ⌝ }
 {
     if a < b {
@@ -75,7 +75,7 @@ fn larger(a: usize, b: usize) -> usize
     a
 }
 
-fn smaller(a: usize, b: usize) -> usize
+pub fn smaller(a: usize, b: usize) -> usize
     ensures { λ r. ⌜ r ≡ min a b ⌝ }
 {
     if a < b {

@@ -43,7 +43,6 @@ module _ (tb : Tables) where
 
 -- ---- a chain, set by set
 module _ (sets : ℕ → SetRecord) where
-
   -- do all have the parent s
   module _ (s : ℕ) where
     abbrev below : ℕ → ℕ → Bool

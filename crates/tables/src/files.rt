@@ -2,7 +2,7 @@
 ghost use mathlib.Core.Path.{_≡_};
 ghost use Prim.Native.Nat.{_<_};
 ghost use lib.ListN.{length};
-ghost use Rattle.rules.specs.State.{live, isVirgin};
+ghost use Rattle.rules.specs.State.{isAbsent, isMarked, isOwn, isVirgin, live};
 ghost use Rattle.tables.specs.Layout.{tableBytes, stateOf, stateNumber};
 ghost use Rattle.tables.specs.Packed.{unpack};
 ghost use Rattle.tables.specs.Views.{PackedTables, Turns, putHeadIn};
@@ -84,5 +84,38 @@ pub fn is_virgin(l: State) -> bool
         State::Own => false,
         State::Virgin => true,
         State::Marked => false,
+    }
+}
+
+pub fn is_absent(l: State) -> bool
+    ensures { λ r. ⌜ r ≡ isAbsent (stateMeant l) ⌝ }
+{
+    match l {
+        State::Absent => true,
+        State::Own => false,
+        State::Virgin => false,
+        State::Marked => false,
+    }
+}
+
+pub fn is_own(l: State) -> bool
+    ensures { λ r. ⌜ r ≡ isOwn (stateMeant l) ⌝ }
+{
+    match l {
+        State::Absent => false,
+        State::Own => true,
+        State::Virgin => false,
+        State::Marked => false,
+    }
+}
+
+pub fn is_marked(l: State) -> bool
+    ensures { λ r. ⌜ r ≡ isMarked (stateMeant l) ⌝ }
+{
+    match l {
+        State::Absent => false,
+        State::Own => false,
+        State::Virgin => false,
+        State::Marked => true,
     }
 }

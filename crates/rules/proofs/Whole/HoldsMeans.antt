@@ -100,7 +100,6 @@ module _ (B : ℕ) (r : Store real) (pl : Plain) (ta : Tally) (v : Holds B r pl 
 
   -- what a call gives back is what plain store and tally give
   module _ (least : 1 ≤ B) where
-
     -- a file that is looked at has a list in the plain store
     listed : (s f : ℕ) → live (r .files f s .state) ≡ true → (l : List ℕ) × (pl .files f s ≡ some l)
     listed s f al = has-list (pl .files f s) (v .plainly .agree f .there s ∙ live-present (r .files f s .state) al)

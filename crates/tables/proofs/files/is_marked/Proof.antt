@@ -1,8 +1,8 @@
--- `numbers::is_marked` meets its contract. Assumes nothing.
+-- `tables::files::is_marked` meets its contract. Assumes nothing.
 use borrow.Author.Needs.{needs}
 use Rattle.tables.specs.Meaning.{stateMeant}
-use Rattle.numbers.proofs.is_marked.Statement.{statement}
-use Rattle.numbers.proofs.is_marked.Tie as tie
+use Rattle.tables.proofs.files.is_marked.Statement.{statement}
+use Rattle.tables.proofs.files.is_marked.Tie as tie
 
 returns : tie.Need-returns
 unfolding stateMeant

@@ -1,8 +1,8 @@
--- `numbers::is_absent` meets its contract. Assumes nothing.
+-- `tables::files::is_absent` meets its contract. Assumes nothing.
 use borrow.Author.Needs.{needs}
 use Rattle.tables.specs.Meaning.{stateMeant}
-use Rattle.numbers.proofs.is_absent.Statement.{statement}
-use Rattle.numbers.proofs.is_absent.Tie as tie
+use Rattle.tables.proofs.files.is_absent.Statement.{statement}
+use Rattle.tables.proofs.files.is_absent.Tie as tie
 
 returns : tie.Need-returns
 unfolding stateMeant
