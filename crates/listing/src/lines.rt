@@ -2,7 +2,6 @@
 ghost use mathlib.Core.List.{[], _∷_, _++_};
 ghost use mathlib.Core.Path.{_≡_};
 ghost use Prim.Native.Nat.{_+_, _<_, _≤_};
-ghost use Rattle.rules.specs.State.{unmapped, hole, stored};
 ghost use Rattle.tables.specs.Layout.{stateNumber};
 ghost use Rattle.tables.specs.Meaning.{entryMeant, setMeant, stateMeant};
 ghost use Rattle.calls.specs.Outcomes.{answerMeant};
@@ -15,9 +14,7 @@ use crate::text::put;
 use crate::text::put_three;
 use crate::text::put_word;
 use calls::answer::Answer;
-use tables::entries::Block;
 use tables::entries::Entry;
-use tables::entries::Page;
 use tables::files::State;
 use tables::sets::SetRecord;
 

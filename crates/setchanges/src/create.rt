@@ -1,5 +1,4 @@
 // Creating a file.
-ghost use mathlib.Core.Path.{_≡_};
 ghost use Prim.Native.Nat.{_<_};
 ghost use Rattle.tables.specs.Views.{PackedTables, Turns};
 ghost use Rattle.setchanges.specs.Changes.{holesIn, createdIn};

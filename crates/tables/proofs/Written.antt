@@ -10,7 +10,7 @@ use Rattle.rules.specs.State.{Entry, SetRecord, State, Tables, fileCount, large
 use Rattle.tables.proofs.Codes.{blocks-lt, entry-place, head-word, next-bytes}
 use Rattle.tables.proofs.PackUnpack.{pack-unpack}
 use Rattle.tables.proofs.Stores.{clear-bit-turns, entry-turns, head-turns, next-turns, set-bit-turns, set-turns}
-use Rattle.tables.specs.Layout.{bitmapAt, fileAt, headerAt, setAt, stateNumber, writeEntry, writeSet}
+use Rattle.tables.specs.Layout.{bitmapAt, fileAt, setAt, stateNumber, writeEntry, writeSet}
 use Rattle.tables.specs.OneReading.{SetFits, blockFits}
 use Rattle.tables.specs.Packed.{pack, unpack}
 use Rattle.tables.specs.Views.{PackedTables, Turns, putBitIn, putEntryIn, putHeadIn, putNextIn, putSetIn}

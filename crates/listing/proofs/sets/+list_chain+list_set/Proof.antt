@@ -1,13 +1,11 @@
 -- `listing::sets::list_set` and `listing::sets::list_chain` meet their contracts: they call each other, and the count of unvisited sets falls. Assumes nothing.
-use mathlib.Core.Path.{_≡_, _∙_}
-use Prim.Native.Nat.{ℕ, _<_, _+_, _-_, _*_}
+use Prim.Native.Nat.{ℕ, _+_, _-_, _*_}
 use native.Mathlib.Omega.{arith}
 use borrow.Author.Needs.{needs}
 use borrow.Fn.Kinds.{In}
 use borrow.Fn.PlainCycle.{Measures, is, falls, and}
 use Rattle.tables.specs.Packed.{unpack}
 use Rattle.listing.proofs.Visits.{chain-visited, no-set, none-left, set-visited, stayed}
-use Rattle.listing.proofs.Writing.{wrote-length}
 use Rattle.listing.proofs.sets.list_chain.Reads as list-chain
 use Rattle.listing.proofs.sets.list_chain.Kinds as list-chain-kinds
 use Rattle.listing.proofs.sets.+list_chain+list_set.Lts-list_chain as list-chain-lts

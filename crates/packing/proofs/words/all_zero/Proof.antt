@@ -1,5 +1,5 @@
 -- `packing::words::all_zero` meets its contract. The loop's invariant: x is zero exactly where the first i bytes are. Assumes nothing.
-use mathlib.Core.Path.{_≡_, ap, _∙_}
+use mathlib.Core.Path.{_≡_}
 use Prim.Native.Nat.{_≤_, _-_}
 use native.Mathlib.Omega.{arith}
 use lib.Dec.{eqb}

@@ -3,7 +3,6 @@ use mathlib.Core.Path.{ap, sym, _∙_}
 use Prim.Native.Nat.{_%_}
 use native.Mathlib.Nat.{mod-eq-of-lt, mod-self}
 use native.Mathlib.Omega.{arith}
-use borrow.Author.Needs.{needs}
 use Rattle.tables.proofs.entries.after.Statement.{statement}
 use Rattle.tables.proofs.entries.after.Tie as tie
 
