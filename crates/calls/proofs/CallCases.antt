@@ -59,7 +59,7 @@ formed-number a b st tellFree o h = rw h refl
 
 module _ (t p : List ℕ) (c : Call) (o : onStore c ≡ true) where
   -- LAW: tables that are not well formed
-  pub call-unformed : wellFormed t (length p) ≡ false → callOn c t p ≡ lookedAt (refusal 1) t p (bufferIn (lookOf c))
+  call-unformed : wellFormed t (length p) ≡ false → callOn c t p ≡ lookedAt (refusal 1) t p (bufferIn (lookOf c))
   unfolding callOn outcomeOf
   call-unformed h = ap (λ n. outcomeOf n c t p) (unformed-number (viewOn t p) c o h)
 
@@ -69,7 +69,7 @@ module _ (t p : List ℕ) (c : Call) (o : onStore c ≡ true) where
     call-number = ap (λ n. outcomeOf n c t p) (formed-number (wellFormed t (length p)) _ (storeOf t p) c o formed)
 
     -- LAW: a refusal
-    pub call-refused : (n : ℕ) → n ≡ numberIn t p c → (n ≡ 0 → ⊥) → callOn c t p ≡ lookedAt (refusal n) t p (bufferIn (lookOf c))
+    call-refused : (n : ℕ) → n ≡ numberIn t p c → (n ≡ 0 → ⊥) → callOn c t p ≡ lookedAt (refusal n) t p (bufferIn (lookOf c))
     unfolding outcomeOf
     call-refused zero e k = absurd (k refl)
     call-refused (suc n) e k = call-number ∙ ap (λ x. outcomeOf x c t p) (sym e)

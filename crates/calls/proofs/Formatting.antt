@@ -19,12 +19,12 @@ use Rattle.calls.specs.declared.answer.Answer as declared
 use Rattle.tables.proofs.Lengths.{lengths-in}
 
 -- lengths that do not fit: number 1, and nothing changed
-pub format-refused : (t p : List ℕ) → formatLengths (length t) (length p) ≡ false → callOn format t p ≡ lookedAt (refusal 1) t p []
+format-refused : (t p : List ℕ) → formatLengths (length t) (length p) ≡ false → callOn format t p ≡ lookedAt (refusal 1) t p []
 unfolding callOn outcomeOf numberOf conditions lowest
 format-refused t p h = ap (λ (b : Bool). outcomeOf (cond (not b) 1 0) format t p) h
 
 -- every page zero
-pub zero-pages : (p : List ℕ) (n : ℕ) → length p ≡ n * 512 → packPages n (λ b i. 0) ≡ zeroed p 0 (length p)
+zero-pages : (p : List ℕ) (n : ℕ) → length p ≡ n * 512 → packPages n (λ b i. 0) ≡ zeroed p 0 (length p)
 unfolding packPages
 zero-pages p n h =
     tab-of 0 (n * 512) (λ i. 0) (zeroed p 0 (length p)) (length-zeroed p 0 (length p) ∙ h)
@@ -48,7 +48,7 @@ unfolding formatLengths
 lengths-most n m a b h = rw (eq-eqb n 17436 a) (rw (eq-eqb (m % 512) 0 b) (rw (le-leb 512 m h) refl))
 
 -- an accepted format
-pub format-accepted : (t p t′ : List ℕ) → formatLengths (length t) (length p) ≡ true
+format-accepted : (t p t′ : List ℕ) → formatLengths (length t) (length p) ≡ true
     → t′ ≡ pack (tablesOf (formatted real (blankMemory (length p / 512))))
     → callOn format t p ≡ lookedAt noCounts t′ (zeroed p 0 (length p)) []
 unfolding callOn outcomeOf numberOf conditions lowest acceptedOn accepted formatted

@@ -53,7 +53,7 @@ module _ (t p t′ p′ : List ℕ) (f : ℕ) (k : Counts) (op : Work real → W
   }
 
   -- LAW: the outcome of the rule is what the code leaves
-  pub worked-on : FormedStore t p → Bytes t′ → length p′ ≡ length p → repacked (worked real (storeOf t p) f (op (begin real (storeOf t p) f))) ≡ lookedAt (counted k) t′ p′ []
+  worked-on : FormedStore t p → Bytes t′ → length p′ ≡ length p → repacked (worked real (storeOf t p) f (op (begin real (storeOf t p) f))) ≡ lookedAt (counted k) t′ p′ []
   unfolding worked
   worked-on fs bs l =
       let b : unpack t .blocks ≡ unpack t′ .blocks = ap (λ (x : Rest). x .blocks) (sym (ch .same)) in

@@ -109,7 +109,7 @@ module _ (B : ℕ) (least : 1 ≤ B) (most : B ≤ 4096) (r : Store real) (pl : 
   images-as (suc n) c = ap (lookedAt (refusal (suc n)) (imageOf r .tables) (imageOf r .pages)) (refused-buffer (lookOf c) n)
 
   -- A CALL on the image is the call on the store
-  pub call-image : (c : Call) → callOn c (imageOf r .tables) (imageOf r .pages) ≡ record {
+  call-image : (c : Call) → callOn c (imageOf r .tables) (imageOf r .pages) ≡ record {
     answer = step real (blankMemory B) c r .answer;
     tables = imageOf (step real (blankMemory B) c r .store) .tables;
     pages = imageOf (step real (blankMemory B) c r .store) .pages;
@@ -118,10 +118,10 @@ module _ (B : ℕ) (least : 1 ≤ B) (most : B ≤ 4096) (r : Store real) (pl : 
   unfolding callOn step
   call-image c = ap (λ (w : View). outcomeOf (numberOf w c) c (imageOf r .tables) (imageOf r .pages)) view-image ∙ images-as (numberOf (viewOf real true true r) c) c
 
-  pub after-image : (c : Call) → after c (imageOf r) ≡ imageOf (step real (blankMemory B) c r .store)
+  after-image : (c : Call) → after c (imageOf r) ≡ imageOf (step real (blankMemory B) c r .store)
   after-image c = ap (λ (o : Outcome). record { tables = o .tables; pages = o .pages }) (call-image c)
 
-  pub gave-image : (c : Call) → gave c (imageOf r) ≡ storeGive B c r
+  gave-image : (c : Call) → gave c (imageOf r) ≡ storeGive B c r
   gave-image c = ap (λ (o : Outcome). record { answer = o .answer; bytes = front c (o .answer) (o .buffer) }) (call-image c)
 
 -- lists of calls

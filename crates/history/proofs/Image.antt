@@ -116,7 +116,7 @@ module _ (B : ℕ) (least : 1 ≤ B) (most : B ≤ 4096) (r : Store real) (pl : 
       absurd (omega (arith, u .below, v .kept .blocks)))
       (λ e. e)
 
-  pub image-fits : Fits (tablesOf r)
+  image-fits : Fits (tablesOf r)
   image-fits = record {
     blocks-fit = omega (arith, v .kept .blocks);
     next-fits = omega (arith, v .kept .blocks, v .kept .blocks-ok .next);

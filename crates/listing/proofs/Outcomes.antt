@@ -28,7 +28,7 @@ module _ (t : List ℕ) (n : ℕ) where
 
   module _ (h : wellFormed t n ≡ true) where
     -- the text that was written is the listing
-    pub whole-text : (d e : List ℕ) (r : Place) → Visited d e 0 r (visitSet (unpack t) 16 8 0) → Wrote d e 0 (r .at) (listing (unpack t))
+    whole-text : (d e : List ℕ) (r : Place) → Visited d e 0 r (visitSet (unpack t) 16 8 0) → Wrote d e 0 (r .at) (listing (unpack t))
     whole-text d e r v = wrote-as (listing-is (unpack t) (formed-tables t n h .sets-ok)) (v .wrote)
 
     outcome-is : (d e : List ℕ) (r : Place) (told : Listed) → Wrote d e 0 (r .at) (listing (unpack t)) → told ≡ listInto (listing (unpack t)) d .told → listOutcome told e ≡ listOn t n d

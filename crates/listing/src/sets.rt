@@ -25,7 +25,7 @@ pub fn list_set(t: &[u8], s: usize, out: &mut [u8], cur: usize, left: usize) -> 
 }
 
 // The sets of a chain of siblings from k on, each with what is below it.
-pub fn list_chain(t: &[u8], k: usize, out: &mut [u8], cur: usize, left: usize) -> Place
+fn list_chain(t: &[u8], k: usize, out: &mut [u8], cur: usize, left: usize) -> Place
     requires { ⌜ (length (now t) ≡ tableBytes) × (left ≤ 8) × (cur + left * 17132 ≤ 137056) ⌝ }
     ensures { λ r. ⌜ ((f : ℕ) → 2 * left + 1 ≤ f → Visited (now (out .entry)) (now (out .exit)) cur r (visitChain (unpack (now (t .entry))) f left k)) × (r .left ≤ left) × (r .at + r .left * 17132 ≤ cur + left * 17132) ⌝ }
 {

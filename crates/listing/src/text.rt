@@ -36,7 +36,7 @@ fn last_digit(n: usize) -> u8
 }
 
 // A number in decimal.
-pub fn put_decimal(out: &mut [u8], cur: usize, n: usize) -> usize
+fn put_decimal(out: &mut [u8], cur: usize, n: usize) -> usize
     requires { ⌜ cur + 20 < 4294967296 ⌝ }
     ensures { λ r. ⌜ Wrote (now (out .entry)) (now (out .exit)) cur r (decimal n) × (r ≤ cur + 20) ⌝ }
 {

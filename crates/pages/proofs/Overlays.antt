@@ -27,7 +27,7 @@ module _ (off : ℕ) (bs : List ℕ) (p lo hi : ℕ) where
     pub high-page : hi ≤ p * 512 + 512
     pub high : (k : ℕ) → k < off + length bs → k < p * 512 + 512 → k < hi
 
-  pub edges : lo ≡ max off (p * 512) → hi ≡ min (off + length bs) (p * 512 + 512) → Edges
+  edges : lo ≡ max off (p * 512) → hi ≡ min (off + length bs) (p * 512 + 512) → Edges
   edges a b = record { low-off = omega arith; low-page = omega arith; low = λ k x y. omega arith; high-off = omega arith; high-page = omega arith; high = λ k x y. omega arith }
 
   inside-lo : Edges → (i : ℕ) → inside i ≡ true → (lo ≤ p * 512 + i) × (p * 512 + i < hi)
@@ -38,13 +38,13 @@ module _ (off : ℕ) (bs : List ℕ) (p lo hi : ℕ) where
       let d = ltb-true (p * 512 + i) (off + length bs) (and-right (ltb i 512 && leb off (p * 512 + i)) (ltb (p * 512 + i) (off + length bs)) q) in
       (e .low (p * 512 + i) c (omega arith), e .high (p * 512 + i) d (omega arith))
 
-  pub lay-none : Edges → hi ≤ lo → (v : ℕ → ℕ) → overlay off bs p v ≡ v
+  lay-none : Edges → hi ≤ lo → (v : ℕ → ℕ) → overlay off bs p v ≡ v
   unfolding overlay
   lay-none e h v = fun-ext (λ i. test? (inside i)
       (λ q. let k = inside-lo e i q in absurd (omega arith))
       (λ q. rw q))
 
-  pub lay-some : Edges → lo < hi → (v : ℕ → ℕ) → patch (lo - p * 512) (hi - lo) (λ i. getD bs (lo - off + i) 0) v ≡ overlay off bs p v
+  lay-some : Edges → lo < hi → (v : ℕ → ℕ) → patch (lo - p * 512) (hi - lo) (λ i. getD bs (lo - off + i) 0) v ≡ overlay off bs p v
   unfolding overlay patch
   lay-some e h v = fun-ext (λ i. test? (inside i)
       (λ q. let k = inside-lo e i q in

@@ -53,7 +53,7 @@ module _ (l : List ℕ) (b x n : ℕ) (f : ℕ → ℕ) (h : b * 512 + 512 ≤ l
       (λ e. fun-ext (λ i. run-away j i (λ i5 m c d. e (omega arith))) ∙ sym (upd-other (pagesOf l) b (patch x n f (pagesOf l b)) j e)))
 
 -- a whole page
-pub page-whole : (l : List ℕ) (b : ℕ) (f v : ℕ → ℕ) → b * 512 + 512 ≤ length l → ((i : ℕ) → i < 512 → f i ≡ v i) → ((i : ℕ) → 512 ≤ i → v i ≡ 0)
+page-whole : (l : List ℕ) (b : ℕ) (f v : ℕ → ℕ) → b * 512 + 512 ≤ length l → ((i : ℕ) → i < 512 → f i ≡ v i) → ((i : ℕ) → 512 ≤ i → v i ≡ 0)
     → pagesOf (run l (b * 512) f 512) ≡ upd (pagesOf l) b v
 unfolding patch
 page-whole l b f v h a z =

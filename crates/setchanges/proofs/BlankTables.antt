@@ -83,12 +83,12 @@ module _ (t : List ℕ) (len : length t ≡ tableBytes) where
   pub zeros-packed : (t′ : List ℕ) → t′ ≡ zeroed t 0 tableBytes → PackedTables t′
   zeros-packed t′ e = subst (λ (x : List ℕ). PackedTables x) (sym e) (blank-packed (zeroed t 0 tableBytes) (length-zeroed t 0 tableBytes ∙ len) all-zero)
 
-  pub zeros-view : (t′ : List ℕ) → t′ ≡ zeroed t 0 tableBytes → unpack t′ ≡ blankTables
+  zeros-view : (t′ : List ℕ) → t′ ≡ zeroed t 0 tableBytes → unpack t′ ≡ blankTables
   zeros-view t′ e = ap unpack e ∙ blank-view (zeroed t 0 tableBytes) (length-zeroed t 0 tableBytes ∙ len) all-zero
 
 -- LAW: a header stored
 module _ (t : List ℕ) (h : PackedTables t) (b n : ℕ) (hb : b < 8192) (hn : n < 4096) where
-  pub header-turns : Turns t (putWord 3 t headerAt (writeHeader b n)) (putHeaderIn b n)
+  header-turns : Turns t (putWord 3 t headerAt (writeHeader b n)) (putHeaderIn b n)
   unfolding putHeaderIn
   header-turns =
       let w = writeHeader b n in

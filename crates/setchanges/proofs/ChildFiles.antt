@@ -39,7 +39,7 @@ module _ (s c : ℕ) (tb : Tables) where
   child-none = files-same tb (partly 0) (tb .files) (fun-ext (λ f. rw (le-ltb f 0 (omega arith))))
 
   -- a file that is still to be done
-  pub child-later : (n f : ℕ) → n ≤ f → childFilesTo s c n tb .files f ≡ tb .files f
+  child-later : (n f : ℕ) → n ≤ f → childFilesTo s c n tb .files f ≡ tb .files f
   unfolding childFilesTo
   child-later n f h = rw (le-ltb f n h)
 

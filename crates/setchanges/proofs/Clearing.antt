@@ -59,7 +59,7 @@ module _ (c : ℕ) (tb : Tables) where
       (from-none (λ f. freedBits (tb .files f c .map)) 0 (tb .bits)) (fun-ext (λ f. rw (le-ltb f 0 (omega arith))))
 
   -- a file that is still to be done
-  pub cleared-later : (n f : ℕ) → n ≤ f → clearedTo c n tb .files f ≡ tb .files f
+  cleared-later : (n f : ℕ) → n ≤ f → clearedTo c n tb .files f ≡ tb .files f
   unfolding clearedTo
   cleared-later n f h = rw (le-ltb f n h)
 

@@ -15,7 +15,7 @@ use Rattle.tables.specs.Views.{PackedTables, Turns}
 
 -- LAW: the record of a file set to zero
 module _ (t : List ℕ) (h : PackedTables t) (f s : ℕ) (hf : f < fileCount) (hs : s < setCount) where
-  pub erased-turns : Turns t (zeroed t (fileAt f s) 132) (erasedIn f s)
+  erased-turns : Turns t (zeroed t (fileAt f s) 132) (erasedIn f s)
   unfolding erasedIn
   erased-turns =
       let lo = fileAt f s in

@@ -100,11 +100,11 @@ module _ (sets : ℕ → SetRecord) where
 
   -- the child chain of set s
   module _ (s : ℕ) (r : SetRecord) (e : r ≡ sets s) where
-    pub children-unused : not (r .used) ≡ true → childrenOf sets s ≡ []
+    children-unused : not (r .used) ≡ true → childrenOf sets s ≡ []
     unfolding childrenOf
     children-unused h = rw (← e, not-true (r .used) h)
 
-    pub children-chain : not (r .used) ≡ false → childrenOf sets s ≡ chain sets 8 (r .firstChild)
+    children-chain : not (r .used) ≡ false → childrenOf sets s ≡ chain sets 8 (r .firstChild)
     unfolding childrenOf
     children-chain h = rw (← e, not-false (r .used) h)
 

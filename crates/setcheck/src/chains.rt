@@ -13,7 +13,7 @@ use tables::sets::next_sibling_of;
 use tables::sets::set_at;
 
 // "links are 8 or used sets"
-pub fn link_formed(t: &[u8], k: usize) -> bool
+fn link_formed(t: &[u8], k: usize) -> bool
     requires { ⌜ length (now t) ≡ tableBytes ⌝ }
     ensures { λ r. ⌜ r ≡ linkFormed (unpack (now (t .entry))) k ⌝ }
 {
@@ -28,7 +28,7 @@ pub fn link_formed(t: &[u8], k: usize) -> bool
 }
 
 // "Chains end": does the chain that begins at k end within 8 sets?
-pub fn chain_ends(t: &[u8], k: usize) -> bool
+fn chain_ends(t: &[u8], k: usize) -> bool
     requires { ⌜ length (now t) ≡ tableBytes ⌝ }
     ensures { λ r. ⌜ r ≡ chainEnds (unpack (now (t .entry))) 8 k ⌝ }
 {
@@ -45,7 +45,7 @@ pub fn chain_ends(t: &[u8], k: usize) -> bool
 }
 
 // Do all sets of the chain that begins at k have the parent s?
-pub fn chain_below(t: &[u8], k: usize, s: usize) -> bool
+fn chain_below(t: &[u8], k: usize, s: usize) -> bool
     requires { ⌜ length (now t) ≡ tableBytes ⌝ }
     ensures { λ r. ⌜ r ≡ allIn (chain (unpack (now (t .entry)) .sets) 8 k) (λ c. eqb (unpack (now (t .entry)) .sets c .parent) s) ⌝ }
 {
@@ -66,7 +66,7 @@ pub fn chain_below(t: &[u8], k: usize, s: usize) -> bool
 }
 
 // "hold only that parent's children": the chain of set s, empty where s is unused.
-pub fn chain_of_parent(t: &[u8], s: usize) -> bool
+fn chain_of_parent(t: &[u8], s: usize) -> bool
     requires { ⌜ (length (now t) ≡ tableBytes) × (s < 8) ⌝ }
     ensures { λ r. ⌜ r ≡ allIn (childrenOf (unpack (now (t .entry)) .sets) s) (λ c. eqb (unpack (now (t .entry)) .sets c .parent) s) ⌝ }
 {
@@ -87,7 +87,7 @@ fn same(c: usize, x: usize) -> usize
 }
 
 // How often c stands in the chain that begins at k.
-pub fn times_from(t: &[u8], c: usize, k: usize) -> usize
+fn times_from(t: &[u8], c: usize, k: usize) -> usize
     requires { ⌜ length (now t) ≡ tableBytes ⌝ }
     ensures { λ r. ⌜ (r ≡ countIn (chain (unpack (now (t .entry)) .sets) 8 k) (λ x. eqb c x)) × (r ≤ 8) ⌝ }
 {

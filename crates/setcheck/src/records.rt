@@ -12,7 +12,7 @@ use tables::sets::SetRecord;
 use tables::sets::set_at;
 
 // "Zero fields are zero": that of a set record.
-pub fn set_zero(t: &[u8], s: usize) -> bool
+fn set_zero(t: &[u8], s: usize) -> bool
     requires { ⌜ (length (now t) ≡ tableBytes) × (s < 8) ⌝ }
     ensures { λ r. ⌜ r ≡ setZero (now (t .entry)) s ⌝ }
 {
@@ -39,7 +39,7 @@ fn zero_record(r: SetRecord) -> bool
 }
 
 // "Unused sets are all zero": one set.
-pub fn unused_zero(t: &[u8], s: usize) -> bool
+fn unused_zero(t: &[u8], s: usize) -> bool
     requires { ⌜ (length (now t) ≡ tableBytes) × (s < 8) ⌝ }
     ensures { λ r. ⌜ r ≡ unusedZero (unpack (now (t .entry))) s ⌝ }
 {

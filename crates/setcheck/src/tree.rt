@@ -14,7 +14,7 @@ use tables::sets::parent_of;
 use tables::sets::set_at;
 
 // "Set 0 is used, writeable, level 0, with no parent or sibling."
-pub fn root_formed(t: &[u8]) -> bool
+fn root_formed(t: &[u8]) -> bool
     requires { ⌜ length (now t) ≡ tableBytes ⌝ }
     ensures { λ r. ⌜ r ≡ rootFormed (unpack (now (t .entry))) ⌝ }
 {
@@ -35,7 +35,7 @@ pub fn root_formed(t: &[u8]) -> bool
 }
 
 // "Each other used set stands once, in its parent's child chain, with the right level, at most 5."
-pub fn place_formed(t: &[u8], c: usize) -> bool
+fn place_formed(t: &[u8], c: usize) -> bool
     requires { ⌜ (length (now t) ≡ tableBytes) × (c < 8) ⌝ }
     ensures { λ r. ⌜ r ≡ placeFormed (unpack (now (t .entry))) c ⌝ }
 {
@@ -54,7 +54,7 @@ pub fn place_formed(t: &[u8], c: usize) -> bool
 }
 
 // The rules of the tree for one set: none where it is unused.
-pub fn set_in_tree(t: &[u8], s: usize) -> bool
+fn set_in_tree(t: &[u8], s: usize) -> bool
     requires { ⌜ (length (now t) ≡ tableBytes) × (s < 8) ⌝ }
     ensures { λ r. ⌜ r ≡ setInTree (unpack (now (t .entry))) s ⌝ }
 {
@@ -72,7 +72,7 @@ pub fn set_in_tree(t: &[u8], s: usize) -> bool
 }
 
 // The root, and the rules of the tree for all sets.
-pub fn tree_formed(t: &[u8]) -> bool
+fn tree_formed(t: &[u8]) -> bool
     requires { ⌜ length (now t) ≡ tableBytes ⌝ }
     ensures { λ r. ⌜ r ≡ treeFormed (unpack (now (t .entry))) ⌝ }
 {

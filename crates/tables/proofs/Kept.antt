@@ -65,7 +65,7 @@ module _ (lo hi : ℕ) (t t′ : List ℕ) (same : Same lo hi t t′) where
       (λ e. map-default t′ f s p e ∙ sym (map-default t f s p e))
 
   -- a whole file
-  pub file-kept : (f s : ℕ) → (f < fileCount → s < setCount → lo < fileAt f s + 132 → fileAt f s < hi → ⊥) → unpack t′ .files f s ≡ unpack t .files f s
+  file-kept : (f s : ℕ) → (f < fileCount → s < setCount → lo < fileAt f s + 132 → fileAt f s < hi → ⊥) → unpack t′ .files f s ≡ unpack t .files f s
   file-kept f s h =
       let a = state-kept f s (λ hf hs a b. h hf hs (omega arith) (omega arith)) in
       let b = size-kept f s (λ hf hs a b. h hf hs (omega arith) (omega arith)) in

@@ -17,7 +17,7 @@ length-pack tb = length-tab tableBytes (tableByte tb)
 
 -- ---- byte j of each word
 
-pub pack-at : (tb : Tables) (i : ℕ) → i < tableBytes → getD (pack tb) i 0 ≡ tableByte tb i
+pack-at : (tb : Tables) (i : ℕ) → i < tableBytes → getD (pack tb) i 0 ≡ tableByte tb i
 unfolding pack
 pack-at tb i h = getD-tab tableBytes (tableByte tb) i 0 h
 

@@ -69,7 +69,7 @@ module _ (t : List ℕ) (f s : ℕ) (hf : f < fileCount) (hs : s < setCount) (ze
 -- ---- the other way
 
 -- the bytes of a word that is zero
-pub zero-bytes : (m : ℕ) (t : List ℕ) (start : ℕ) → getWord m t start ≡ 0 → (j : ℕ) → j ≤ m → getD t (start + j) 0 ≡ 0
+zero-bytes : (m : ℕ) (t : List ℕ) (start : ℕ) → getWord m t start ≡ 0 → (j : ℕ) → j ≤ m → getD t (start + j) 0 ≡ 0
 unfolding getWord
 zero-bytes zero t start h j k = let e : start + j ≡ start = omega arith in ap (λ i. getD t i 0) e ∙ h
 zero-bytes (suc m) t start h j k = same? j (suc m)

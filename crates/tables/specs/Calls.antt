@@ -5,7 +5,6 @@ use Prim.Native.Nat.{_%_, _*_, _+_, _/_, suc, zero, ℕ}
 use lib.Dec.{eqb, leb, ltb}
 use lib.ListN.{getD, length}
 use Rattle.base.specs.Tabulate.{tab}
-use Rattle.packing.specs.Bitmap.{number}
 use Rattle.rules.specs.Calls.{Result, Store, accepted, blankMemory, readInto, tablesOf, viewOf}
 use Rattle.rules.specs.Numbers.{Answer, Call, Look, View, bytesAsked, create, delete, format, lookOf, make, noneAsked, numberOf, read, refusal, remove, sizeAsked, tellFree, tellSize, truncate, write}
 use Rattle.rules.specs.Rules.{countIn, touched}

@@ -22,7 +22,7 @@ use Rattle.rules.specs.Rules.{from, touched}
 use Rattle.rules.specs.State.{Files, Tree, isAbsent}
 use Rattle.rules.specs.Storage.{PageData, overlay}
 
-pub length-lay : (l : List ℕ) (off : ℕ) (bs : List ℕ) → length (overwrite l off bs) ≡ max (length l) (off + length bs)
+length-lay : (l : List ℕ) (off : ℕ) (bs : List ℕ) → length (overwrite l off bs) ≡ max (length l) (off + length bs)
 unfolding overwrite
 length-lay l off bs = simp (length-append, length-take, length-replicate, length-drop) (omega arith)
 
@@ -32,18 +32,18 @@ head-length l off = simp (length-append, length-take, length-replicate) (omega a
 pub at-add : (p q : List ℕ) (n i : ℕ) → i ≡ length p + n → getD (p ++ q) i 0 ≡ getD q n 0
 at-add p q n i e = ap (λ k. getD (p ++ q) k 0) e ∙ getD-append-add p q n 0
 
-pub lay-in : (l : List ℕ) (off : ℕ) (bs : List ℕ) (i : ℕ) → off ≤ i → i < off + length bs → getD (overwrite l off bs) i 0 ≡ getD bs (i - off) 0
+lay-in : (l : List ℕ) (off : ℕ) (bs : List ℕ) (i : ℕ) → off ≤ i → i < off + length bs → getD (overwrite l off bs) i 0 ≡ getD bs (i - off) 0
 unfolding overwrite
 lay-in l off bs i h k =
     at-add (take off l ++ replicate (off - length l) 0) _ (i - off) i (omega (arith, head-length l off)) ∙ List·getD-append bs _ 0 (i - off) (omega arith)
 
-pub lay-after : (l : List ℕ) (off : ℕ) (bs : List ℕ) (i : ℕ) → off + length bs ≤ i → getD (overwrite l off bs) i 0 ≡ getD l i 0
+lay-after : (l : List ℕ) (off : ℕ) (bs : List ℕ) (i : ℕ) → off + length bs ≤ i → getD (overwrite l off bs) i 0 ≡ getD l i 0
 unfolding overwrite
 lay-after l off bs i h =
     at-add (take off l ++ replicate (off - length l) 0) _ (i - off) i (omega (arith, head-length l off))
     ∙ at-add bs _ (i - off - length bs) (i - off) (omega arith) ∙ getD-drop (off + length bs) l _ 0 ∙ ap (λ k. getD l k 0) (omega arith)
 
-pub lay-before : (l : List ℕ) (off : ℕ) (bs : List ℕ) (i : ℕ) → i < off → getD (overwrite l off bs) i 0 ≡ getD l i 0
+lay-before : (l : List ℕ) (off : ℕ) (bs : List ℕ) (i : ℕ) → i < off → getD (overwrite l off bs) i 0 ≡ getD l i 0
 unfolding overwrite
 lay-before l off bs i h =
     List·getD-append (take off l ++ replicate (off - length l) 0) _ 0 i (omega (arith, head-length l off)) ∙
@@ -74,7 +74,7 @@ unfolding from
 from-once a zero = tt
 from-once a (suc n) = (λ m. let h = from-low (suc a) n a m in omega arith, from-once (suc a) n)
 
-pub touched-mem : (off n i : ℕ) → off ≤ i → i < off + n → List·Memᴰ (i / 512) (touched off n)
+touched-mem : (off n i : ℕ) → off ≤ i → i < off + n → List·Memᴰ (i / 512) (touched off n)
 unfolding touched
 touched-mem off zero i h k = absurd (omega arith)
 touched-mem off (suc n) i h k = from-mem (off / 512) _ (i / 512) (omega arith) (omega arith)

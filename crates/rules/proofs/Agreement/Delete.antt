@@ -55,7 +55,7 @@ module _ (t : Tree) (ok : TreeOk t) (s : ℕ) (a b : Files PageData) (empty : b 
     leaf : (x p : ℕ) → p < 64 → Alive a x → a x .map p ≡ unmapped → s ≡ t .parent x → ⊥
     leaf x p l al u e = true≢false (sym (k .closed x p l al u) ∙ ap (λ y. live (a y .state)) (sym e) ∙ dead)
 
-    pub gone-marked : Gone t s a b
+    gone-marked : Gone t s a b
     gone-marked = record {
       ok′ = record {
         closed = λ x p l al u. let n = not-s x al in let v = ap (λ (f : File PageData). f .map p) (sym (others x n)) ∙ u in
@@ -79,7 +79,7 @@ module _ (t : Tree) (ok : TreeOk t) (s : ℕ) (a b : Files PageData) (empty : b 
     leaf₃ : (x p : ℕ) → p < 64 → Alive b₃ x → b₃ x .map p ≡ unmapped → s ≡ t .parent x → ⊥
     leaf₃ x p l al u e = true≢false (sym (needs-yes b₃ x p al u) ∙ idle p l x (subst (λ y. List·Memᴰ x (t .children y)) (sym e) (r₃ .ok′ .listed x p l al u)))
 
-    pub gone-live : Gone t s a b
+    gone-live : Gone t s a b
     gone-live = record {
       ok′ = record {
         closed = λ x p l al u. let n = not-s x al in let v = ap (λ (f : File PageData). f .map p) (sym (others x n)) ∙ u in

@@ -22,7 +22,7 @@ use Rattle.rules.specs.Rules.{cutPages, droppedPages, from, keptPages}
 use Rattle.rules.specs.State.{Entry, Files, Tree, hole, isStored, stored, unmapped}
 use Rattle.rules.specs.Storage.{PageData, zeroFrom}
 
-pub length-sized : (l : List ℕ) (n : ℕ) → length (cutOrFill l n) ≡ n
+length-sized : (l : List ℕ) (n : ℕ) → length (cutOrFill l n) ≡ n
 unfolding cutOrFill
 length-sized l n = simp (length-append, length-take, length-replicate) (omega arith)
 
@@ -34,7 +34,7 @@ sized-below l n i h =
     (λ e. let k = ltb-false i (length l) e in
     at-add (take n l) _ (i - length l) i (simp length-take (omega arith)) ∙ getD-replicate (n - length l) (i - length l) 0 0 (omega arith) ∙ sym (List·getD-eq-default l 0 k))
 
-pub sized-at : (l : List ℕ) (n i : ℕ) → getD (cutOrFill l n) i 0 ≡ cond (ltb i n) (getD l i 0) 0
+sized-at : (l : List ℕ) (n i : ℕ) → getD (cutOrFill l n) i 0 ≡ cond (ltb i n) (getD l i 0) 0
 sized-at l n i =
     test? (ltb i n)
     (λ e. rw e (sized-below l n i (ltb-true i n e)))

@@ -17,13 +17,13 @@ sum-same zero g g′ h = refl
 sum-same (suc n) g g′ h = let a = h n (omega arith) in let b = sum-same n g g′ (λ x l. h x (omega arith)) in omega arith
 
 -- a term is at most the sum
-pub sum-term : (n : ℕ) (g : ℕ → ℕ) (i : ℕ) → i < n → g i ≤ sum n g
+sum-term : (n : ℕ) (g : ℕ → ℕ) (i : ℕ) → i < n → g i ≤ sum n g
 unfolding sum
 sum-term zero g i l = absurd (omega arith)
 sum-term (suc n) g i l = same? i n (λ e. let z : g i ≡ g n = ap g e in omega arith) (λ e. let z = sum-term n g i (omega arith) in omega arith)
 
 -- two terms together are
-pub sum-two : (n : ℕ) (g : ℕ → ℕ) (i j : ℕ) → i < n → j < n → (i ≡ j → ⊥) → g i + g j ≤ sum n g
+sum-two : (n : ℕ) (g : ℕ → ℕ) (i j : ℕ) → i < n → j < n → (i ≡ j → ⊥) → g i + g j ≤ sum n g
 unfolding sum
 sum-two zero g i j l k d = absurd (omega arith)
 sum-two (suc n) g i j l k d =
@@ -34,7 +34,7 @@ sum-two (suc n) g i j l k d =
     (λ e′. let z = sum-two n g i j (omega arith) (omega arith) d in omega arith))
 
 -- all terms but one are zero
-pub sum-one : (n : ℕ) (g : ℕ → ℕ) (i : ℕ) → i < n → ((x : ℕ) → x < n → (i ≡ x → ⊥) → g x ≡ 0) → sum n g ≡ g i
+sum-one : (n : ℕ) (g : ℕ → ℕ) (i : ℕ) → i < n → ((x : ℕ) → x < n → (i ≡ x → ⊥) → g x ≡ 0) → sum n g ≡ g i
 unfolding sum
 sum-one zero g i l h = absurd (omega arith)
 sum-one (suc n) g i l h =
@@ -43,7 +43,7 @@ sum-one (suc n) g i l h =
     (λ e. let z = h n (omega arith) e in let y = sum-one n g i (omega arith) (λ x k. h x (omega arith)) in omega arith)
 
 -- a term that is not zero
-pub sum-some : (n : ℕ) (g : ℕ → ℕ) → 0 < sum n g → (i : ℕ) × (i < n) × (0 < g i)
+sum-some : (n : ℕ) (g : ℕ → ℕ) → 0 < sum n g → (i : ℕ) × (i < n) × (0 < g i)
 unfolding sum
 sum-some zero g l = absurd (omega arith)
 sum-some (suc n) g l =

@@ -121,7 +121,7 @@ module _ (r : Store real) (out : EmptyBeyond (tablesOf r)) where
         let l = low-place f s p b e in
         below-is (r .memory .blocks) (r .files f s .map p) b (all-at 64 _ (files-at _ (and-right (all 4096 _) _ h) f s (l .0) (l .1)) p (l .2)) e
 
-    pub formed-used : (f s p b : ℕ) → r .files f s .map p ≡ stored b → Used (r .memory) b
+    formed-used : (f s p b : ℕ) → r .files f s .map p ≡ stored b → Used (r .memory) b
     formed-used f s p b e =
         let l = low-place f s p b e in
         let n = blocks-below f s p b e in
@@ -130,7 +130,7 @@ module _ (r : Store real) (out : EmptyBeyond (tablesOf r)) where
         let y = sum3-term 8 16 64 (hit (tablesOf r) b) s f p (l .1) (l .0) (l .2) in
         record { bit = digit-one (r .memory .bits b) (omega arith); below = n }
 
-    pub formed-apart : (f f′ s s′ p p′ b : ℕ) → r .files f s .map p ≡ stored b → r .files f′ s′ .map p′ ≡ stored b → (f ≡ f′) × (s ≡ s′) × (p ≡ p′)
+    formed-apart : (f f′ s s′ p p′ b : ℕ) → r .files f s .map p ≡ stored b → r .files f′ s′ .map p′ ≡ stored b → (f ≡ f′) × (s ≡ s′) × (p ≡ p′)
     formed-apart f f′ s s′ p p′ b e e′ =
         same? f f′
         (λ i. same? s s′ (λ j. same? p p′ (λ q. (i, j, q)) (λ q. absurd (twice (λ _ _ z. q z)))) (λ j. absurd (twice (λ z _ _. j z))))
@@ -148,7 +148,7 @@ module _ (r : Store real) (out : EmptyBeyond (tablesOf r)) where
             let z = digit-most (r .memory .bits b) in
             omega arith
 
-    pub formed-only : (b : ℕ) → r .memory .bits b ≡ true → Named r b
+    formed-only : (b : ℕ) → r .memory .bits b ≡ true → Named r b
     formed-only b o =
         let l : b < 4096 = test? (ltb b 4096) (ltb-true b 4096) (λ z. absurd (true≢false (sym o ∙ out .bit b (ltb-false b 4096 z)))) in
         let t : sum3 8 16 64 (hit (tablesOf r) b) ≡ 1 = times b l ∙ ap digit o in
@@ -183,7 +183,7 @@ module _ (r : Store real) (out : EmptyBeyond (tablesOf r)) (gone : AbsentBeyond 
         (and-right (allSets (λ s. r .sets s .used || zeroSet (r .sets s)) && allFiles (λ f s. not (isAbsent (r .files f s .state)) || zeroFile (r .files f s))) _ h) f s l k in
         test? (r .sets s .used) (λ u. u) (λ u. absurd (true≢false (sym z ∙ rw (u, e))))
 
-    pub placed-formed : Placed r
+    placed-formed : Placed r
     placed-formed = record {
       file-low = λ f s p b e. low-place r out f s p b e .0;
       page-low = λ f s p b e. low-place r out f s p b e .2;

@@ -173,7 +173,7 @@ module _ (tb : Tables) (r : Ranged tb) (so : SetsOk (tb .sets)) (absents : allFi
     number-formed = record { shape = shape-at; ok = ok-at; past = λ s p l h z. past-at (tb .sets s .level) s p refl l h z }
 
   -- the files of every number
-  pub files-formed : (f : ℕ) → FilesFormed (treeOf (tb .sets)) (tb .files f)
+  files-formed : (f : ℕ) → FilesFormed (treeOf (tb .sets)) (tb .files f)
   files-formed f =
       test? (ltb f 16) (λ e. number-formed f (ltb-true f 16 e))
       (λ e. let q : tb .files f ≡ (λ s. absentFile) = fun-ext (λ s. r .no-numbers f s (ltb-false f 16 e)) in rw q (format-formed (treeOf (tb .sets))))
@@ -212,7 +212,7 @@ module _ (tb : Tables) (k : (f : ℕ) → f < 16 → FilesFormed (treeOf (tb .se
       (λ p h. or-of (ltb (p * 512) (x .size)) (not (isStored (resolve t (tb .files f) s p)))
       (λ e. let z = ltb-false (p * 512) (x .size) e in let q = size-here t (tb .files f) s w in rw (k f l .past s p h (ap live w) (omega arith)))))
 
-  pub tests-files : filesFormed tb ≡ true
+  tests-files : filesFormed tb ≡ true
   unfolding filesFormed
   tests-files =
       all-4 (allFiles (λ f s. sizeFormed (tb .files f s) && virginFormed (tb .files f s))) (all 16 (λ f. rootFileFormed (tb .files f 0))) (allFiles (aboveFormed tb)) (allFiles (pastFormed tb))
@@ -222,13 +222,13 @@ module _ (tb : Tables) (k : (f : ℕ) → f < 16 → FilesFormed (treeOf (tb .se
       (files-of (aboveFormed tb) (λ f s l h. above-file-formed f s l))
       (files-of (pastFormed tb) (λ f s l h. past-file-formed f s l))
 
-  pub tests-absent : allFiles (λ f s. not (isAbsent (tb .files f s .state)) || zeroFile (tb .files f s)) ≡ true
+  tests-absent : allFiles (λ f s. not (isAbsent (tb .files f s .state)) || zeroFile (tb .files f s)) ≡ true
   tests-absent =
       files-of (λ f s. not (isAbsent (tb .files f s .state)) || zeroFile (tb .files f s))
       (λ f s l h. not-of (isAbsent (tb .files f s .state)) (zeroFile (tb .files f s))
       (λ a. let e = k f l .shape s .empty a in zero-file (tb .files f s) (ap (λ (x : File ℕ). x .size) e) (λ p b. ap (λ (x : File ℕ). x .map p) e)))
 
-  pub tests-unused : allFiles (λ f s. tb .sets s .used || isAbsent (tb .files f s .state)) ≡ true
+  tests-unused : allFiles (λ f s. tb .sets s .used || isAbsent (tb .files f s .state)) ≡ true
   tests-unused =
       files-of (λ f s. tb .sets s .used || isAbsent (tb .files f s .state))
       (λ f s l h. or-of (tb .sets s .used) (isAbsent (tb .files f s .state)) (λ u. k f l .shape s .unused u))

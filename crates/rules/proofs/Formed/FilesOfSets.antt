@@ -175,7 +175,7 @@ module _ {K : Type 0} (t : Tree) (ok : TreeOk t) (a : Files K) (k : FilesFormed 
       size-up more files′ c one-up (ap (λ (f : File K). f .state) (upd-same a c (childFile (a s))) ∙ made-live h .1) ∙ ap (sizeByReading more files′) more-parent
       ∙ other-size t more ok more-ok a k c (childFile (a s)) more-links more-levels more-uses no-reader s apart (made-live h .0)
 
-  pub make-formed : FilesFormed (addChild t s c w) (upd a c (childFile (a s)))
+  make-formed : FilesFormed (addChild t s c w) (upd a c (childFile (a s)))
   make-formed =
       replaced t more ok more-ok a k c (childFile (a s)) more-links more-levels more-uses no-reader
       (record {
@@ -207,7 +207,7 @@ module _ {K : Type 0} (t : Tree) (ok : TreeOk t) (a : Files K) (k : FilesFormed 
   unfolding takeAway
   less-uses x n = upd-other (t .used) c false x n
 
-  pub remove-formed : FilesFormed (takeAway t c) (upd a c absentFile)
+  remove-formed : FilesFormed (takeAway t c) (upd a c absentFile)
   remove-formed =
       replaced t (takeAway t c) ok (remove-tree t ok c leaf) a k c absentFile less-links less-levels less-uses
       (λ x p l h u e. leaf x (subst (λ z. List·Memᴰ x (t .children z)) (sym e) (k .ok .listed x p l h u)))

@@ -105,7 +105,7 @@ module _ {K : Type 0} where
     root-full = λ z h. absurd (true≢false h);
   }
 
-  pub shape-upd : (t : Tree) (files : Files K) → Shape t files → (c : ℕ) (y : File K) → FileFits t c y → Shape t (upd files c y)
+  shape-upd : (t : Tree) (files : Files K) → Shape t files → (c : ℕ) (y : File K) → FileFits t c y → Shape t (upd files c y)
   shape-upd t files h c y f s =
       same? c s (λ e. subst (λ z. FileFits t z (upd files c y z)) e (rw (upd-same files c y) f)) (λ n. rw (upd-other files c y s n) (h s))
 
@@ -141,12 +141,12 @@ module _ {K : Type 0} where
       here = upd-keeps (λ (x : File K). isAbsent (x .state)) files c _ (sym (ap isAbsent e)) s ∙ f .here;
     }
 
-    pub fit-settle : (c : ℕ) → Fit t s (settleFile t c files)
+    fit-settle : (c : ℕ) → Fit t s (settleFile t c files)
     unfolding settleFile
     fit-settle c = fit-settle-as c (files c .state) refl
 
     -- an entry
-    pub fit-put : (c p : ℕ) (e : Entry K) → p < 64 → isAbsent (files c .state) ≡ false → isUnmapped e ≡ false → Fit t s (putEntry files c p e)
+    fit-put : (c p : ℕ) (e : Entry K) → p < 64 → isAbsent (files c .state) ≡ false → isUnmapped e ≡ false → Fit t s (putEntry files c p e)
     unfolding putEntry
     fit-put c p e l a n = record {
       shape = shape-upd t files (f .shape) c _
@@ -178,7 +178,7 @@ module _ {K : Type 0} where
           f .shape x .root-full z (live-present (files x .state) (reach-live x h)) (u .0) (u .1) (u .2))
           (reach (t .level x) x h)
 
-      pub fit-mark : Fit t s (markDown t files c)
+      fit-mark : Fit t s (markDown t files c)
       unfolding markDown markFile
       fit-mark = record {
         shape = λ x. test? (reaches t files c x)
@@ -189,7 +189,7 @@ module _ {K : Type 0} where
       }
 
     -- a new size
-    pub fit-resize : (n : ℕ) → n ≤ 32768 → Fit t s (upd files s (record { state = own; size = n; map = files s .map }))
+    fit-resize : (n : ℕ) → n ≤ 32768 → Fit t s (upd files s (record { state = own; size = n; map = files s .map }))
     fit-resize n l = record {
       shape = shape-upd t files (f .shape) s _ (fits-present t s (files s) _ (f .shape s) (f .here) refl (λ p l. refl) (λ p u. u) l (λ v. cc) (λ z. refl));
       here = ap (λ (x : File K). isAbsent (x .state)) (upd-same files s _);
@@ -217,11 +217,11 @@ module _ (S : Storage) (t : Tree) (s : ℕ) where
       rw n (fit-supply (resolve t (w .files) s p) p c w l f a (λ z. f .shape c .root-full z (live-present (w .files c .state) a) p l (needs-unmapped (w .files) c p n))))
       (λ n. rw n f)
 
-  pub fit-give-all : (ps : List ℕ) → ((p : ℕ) → List·Memᴰ p ps → p < 64) → (w : Work S) → FitW w → FitW (giveAll S t s ps w)
+  fit-give-all : (ps : List ℕ) → ((p : ℕ) → List·Memᴰ p ps → p < 64) → (w : Work S) → FitW w → FitW (giveAll S t s ps w)
   unfolding giveAll
   fit-give-all ps under w f = each-inv _ FitW ps (λ p v m g. each-inv (give S t s p) FitW (t .children s) (λ c u k i. fit-give p c u (under p m) i) v g) w f
 
-  pub fit-settle-each : (cs : List ℕ) (w : Work S) → FitW w → FitW (each (settle S t) cs w)
+  fit-settle-each : (cs : List ℕ) (w : Work S) → FitW w → FitW (each (settle S t) cs w)
   unfolding settle
   fit-settle-each cs w f = each-inv (settle S t) FitW cs (λ c v m g. fit-settle t s (v .files) g c) w f
 

@@ -83,7 +83,7 @@ module _ (ta : Tally) (ok : TreeOk (ta .tree)) (shallow : (x : ℕ) → ta .tree
   change-marks-here y h =
       (λ a. ⊎-elim (λ b. absurd (true≢false (sym b ∙ h))) (λ r. r) (turns-mark y .0 (sym (last-marks y h) ∙ a)), λ r. last-marks y h ∙ turns-mark y .1 (inr r))
 
-  pub change-marks : (g y : ℕ) → isMarked (ta .files g y .state) ≡ false →
+  change-marks : (g y : ℕ) → isMarked (ta .files g y .state) ≡ false →
       (isMarked (after .tally .files g y .state) ≡ true) ↔ ((f ≡ g) × MarkingTurn (ta .tree) s touches (turnsStart ta f cs taken) y)
   change-marks g y h =
       same? f g
@@ -93,7 +93,7 @@ module _ (ta : Tally) (ok : TreeOk (ta .tree)) (shallow : (x : ℕ) → ta .tree
       (λ n. (λ a. absurd (true≢false (sym a ∙ ap (λ (w : TallyFiles). isMarked (w y .state)) (leaves-other ta f s taken turns z m g n) ∙ h)), λ b. absurd (n (b .0))))
 
 -- IN A SET THAT IS MADE a file is marked exactly when it is marked in the parent
-pub child-mark : (x : TallyFile) → isMarked (tallyChild x .state) ≡ isMarked (x .state)
+child-mark : (x : TallyFile) → isMarked (tallyChild x .state) ≡ isMarked (x .state)
 unfolding tallyChild
 child-mark x = go (x .state)
   where

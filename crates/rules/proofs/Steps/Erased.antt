@@ -31,7 +31,7 @@ module _ (S : Storage) (c : ℕ) where
     pub other-sets : (f x : ℕ) → (c ≡ x → ⊥) → b .files f x ≡ a .files f x
     pub other-files : (f : ℕ) → (List·Memᴰ f fs → ⊥) → b .files f ≡ a .files f
 
-  pub erases : (fs : List ℕ) (st : Store S) → ErasedOnes fs st (each erasedIn fs st)
+  erases : (fs : List ℕ) (st : Store S) → ErasedOnes fs st (each erasedIn fs st)
   unfolding eraseFile
   erases fs st =
       each-inv erasedIn (ErasedOnes fs st) fs

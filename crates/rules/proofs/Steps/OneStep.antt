@@ -90,7 +90,7 @@ module _ {K : Type 0} where
   resolve-same t files files′ p h s =
       walk-frame (t .parent) (λ (x : File K). shownEntry (x .map p)) hole files files′ (λ _. Unit {0}) (λ s _. ap shownEntry (h s)) (λ s _ _. tt) (t .level s) s tt
 
-  pub size-same : (t : Tree) (files files′ : Files K) → ((s : ℕ) → files′ s .state ≡ files s .state) → ((s : ℕ) → files′ s .size ≡ files s .size) → (s : ℕ) → sizeByReading t files′ s ≡ sizeByReading t files s
+  size-same : (t : Tree) (files files′ : Files K) → ((s : ℕ) → files′ s .state ≡ files s .state) → ((s : ℕ) → files′ s .size ≡ files s .size) → (s : ℕ) → sizeByReading t files′ s ≡ sizeByReading t files s
   unfolding sizeByReading
   size-same t files files′ h k s =
       walk-frame (t .parent) (λ (x : File K). shownSize (x .state) (x .size)) 0 files files′ (λ _. Unit {0}) (λ s _. cc (h s, k s)) (λ s _ _. tt) (t .level s) s tt
@@ -230,11 +230,11 @@ module _ {K : Type 0} where
     unfolding markDown
     marked-by s b h = rw h
 
-    pub mark-ent : (s : ℕ) → markDown t files c s .map ≡ files s .map
+    mark-ent : (s : ℕ) → markDown t files c s .map ≡ files s .map
     unfolding markFile
     mark-ent s = test? (reaches t files c s) (λ e. ap (λ (x : File K). x .map) (marked-by s true e)) (λ e. ap (λ (x : File K). x .map) (marked-by s false e))
 
-    pub mark-missed : (s : ℕ) → Alive (markDown t files c) s → reaches t files c s ≡ false
+    mark-missed : (s : ℕ) → Alive (markDown t files c) s → reaches t files c s ≡ false
     unfolding markFile
     mark-missed s a = test? (reaches t files c s) (λ e. let z : markDown t files c s .state ≡ marked = ap (λ (x : File K). x .state) (marked-by s true e) in cc) (λ e. e)
 

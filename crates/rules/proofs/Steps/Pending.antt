@@ -161,7 +161,7 @@ module _ (S : Storage) (t : Tree) (s : ℕ) where
       }
 
   -- FINISHED, after a change and after erasing
-  pub change-finished : (ps rs ds : List ℕ) → ((p : ℕ) → List·Memᴰ p ds → List·Memᴰ p rs → ⊥) → (lay : ℕ → S .Page → S .Page) (sz : ℕ → ℕ) (w : Work S) →
+  change-finished : (ps rs ds : List ℕ) → ((p : ℕ) → List·Memᴰ p ds → List·Memᴰ p rs → ⊥) → (lay : ℕ → S .Page → S .Page) (sz : ℕ → ℕ) (w : Work S) →
       ((p : ℕ) → isStored (w .pending p) ≡ false) → Finished S s (change S t s ps rs ds lay sz w)
   unfolding change resize
   change-finished ps rs ds away lay sz w empty =

@@ -47,7 +47,7 @@ module _ {K : Type 0} where
   pub given-refl : {t : Tree} {s : ℕ} {files : Files K} → FilesOk t files → Given t s files files
   given-refl {t} {s} {files} k = record { ok′ = k; keep = keep-refl t files; less = λ c p h. h; self = refl; calm = λ c h. h }
 
-  pub given-trans : {t : Tree} {s : ℕ} {a b c : Files K} → Given t s a b → Given t s b c → Given t s a c
+  given-trans : {t : Tree} {s : ℕ} {a b c : Files K} → Given t s a b → Given t s b c → Given t s a c
   given-trans h k = record {
     ok′ = k .ok′;
     keep = keep-trans (h .keep) (k .keep);
@@ -97,11 +97,11 @@ module _ {K : Type 0} where
     kid-at : t .level c ≡ suc (t .level (t .parent c))
     kid-at = rw (ok .kid-par s c kid) (ok .kid-lvl s c kid)
 
-    pub fill-done : (p : ℕ) (e : Entry K) → shownEntry e ≡ some e → needs (putEntry files c p e) c p ≡ false
+    fill-done : (p : ℕ) (e : Entry K) → shownEntry e ≡ some e → needs (putEntry files c p e) c p ≡ false
     fill-done p e h = needs-shown (putEntry files c p e) c p (rw putEntry-ent h)
 
     -- the entry is filled with what it is in s
-    pub fill-given : (p : ℕ) (e : Entry K) → (files c .state ≡ virgin → ⊥) → needs files c p ≡ true → resolve t files s p ≡ e → Given t s files (putEntry files c p e)
+    fill-given : (p : ℕ) (e : Entry K) → (files c .state ≡ virgin → ⊥) → needs files c p ≡ true → resolve t files s p ≡ e → Given t s files (putEntry files c p e)
     fill-given p e nv n r = subst (λ x. Given t s files (putEntry files c p x)) (ap (λ x. resolve t files x p) (ok .kid-par s c kid) ∙ r) (record {
       ok′ = fill-ok t ok files c p kid-at u nv k;
       keep = fill-keep t ok files c p kid-at u;
@@ -138,7 +138,7 @@ module _ {K : Type 0} where
     unfolding markFile
     dead x e = ap (λ (x : File K). live (x .state)) (marked-by t ok files k c x true e)
 
-    pub mark-given : Alive files c → Given t s files (markDown t files c)
+    mark-given : Alive files c → Given t s files (markDown t files c)
     mark-given al = record {
       ok′ = mark-ok t ok files k c;
       keep = mark-keep t ok files k c al;
@@ -149,7 +149,7 @@ module _ {K : Type 0} where
       calm = λ c′ h. ap (λ (x : File K). x .state) (sym (mark-same t ok files k c c′ (ap live h))) ∙ h;
     }
 
-    pub mark-done : (p : ℕ) → needs (markDown t files c) c p ≡ false
+    mark-done : (p : ℕ) → needs (markDown t files c) c p ≡ false
     unfolding reaches
     mark-done p = needs-dead (markDown t files c) c p (dead c (reaches-self (t .level c)))
 

@@ -6,7 +6,7 @@ use native.Mathlib.Omega.{arith}
 use Rattle.base.specs.Logic.{pick, same?}
 use Rattle.rules.specs.Reading.{walk}
 
-pub pick-eq : {Y : Type 0} (o : Option Y) (a b : Y) → (o ≡ none → a ≡ b) → pick o a ≡ pick o b
+pick-eq : {Y : Type 0} (o : Option Y) (a b : Y) → (o ≡ none → a ≡ b) → pick o a ≡ pick o b
 pick-eq none a b h = h refl
 pick-eq (some v) a b h = refl
 

@@ -20,7 +20,7 @@ module _ {K L : Type 0} (f : K → L) where
   abbrev pub mapFiles : Files K → Files L
   mapFiles files s = mapFile (files s)
 
-  pub map-unmapped : (e : Entry K) → isUnmapped (mapEntry e) ≡ isUnmapped e
+  map-unmapped : (e : Entry K) → isUnmapped (mapEntry e) ≡ isUnmapped e
   map-unmapped unmapped = refl
   map-unmapped hole = refl
   map-unmapped (stored b) = refl

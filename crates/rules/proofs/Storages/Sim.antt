@@ -78,7 +78,7 @@ pub record Sim (S S′ : Storage) (T : Translation S S′) (D : Demands S) (t : 
       D .Good (withFiles S t w (upd (w .files) s absentFile))
 
 -- one entry set over two maps that agree elsewhere
-pub putEntry-agree : {K L : Type 0} (f g : K → L) (files : Files K) (s p : ℕ) (e : Entry L) → ((x q : ℕ) (b : K) → files x .map q ≡ stored b → (s ≡ x → p ≡ q → ⊥) → f b ≡ g b) →
+putEntry-agree : {K L : Type 0} (f g : K → L) (files : Files K) (s p : ℕ) (e : Entry L) → ((x q : ℕ) (b : K) → files x .map q ≡ stored b → (s ≡ x → p ≡ q → ⊥) → f b ≡ g b) →
     putEntry (mapFiles f files) s p e ≡ putEntry (mapFiles g files) s p e
 putEntry-agree f g files s p e h =
     files-ext _ _
@@ -204,7 +204,7 @@ module _ {S S′ : Storage} {T : Translation S S′} {D : Demands S} {t : Tree} 
       marks = r .marks;
     }
 
-    pub rel-ent : (x p : ℕ) → v .files x .map p ≡ mapEntry (T .block (w .memory)) (w .files x .map p)
+    rel-ent : (x p : ℕ) → v .files x .map p ≡ mapEntry (T .block (w .memory)) (w .files x .map p)
     rel-ent x p = ap (λ (y : Files (S′ .Block)). y x .map p) (r .files)
 
     still : (p : ℕ) (b : S .Block) (b′ : S′ .Block) (q : ℕ) → isStored (upd (v .pending) p (stored b′) q) ≡ isStored (upd (w .pending) p (stored b) q)

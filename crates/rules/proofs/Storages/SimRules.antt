@@ -112,7 +112,7 @@ module _ {S S′ : Storage} {T : Translation S S′} {D : Demands S} {t : Tree} 
         (λ p w v m. rel-each (give S t s p) (give S′ t s p) (t .children s) (λ c w v m r. rel-give M r p c (kids c m)) w v)
 
     -- ANY CHANGE
-    pub rel-change : (ps rs ds : List ℕ) → NoDup rs → ((p : ℕ) → List·Memᴰ p rs → p < 64) → ((p : ℕ) → List·Memᴰ p ds → List·Memᴰ p rs → ⊥) →
+    rel-change : (ps rs ds : List ℕ) → NoDup rs → ((p : ℕ) → List·Memᴰ p rs → p < 64) → ((p : ℕ) → List·Memᴰ p ds → List·Memᴰ p rs → ⊥) →
         (lay : ℕ → S .Page → S .Page) (lay′ : ℕ → S′ .Page → S′ .Page) → ((p : ℕ) (x : S .Page) → lay′ p (T .page x) ≡ T .page (lay p x)) → ((p : ℕ) (x : S .Page) → D .Whole x → D .Whole (lay p x)) →
         (sz : ℕ → ℕ) (w : Work S) (v : Work S′) → Rel T D w v → ((p : ℕ) → isStored (w .pending p) ≡ false) → ownNeed S s rs (w .files) ≤ S .free (w .memory) →
         Rel T D (change S t s ps rs ds lay sz w) (change S′ t s ps rs ds lay′ sz v)

@@ -37,7 +37,7 @@ module _ {S S′ : Storage} (T : Translation S S′) (r : Store S) (m : Store S�
   need-same f s ps =
       ap (countIn ps) (fun-ext (λ p. ap not (ap (λ (y : Files (S′ .Block)). isStored (y s .map p)) (h .files f) ∙ map-stored (T .block (r .memory)) (r .files f s .map p))))
 
-  pub size-stands : (f s : ℕ) → sizeByReading (treeIn S′ m) (m .files f) s ≡ sizeByReading (treeIn S r) (r .files f) s
+  size-stands : (f s : ℕ) → sizeByReading (treeIn S′ m) (m .files f) s ≡ sizeByReading (treeIn S r) (r .files f) s
   size-stands f s = ap₂ (λ x y. sizeByReading (treeOf x) y s) (h .sets) (h .files f) ∙ size-map (T .block (r .memory)) (treeIn S r) (r .files f) s
 
   kept-stands : (f s n : ℕ) → keptPages n (resolve (treeIn S′ m) (m .files f) s (n / 512)) ≡ keptPages n (resolve (treeIn S r) (r .files f) s (n / 512))

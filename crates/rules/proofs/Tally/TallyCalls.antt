@@ -249,7 +249,7 @@ SetsAfter k (tellSize s f) = Unit {0}
 SetsAfter k tellFree = Unit {0}
 
 -- AN ACCEPTED CALL on the tally of a store is the accepted call on the store
-pub call-same : (k : Store counting) → TallyOrderly k → (blocks : ℕ) (c : Call) → numberOf (viewOf counting true true k) c ≡ 0 → SetsAfter k c →
+call-same : (k : Store counting) → TallyOrderly k → (blocks : ℕ) (c : Call) → numberOf (viewOf counting true true k) c ≡ 0 → SetsAfter k c →
     resultOfTally (accepted counting blocks c k) ≡ tallyCall blocks c (tallyOf k)
 unfolding accepted tallyCall tallyTold writeFile
 call-same k o blocks format h e = format-same k blocks
@@ -269,7 +269,7 @@ pub record SameResult (r : Result counting) (q : TallyResult) : Type 0 where
   pub answer : q .answer ≡ r .answer
   pub tallies : Tallies (r .store) (q .tally)
 
-pub call-tallies : (k : Store counting) (ta : Tally) → TallyOrderly k → Tallies k ta → (blocks : ℕ) (c : Call) → numberOf (viewOf counting true true k) c ≡ 0 → SetsAfter k c →
+call-tallies : (k : Store counting) (ta : Tally) → TallyOrderly k → Tallies k ta → (blocks : ℕ) (c : Call) → numberOf (viewOf counting true true k) c ≡ 0 → SetsAfter k c →
     SameResult (accepted counting blocks c k) (tallyCall blocks c ta)
 call-tallies k ta o h blocks c z e =
     let q : tallyCall blocks c ta ≡ resultOfTally (accepted counting blocks c k) = ap (tallyCall blocks c) (tallies-is k ta h) ∙ sym (call-same k o blocks c z e) in

@@ -67,7 +67,7 @@ module _ {ps : List ℕ} {touches : ℕ → Bool} (r : PagesOf ps touches) where
       let b = from-high (r .first) (r .number) p m′ in
       (omega arith, r .passes p a b)
 
-  pub pages-listed : (p : ℕ) → p < pageCount → touches p ≡ true → List·Memᴰ p ps
+  pages-listed : (p : ℕ) → p < pageCount → touches p ≡ true → List·Memᴰ p ps
   pages-listed p l h =
       subst (λ l. List·Memᴰ p l) (sym (r .is))
       (test? (ltb p (r .first)) (λ e. absurd (true≢false (sym h ∙ r .before p (ltb-true p (r .first) e))))

@@ -61,7 +61,7 @@ kept-need t fs s n h =
     rw (h, kind-resolve t fs s (n / pageBytes))
     (one-page (not (eqb (n % pageBytes) 0)) (isStored (resolve t fs s (n / pageBytes))) (n / pageBytes) (λ p. not (isStored (fs s .map p))))
 
-pub truncate-need : (t : Tree) → TreeOk t → (fs : TallyFiles) → NoVirginRoot t fs → (s n : ℕ) → tallyTruncateNeed t fs s n ≡ truncateNeed counting t s n fs
+truncate-need : (t : Tree) → TreeOk t → (fs : TallyFiles) → NoVirginRoot t fs → (s n : ℕ) → tallyTruncateNeed t fs s n ≡ truncateNeed counting t s n fs
 unfolding truncateNeed tallyTruncateNeed
 truncate-need t ok fs nv s n =
     let z : tallySize t fs s ≡ sizeByReading t fs s = size-reading t fs ok nv s in

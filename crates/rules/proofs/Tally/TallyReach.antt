@@ -64,7 +64,7 @@ module _ (t : Tree) (fs : TallyFiles) where
   size-reading ok nv s = size-walk ok nv (t .level s) s refl
 
   -- dependence
-  pub any-unmapped : (n : ℕ) (m : ℕ → Kind) → anyUnmapped t n m ≡ someUnmapped n m
+  any-unmapped : (n : ℕ) (m : ℕ → Kind) → anyUnmapped t n m ≡ someUnmapped n m
   unfolding anyUnmapped someUnmapped
   any-unmapped zero m = refl
   any-unmapped (suc n) m = rw (any-unmapped n m)

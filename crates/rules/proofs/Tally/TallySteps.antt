@@ -48,7 +48,7 @@ pendingAfter rs h = each (λ p g. upd g p (stored tt)) rs h
 
 module _ (t : Tree) (ok : TreeOk t) where
   -- STEP 2
-  pub settle-file : (c : ℕ) (fs : TallyFiles) → NoVirginRoot t fs → tallySettle t c fs ≡ settleFile t c fs
+  settle-file : (c : ℕ) (fs : TallyFiles) → NoVirginRoot t fs → tallySettle t c fs ≡ settleFile t c fs
   unfolding tallySettle settleFile settleAs
   settle-file c fs nv = rw (size-reading t fs ok nv c) (go (fs c .state))
     where
@@ -111,7 +111,7 @@ module _ (t : Tree) (ok : TreeOk t) where
 
   -- STEP 4
   module _ (shallow : (x : ℕ) → t .level x ≤ setCount) where
-    pub supply-page : (e : Kind) (c p : ℕ) (w : Work counting) → supply counting t e c p w ≡ withTurn w (childPage t e p c (turnOf w))
+    supply-page : (e : Kind) (c p : ℕ) (w : Work counting) → supply counting t e c p w ≡ withTurn w (childPage t e p c (turnOf w))
     unfolding supply childPage neededCopy mark copy putEntry tallyKind
     supply-page unmapped c p w = refl
     supply-page hole c p w = refl
@@ -134,7 +134,7 @@ module _ (t : Tree) (ok : TreeOk t) where
           marks = w .marks;
         }))
 
-    pub give-one : (s p c : ℕ) (w : Work counting) → give counting t s p c w ≡ withTurn w (childTurn t s p c (turnOf w))
+    give-one : (s p c : ℕ) (w : Work counting) → give counting t s p c w ≡ withTurn w (childTurn t s p c (turnOf w))
     unfolding give childTurn needs
     give-one s p c w =
         rw (kind-resolve t (w .files) s p)

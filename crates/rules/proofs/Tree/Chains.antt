@@ -85,7 +85,7 @@ module _ (sets : ℕ → SetRecord) where
   chain-more zero k h l = absurd (omega arith)
   chain-more (suc n) k h l = rw (lt-ltb k 8 l, sub-one)
 
-  pub length-chain : (n k : ℕ) → length (chain sets n k) ≤ n
+  length-chain : (n k : ℕ) → length (chain sets n k) ≤ n
   unfolding chain
   length-chain zero k = omega arith
   length-chain (suc n) k =
@@ -93,7 +93,7 @@ module _ (sets : ℕ → SetRecord) where
       test? (ltb k 8) (λ e. rw e (omega arith)) (λ e. rw e (omega arith))
 
   -- n sets are enough for the chain
-  pub chain-is : (xs : List ℕ) (n k : ℕ) → length xs ≤ n → Follows sets xs k → chain sets n k ≡ xs
+  chain-is : (xs : List ℕ) (n k : ℕ) → length xs ≤ n → Follows sets xs k → chain sets n k ≡ xs
   unfolding chain
   chain-is [] zero k l f = refl
   chain-is [] (suc n) k l f = rw f
@@ -164,12 +164,12 @@ module _ (sets : ℕ → SetRecord) where
   children-used s c m = test? (sets s .used) (λ e. e) (λ e. elim (subst (λ l. List·Memᴰ c l) (children-none s e) m) [ ])
 
   -- BEHIND THE LAST: set c, with no sibling, behind the chain that goes on from x with xs
-  pub behind-other : (c x : ℕ) (xs : List ℕ) (z : ℕ) → (List·Memᴰ z (x ∷ xs) → ⊥) → linkBehind c x xs sets z ≡ sets z
+  behind-other : (c x : ℕ) (xs : List ℕ) (z : ℕ) → (List·Memᴰ z (x ∷ xs) → ⊥) → linkBehind c x xs sets z ≡ sets z
   unfolding linkBehind
   behind-other c x [] z n = upd-other sets x _ z (λ e. n (List·Memᴰ·head (sym e)))
   behind-other c x (y ∷ ys) z n = behind-other c y ys z (λ m. n (List·Memᴰ·tail m))
 
-  pub behind-follows : (c x : ℕ) (xs : List ℕ) → c < 8 → sets c .nextSibling ≡ 8 → (List·Memᴰ c (x ∷ xs) → ⊥) → NoDup (x ∷ xs) → Follows sets xs (sets x .nextSibling) →
+  behind-follows : (c x : ℕ) (xs : List ℕ) → c < 8 → sets c .nextSibling ≡ 8 → (List·Memᴰ c (x ∷ xs) → ⊥) → NoDup (x ∷ xs) → Follows sets xs (sets x .nextSibling) →
       Follows (linkBehind c x xs sets) (xs ++ (c ∷ [])) (linkBehind c x xs sets x .nextSibling)
   unfolding linkBehind
   behind-follows c x [] l e n d f = (
