@@ -23,7 +23,7 @@ use Rattle.rules.proofs.Tree.SetsOk.{SetsOk, used-below}
 use Rattle.rules.proofs.Formed.Tests.{all-4, and-4, and-5, files-at, files-of, not-of, not-then}
 use Rattle.rules.specs.State.{SetRecord, isAbsent}
 use Rattle.rules.specs.WellFormed.{aboveFormed, allFiles, bitsFormed, filesFormed, headerFormed, pastFormed, rootFileFormed, sizeFormed, virginFormed, zeroFile}
-use Rattle.setcheck.proofs.Rules.{records-sets, well-formed-parts}
+use Rattle.setcheck.proofs.WellFormedParts.{records-sets, well-formed-parts}
 use Rattle.setcheck.specs.Records.{fileRecordsFormed, headerZero, setRecordsFormed}
 use Rattle.tables.proofs.FormedStore.{header-in}
 use Rattle.tables.specs.Layout.{headWidths, headWord, tableBytes}

@@ -20,8 +20,8 @@ visit text left = record { text = text; left = left }
 
 module _ (tb : Tables) (ok : SetsOk (tb .sets)) where
   -- the sets that a list of sets visits
-  abbrev each : ℕ → List ℕ → List ℕ
-  each n xs = inTurn (order (tb .sets) n) xs
+  abbrev ordered : ℕ → List ℕ → List ℕ
+  ordered n xs = inTurn (order (tb .sets) n) xs
 
   SetClaim : ℕ → Type 0
   SetClaim n =
@@ -34,8 +34,8 @@ module _ (tb : Tables) (ok : SetsOk (tb .sets)) where
 
   -- a chain, where each of its sets is visited rightly
   chain-is : (n : ℕ) → SetClaim n → (xs : List ℕ) (f left k : ℕ) → Follows (tb .sets) xs k →
-      ((c : ℕ) → List·Memᴰ c xs → (tb .sets c .used ≡ true) × (tb .sets c .level + n ≡ 5)) → length (each n xs) ≤ left → 2 * left + 1 ≤ f →
-      visitChain tb f left k ≡ visit (inTurn (listSet tb n) xs) (left - length (each n xs))
+      ((c : ℕ) → List·Memᴰ c xs → (tb .sets c .used ≡ true) × (tb .sets c .level + n ≡ 5)) → length (ordered n xs) ≤ left → 2 * left + 1 ≤ f →
+      visitChain tb f left k ≡ visit (inTurn (listSet tb n) xs) (left - length (ordered n xs))
   unfolding SetClaim inTurn
   chain-is n claim [] f left k follows members room fuel =
       chain-none f left k follows ∙ ap (λ (x : ℕ). visit [] x) (omega arith)
@@ -43,7 +43,7 @@ module _ (tb : Tables) (ok : SetsOk (tb .sets)) where
       let m = members x (List·Memᴰ·head refl) in
       let L = length (order (tb .sets) n x) in
       let some = order-some (tb .sets) n x in
-      let all : length (order (tb .sets) n x ++ each n xs) ≡ L + length (each n xs) = length-append (order (tb .sets) n x) (each n xs) in
+      let all : length (order (tb .sets) n x ++ ordered n xs) ≡ L + length (ordered n xs) = length-append (order (tb .sets) n x) (ordered n xs) in
       let one = claim (f - 1) left x (m .0) (m .1) (omega arith) (omega arith) in
       let rest = chain-is n claim xs (f - 1) (left - L) (tb .sets x .nextSibling) (follows .2) (λ c p. members c (List·Memᴰ·tail p)) (omega arith) (omega arith) in
       ap (λ (y : ℕ). visitChain tb f left y) (follows .0)
@@ -68,7 +68,7 @@ module _ (tb : Tables) (ok : SetsOk (tb .sets)) where
       ∙ ap (λ (v : Visit). behind (setText tb s) v) (chain-none (f - 1) (left - 1) (tb .sets s .firstChild) last)
       ∙ ap (λ (l : List ℕ). visit l (left - 1)) (append-nil (setText tb s))
   set-is (suc n) f left s used level room fuel =
-      let L = length (each n (childrenOf (tb .sets) s)) in
+      let L = length (ordered n (childrenOf (tb .sets) s)) in
       let rest = chain-is n (set-is n) (childrenOf (tb .sets) s) (f - 1) (left - 1) (tb .sets s .firstChild) (ok .follows s used)
       (λ c p. (ok .tree .kid-used s c p, omega (arith, ok .tree .kid-lvl s c p))) (omega arith) (omega arith) in
       set-step tb f left s (omega arith)

@@ -101,26 +101,40 @@ fn are_zero(a: u32, b: u32, c: u32, d: u32, e: u32, f: u32) -> bool
 }
 
 // A call, unless a field is nonzero that the op does not use.
-fn checked(unused: bool, c: Asked) -> Decoded
+fn checked(unused_zero: bool, c: Asked) -> Decoded
     requires { ⌜ callFits c ⌝ }
-    ensures { λ r. ⌜ (requestMeant r ≡ cond unused (ask (opOf c) (callMeant c)) bad) × requestFits r ⌝ }
+    ensures { λ r. ⌜ (requestMeant r ≡ cond unused-zero (ask (opOf c) (callMeant c)) bad) × requestFits r ⌝ }
 {
-    if unused {
+    if unused_zero {
         return Decoded::Call(c);
     }
     Decoded::Bad
 }
 
-// Ops 1 and 4.
-fn of_place(x: Fields, c: Asked) -> Decoded
-    requires { ⌜ callFits c ⌝ }
-    ensures { λ r. ⌜ (requestMeant r ≡ unless (x .other ∷ x .offset ∷ x .length ∷ x .fill ∷ x .zero ∷ []) (opOf c) (callMeant c)) × requestFits r ⌝ }
+// Op 1.
+fn decode_create(x: Fields) -> Decoded
+    ensures { λ r. ⌜ (requestMeant r ≡ unless (x .other ∷ x .offset ∷ x .length ∷ x .fill ∷ x .zero ∷ []) 1 (Numbers.create (x .set) (x .file))) × requestFits r ⌝ }
 {
+    let c = Asked::Create {
+        set: x.set,
+        file: x.file,
+    };
+    checked(are_zero(x.other, x.offset, x.length, x.fill, x.zero, 0), c)
+}
+
+// Op 4.
+fn decode_delete(x: Fields) -> Decoded
+    ensures { λ r. ⌜ (requestMeant r ≡ unless (x .other ∷ x .offset ∷ x .length ∷ x .fill ∷ x .zero ∷ []) 4 (Numbers.delete (x .set) (x .file))) × requestFits r ⌝ }
+{
+    let c = Asked::Delete {
+        set: x.set,
+        file: x.file,
+    };
     checked(are_zero(x.other, x.offset, x.length, x.fill, x.zero, 0), c)
 }
 
 // Ops 5 and 6.
-fn of_make(x: Fields, writeable: bool) -> Decoded
+fn decode_make(x: Fields, writeable: bool) -> Decoded
     ensures { λ r. ⌜ (requestMeant r ≡ unless (x .file ∷ x .offset ∷ x .length ∷ x .fill ∷ x .zero ∷ []) (cond writeable 6 5) (Numbers.make (x .set) (x .other) writeable)) × requestFits r ⌝ }
 {
     let c = Asked::Make {
@@ -132,7 +146,7 @@ fn of_make(x: Fields, writeable: bool) -> Decoded
 }
 
 // Op 2.
-fn of_write(x: Fields) -> Decoded
+fn decode_write(x: Fields) -> Decoded
     requires { ⌜ (x .length ≤ 4096) × (x .fill < 256) ⌝ }
     ensures { λ r. ⌜ (requestMeant r ≡ unless (x .other ∷ x .zero ∷ []) 2 (Numbers.write (x .set) (x .file) (x .offset) (replicate (x .length) (x .fill)))) × requestFits r ⌝ }
 {
@@ -147,7 +161,7 @@ fn of_write(x: Fields) -> Decoded
 }
 
 // Op 3.
-fn of_truncate(x: Fields) -> Decoded
+fn decode_truncate(x: Fields) -> Decoded
     ensures { λ r. ⌜ (requestMeant r ≡ unless (x .other ∷ x .length ∷ x .fill ∷ x .zero ∷ []) 3 (Numbers.truncate (x .set) (x .file) (x .offset))) × requestFits r ⌝ }
 {
     let c = Asked::Truncate {
@@ -159,7 +173,7 @@ fn of_truncate(x: Fields) -> Decoded
 }
 
 // Op 7.
-fn of_remove(x: Fields) -> Decoded
+fn decode_remove(x: Fields) -> Decoded
     ensures { λ r. ⌜ (requestMeant r ≡ unless (x .file ∷ x .other ∷ x .offset ∷ x .length ∷ x .fill ∷ x .zero ∷ []) 7 (Numbers.remove (x .set))) × requestFits r ⌝ }
 {
     checked(
@@ -176,37 +190,25 @@ fn of_fields(x: Fields) -> Decoded
         return Decoded::Bad;
     }
     if x.op == 1 {
-        return of_place(
-            x,
-            Asked::Create {
-                set: x.set,
-                file: x.file,
-            },
-        );
+        return decode_create(x);
     }
     if x.op == 2 {
-        return of_write(x);
+        return decode_write(x);
     }
     if x.op == 3 {
-        return of_truncate(x);
+        return decode_truncate(x);
     }
     if x.op == 4 {
-        return of_place(
-            x,
-            Asked::Delete {
-                set: x.set,
-                file: x.file,
-            },
-        );
+        return decode_delete(x);
     }
     if x.op == 5 {
-        return of_make(x, false);
+        return decode_make(x, false);
     }
     if x.op == 6 {
-        return of_make(x, true);
+        return decode_make(x, true);
     }
     if x.op == 7 {
-        return of_remove(x);
+        return decode_remove(x);
     }
     Decoded::Bad
 }

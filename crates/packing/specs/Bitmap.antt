@@ -95,8 +95,8 @@ and-one (suc zero) h = refl
 and-one (suc (suc x)) h = absurd (omega arith)
 
 -- the digits of 255 - 2 ^ s
-hole-bit : (s k : ℕ) → s < 8 → k < 8 → bit (255 - 2 ^ s) k ≡ 1 - bit (2 ^ s) k
-hole-bit s k hs hk = bit-not 8 k (2 ^ s) (pow-lt hs) hk
+complement-bit : (s k : ℕ) → s < 8 → k < 8 → bit (255 - 2 ^ s) k ≡ 1 - bit (2 ^ s) k
+complement-bit s k hs hk = bit-not 8 k (2 ^ s) (pow-lt hs) hk
 
 module _ (t : List ℕ) (at b : ℕ) where
   pub length-set-bit : length (setBit t at b) ≡ length t
@@ -132,7 +132,7 @@ module _ (t : List ℕ) (at b : ℕ) where
   bits-clear h =
       let s = 7 - b % 8 in
       let x = getD t (at + b / 8) 0 in
-      let hole : (k : ℕ) → k < 8 → bit (255 - 2 ^ s) k ≡ 1 - bit (2 ^ s) k = (λ k l. hole-bit s k (omega arith) l) in
+      let hole : (k : ℕ) → k < 8 → bit (255 - 2 ^ s) k ≡ 1 - bit (2 ^ s) k = (λ k l. complement-bit s k (omega arith) l) in
       put-bit t at b (bitAnd x (255 - 2 ^ s)) false h
       (ap isOne (bit-and x (255 - 2 ^ s) s ∙ ap (bitAnd (bit x s)) (hole s (omega arith) ∙ ap (λ (y : ℕ). 1 - y) (bit-pow-same s)) ∙ and-zero-r (bit x s)))
       (λ k l d. bit-and x (255 - 2 ^ s) k ∙ ap (bitAnd (bit x k)) (hole k l ∙ ap (λ (y : ℕ). 1 - y) (bit-pow-other s k d)) ∙ and-one (bit x k) (bit-lt x k))

@@ -23,7 +23,7 @@ use Rattle.tables.proofs.Codes.{header-word}
 use Rattle.tables.proofs.FormedStore.{absent-default}
 use Rattle.tables.proofs.InRange.{file-in}
 use Rattle.tables.proofs.Kept.{bits-kept, files-kept, packed-kept, sets-kept}
-use Rattle.tables.proofs.Layouts.{header-zero, read-write-blocks, read-write-next, write-header-lt}
+use Rattle.tables.proofs.Layouts.{header-zero-field, read-write-blocks, read-write-next, write-header-lt}
 use Rattle.tables.proofs.PackUnpack.{pack-unpack}
 use Rattle.tables.proofs.ZeroFiles.{file-zero, word-zero, zero-entry, zero-head, zero-header, zero-set}
 use Rattle.tables.proofs.ReadParts.{bit-default, read-bit, read-blocks, read-next, read-set, set-default}
@@ -105,7 +105,7 @@ module _ (t : List ℕ) (h : PackedTables t) (b n : ℕ) (hb : b < 8192) (hn : n
       record {
         view = λ i. record { blocks = x i; next = y i; bits = c i; sets = d i; files = e i };
         packed = packed-kept headerAt (headerAt + 4) t t′ same h (length-put 3 t headerAt w)
-            (λ k l. rw here (header-zero b n hb hn))
+            (λ k l. rw here (header-zero-field b n hb hn))
             (omega arith) (omega arith) (λ x y z hx hy hz k l. absurd (omega arith));
       }
 

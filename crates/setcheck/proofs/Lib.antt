@@ -1,5 +1,5 @@
-pub mod Numbers
+pub mod HeaderTests
 pub mod Zeros
 pub mod Links
 pub mod Places
-pub mod Rules
+pub mod WellFormedParts

@@ -77,7 +77,7 @@ fn chain_of_parent(t: &[u8], s: usize) -> bool
     chain_below(t, r.first_child, s)
 }
 
-fn same(c: usize, x: usize) -> usize
+fn one_if_same(c: usize, x: usize) -> usize
     ensures { λ r. ⌜ (r ≡ cond (eqb c x) 1 0) × (r ≤ 1) ⌝ }
 {
     if c == x {
@@ -98,7 +98,7 @@ fn times_from(t: &[u8], c: usize, k: usize) -> usize
         if at >= 8 {
             return m;
         }
-        m += same(c, at);
+        m += one_if_same(c, at);
         at = next_sibling_of(t, at);
         n -= 1;
     }

@@ -120,9 +120,9 @@ pub read-write-size : (l : State) (n : ℕ) → n < 65536 → readSize (writeHea
 unfolding readSize writeHead
 read-write-size l n h = field-join headWidths (headValues l n) 1 (head-fit l n h)
 
-pub head-zero : (l : State) (n : ℕ) → n < 65536 → getField headWidths (writeHead l n) 2 ≡ 0
+pub head-zero-field : (l : State) (n : ℕ) → n < 65536 → getField headWidths (writeHead l n) 2 ≡ 0
 unfolding writeHead
-head-zero l n h = field-join headWidths (headValues l n) 2 (head-fit l n h)
+head-zero-field l n h = field-join headWidths (headValues l n) 2 (head-fit l n h)
 
 pub read-size-fits : (w : ℕ) → w < 4294967296 → readSize w < 65536
 unfolding readSize
@@ -158,9 +158,9 @@ read-write-set r h =
     (split-join setWidths (setValues r) (set-fit r h))
     ∙ (λ i. record { used = one-digit (r .used) i; writeable = one-digit (r .writeable) i; level = r .level; parent = r .parent; firstChild = r .firstChild; nextSibling = r .nextSibling })
 
-pub set-zero : (r : SetRecord) → SetFits r → getField setWidths (writeSet r) 6 ≡ 0
+pub set-zero-field : (r : SetRecord) → SetFits r → getField setWidths (writeSet r) 6 ≡ 0
 unfolding writeSet
-set-zero r h = field-join setWidths (setValues r) 6 (set-fit r h)
+set-zero-field r h = field-join setWidths (setValues r) 6 (set-fit r h)
 
 pub read-set-fits : (w : ℕ) → w < 16777216 → SetFits (readSet w)
 unfolding readSet
@@ -196,9 +196,9 @@ pub read-write-next : (b n : ℕ) → b < 8192 → n < 4096 → readNext (writeH
 unfolding readNext writeHeader
 read-write-next b n hb hn = field-join headerWidths (b ∷ n ∷ 0 ∷ []) 1 (header-fit b n hb hn)
 
-pub header-zero : (b n : ℕ) → b < 8192 → n < 4096 → getField headerWidths (writeHeader b n) 2 ≡ 0
+pub header-zero-field : (b n : ℕ) → b < 8192 → n < 4096 → getField headerWidths (writeHeader b n) 2 ≡ 0
 unfolding writeHeader
-header-zero b n hb hn = field-join headerWidths (b ∷ n ∷ 0 ∷ []) 2 (header-fit b n hb hn)
+header-zero-field b n hb hn = field-join headerWidths (b ∷ n ∷ 0 ∷ []) 2 (header-fit b n hb hn)
 
 pub read-blocks-fits : (w : ℕ) → w < 4294967296 → readBlocks w < 8192
 unfolding readBlocks

@@ -12,7 +12,7 @@ use Rattle.packing.specs.Bitmap.{bitAt, map-byte, map-same}
 use Rattle.packing.specs.Words.{Bytes, byte, get-lt, word-byte}
 use Rattle.rules.specs.State.{Tables, fileCount, largestBlocks, pageCount, setCount}
 use Rattle.tables.proofs.InRange.{file-in, page-in}
-use Rattle.tables.proofs.Layouts.{entry-formed, head-zero, header-zero, read-blocks-fits, read-entry-fits, read-next-fits, read-set-fits, read-size-fits, read-write-blocks, read-write-entry, read-write-next, read-write-set, read-write-size, read-write-state, set-zero, write-read-entry, write-read-head, write-read-header, write-read-set}
+use Rattle.tables.proofs.Layouts.{entry-formed, head-zero-field, header-zero-field, read-blocks-fits, read-entry-fits, read-next-fits, read-set-fits, read-size-fits, read-write-blocks, read-write-entry, read-write-next, read-write-set, read-write-size, read-write-state, set-zero-field, write-read-entry, write-read-head, write-read-header, write-read-set}
 use Rattle.tables.proofs.PackWords.{at-entry, at-head, at-header, at-map, at-set, bit-packed, entry-packed, head-packed, header-packed, length-pack, set-packed}
 use Rattle.tables.proofs.ReadParts.{bit-default, map-default, read-bit, read-blocks, read-map, read-next, read-set, read-size, read-state, set-default, size-default, state-default}
 use Rattle.tables.specs.Layout.{bitmapAt, entryAt, entryWord, fileAt, headWord, headerAt, headerWord, readBlocks, readEntry, readNext, readSet, readSize, readState, setAt, setWord, tableBytes, writeEntry, writeHead, writeHeader, writeSet}
@@ -68,9 +68,9 @@ module _ (tb : Tables) (h : Fits tb) where
   pub pack-packed : PackedTables (pack tb)
   pack-packed = record {
     len = length-pack tb;
-    header-ok = rw (header-packed tb) (header-zero (tb .blocks) (tb .next) (h .blocks-fit) (h .next-fits));
-    set-ok = λ s hs. rw (set-packed tb s hs) (set-zero (tb .sets s) (h .set-fits s));
-    head-ok = λ f s hf hs. rw (head-packed tb f s hf hs) (head-zero (tb .files f s .state) (tb .files f s .size) (h .size-fits f s));
+    header-ok = rw (header-packed tb) (header-zero-field (tb .blocks) (tb .next) (h .blocks-fit) (h .next-fits));
+    set-ok = λ s hs. rw (set-packed tb s hs) (set-zero-field (tb .sets s) (h .set-fits s));
+    head-ok = λ f s hf hs. rw (head-packed tb f s hf hs) (head-zero-field (tb .files f s .state) (tb .files f s .size) (h .size-fits f s));
     entry-ok = λ f s p hf hs hp. rw (entry-packed tb f s p hf hs hp) (entry-formed (pack tb) (tb .files f s .map p) (h .block-fits f s p));
   }
 

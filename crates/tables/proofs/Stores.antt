@@ -15,7 +15,7 @@ use Rattle.packing.specs.Words.{Same, get-put-same, getWord, length-put, put-sa
 use Rattle.rules.specs.Rules.{putEntry}
 use Rattle.rules.specs.State.{Entry, SetRecord, State, fileCount, largestBlocks, pageCount, setCount}
 use Rattle.tables.proofs.Kept.{bits-kept, blocks-kept, file-put, files-kept, map-kept, next-kept, packed-kept, set-kept, sets-kept, size-kept, state-kept}
-use Rattle.tables.proofs.Layouts.{entry-formed, head-zero, header-zero, read-write-blocks, read-write-entry, read-write-next, read-write-set, read-write-size, read-write-state, set-zero, write-entry-lt, write-head-lt, write-header-lt, write-set-lt}
+use Rattle.tables.proofs.Layouts.{entry-formed, head-zero-field, header-zero-field, read-write-blocks, read-write-entry, read-write-next, read-write-set, read-write-size, read-write-state, set-zero-field, write-entry-lt, write-head-lt, write-header-lt, write-set-lt}
 use Rattle.tables.proofs.ReadParts.{bit-default, read-bit, read-blocks, read-map, read-next, read-set, read-size, read-state}
 use Rattle.tables.specs.Layout.{bitmapAt, entryAt, fileAt, headWidths, headerAt, headerWidths, readBlocks, readEntry, readNext, readSet, readSize, readState, setAt, setWidths, writeEntry, writeHead, writeHeader, writeSet}
 use Rattle.tables.specs.OneReading.{SetFits, blockFits}
@@ -73,7 +73,7 @@ module _ (t : List ℕ) (h : PackedTables t) (f s : ℕ) (state : State) (size :
             (λ i. record { state = a i; size = b i; map = λ p. map-kept at (at + 4) t t′ same f s p (omega arith) i });
         packed = packed-kept at (at + 4) t t′ same h (length-put 3 t at w)
             (omega arith) (omega arith)
-            (λ x y hx hy k l. put-word (λ v. getField headWidths v 2 ≡ 0) 3 t at w (fileAt x y) (omega arith) (omega arith) word-lt (head-zero state size hn))
+            (λ x y hx hy k l. put-word (λ v. getField headWidths v 2 ≡ 0) 3 t at w (fileAt x y) (omega arith) (omega arith) word-lt (head-zero-field state size hn))
             (λ x y z hx hy hz k l. absurd (omega arith));
       }
 
@@ -102,7 +102,7 @@ module _ (t : List ℕ) (h : PackedTables t) (s : ℕ) (r : SetRecord) (hs : s <
         view = λ i. record { blocks = a i; next = b i; bits = c i; sets = d i; files = e i };
         packed = packed-kept at (at + 3) t t′ same h (length-put 2 t at w)
             (omega arith)
-            (λ x hx k l. put-word (λ v. getField setWidths v 6 ≡ 0) 2 t at w (setAt x) (omega arith) (omega arith) word-lt (set-zero r hr))
+            (λ x hx k l. put-word (λ v. getField setWidths v 6 ≡ 0) 2 t at w (setAt x) (omega arith) (omega arith) word-lt (set-zero-field r hr))
             (omega arith) (λ x y z hx hy hz k l. absurd (omega arith));
       }
 
@@ -127,7 +127,7 @@ module _ (t : List ℕ) (h : PackedTables t) (b n : ℕ) (eb : b ≡ unpack t .b
       record {
         view = λ i. record { blocks = x i; next = y i; bits = c i; sets = d i; files = e i };
         packed = packed-kept headerAt (headerAt + 4) t t′ same h (length-put 3 t headerAt w)
-            (λ k l. put-word (λ v. getField headerWidths v 2 ≡ 0) 3 t headerAt w headerAt refl (omega arith) word-lt (header-zero b n hb hn))
+            (λ k l. put-word (λ v. getField headerWidths v 2 ≡ 0) 3 t headerAt w headerAt refl (omega arith) word-lt (header-zero-field b n hb hn))
             (omega arith) (omega arith) (λ x y z hx hy hz k l. absurd (omega arith));
       }
 

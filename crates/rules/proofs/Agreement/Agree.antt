@@ -111,7 +111,7 @@ pub record Agree (t : Tree) (files : Files PageData) (pf : ℕ → Option (List 
 
 -- One set's file is another, and agrees with o; the others read what they read.
 module _ (t t′ : Tree) (a b : Files PageData) (pf : ℕ → Option (List ℕ)) (g : Agree t a pf) (s : ℕ) (o : Option (List ℕ))
-    (gone : (x : ℕ) → (s ≡ x → ⊥) → isAbsent (b x .state) ≡ isAbsent (a x .state)) (alive : (x : ℕ) → (s ≡ x → ⊥) → Alive b x → Alive a x)
+    (presence : (x : ℕ) → (s ≡ x → ⊥) → isAbsent (b x .state) ≡ isAbsent (a x .state)) (alive : (x : ℕ) → (s ≡ x → ⊥) → Alive b x → Alive a x)
     (page : (x p : ℕ) → p < 64 → (s ≡ x → ⊥) → Alive b x → resolve t′ b x p ≡ resolve t a x p) (size : (x : ℕ) → (s ≡ x → ⊥) → Alive b x → sizeByReading t′ b x ≡ sizeByReading t a x)
     (there₀ : isNone o ≡ isAbsent (b s .state)) (size₀ : (l : List ℕ) → o ≡ some l → Alive b s → sizeByReading t′ b s ≡ length l)
     (byte₀ : (l : List ℕ) → o ≡ some l → Alive b s → (i : ℕ) → i < 32768 → bytes (resolve t′ b s (i / 512)) (i % 512) ≡ getD l i 0) where
@@ -119,7 +119,7 @@ module _ (t t′ : Tree) (a b : Files PageData) (pf : ℕ → Option (List ℕ))
   agree-one = record {
     there = λ x. same? s x
         (λ e. subst (λ y. isNone (upd pf s o y) ≡ isAbsent (b y .state)) e (ap isNone (upd-same pf s o) ∙ there₀))
-        (λ n. ap isNone (upd-other pf s o x n) ∙ g .there x ∙ sym (gone x n));
+        (λ n. ap isNone (upd-other pf s o x n) ∙ g .there x ∙ sym (presence x n));
     size = λ x l q h. same? s x
         (λ e. subst (λ y. upd pf s o y ≡ some l → Alive b y → sizeByReading t′ b y ≡ length l) e (λ q. size₀ l (sym (upd-same pf s o) ∙ q)) q h)
         (λ n. size x n h ∙ g .size x l (sym (upd-other pf s o x n) ∙ q) (alive x n h));
@@ -146,7 +146,7 @@ module _ (t : Tree) (s off end : ℕ) (bs l : List ℕ) (a b : Files PageData) (
 
   pub agree-write : Agree t b (upd pf s (some (overwrite l off bs)))
   agree-write =
-      agree-one t t a b pf g s (some (overwrite l off bs)) (λ x n. r .gone x) (λ x n. r .alive x) (r .page) (r .size)
+      agree-one t t a b pf g s (some (overwrite l off bs)) (λ x n. r .presence x) (λ x n. r .alive x) (r .page) (r .size)
       (sym (live-present (b s .state) (r .self)))
       (λ l′ q h. let e : overwrite l off bs ≡ l′ = cc in new-size ∙ ap length e)
       (λ l′ q h i j. let e : overwrite l off bs ≡ l′ = cc in new-byte i j ∙ ap (λ z. getD z i 0) e)

@@ -12,7 +12,7 @@ use borrow.Fn.PlainCycle.{is}
 use denote.Ref.{now}
 use Rattle.base.specs.Logic.{same?}
 use Rattle.base.specs.Update.{upd, upd-other, upd-same}
-use Rattle.rules.proofs.Whole.Accepted.{Made, Removed, passed-create, passed-make, passed-remove, passed-truncate, passed-write}
+use Rattle.rules.proofs.Whole.Accepted.{MayMake, MayRemove, passed-create, passed-make, passed-remove, passed-truncate, passed-write}
 use Rattle.rules.proofs.Agreement.Agree.{Agree, agree-write, touched-once}
 use Rattle.rules.proofs.Agreement.Change.{Changed, changed}
 use Rattle.rules.proofs.Agreement.Delete.{agree-gone, deleted}
@@ -121,10 +121,10 @@ module _ (st : Store model) (pl : Plain) (g : Plainly st pl) where
     delete-plain s f =
         one-file f s _ none _ (agree-gone (treeIn model st) s (st .files f) _ (pl .files f) (g .agree f) (deleted (treeIn model st) (v .tree-ok) s (begin model st f) (v .files-ok f)))
 
-    module _ (made-tree : (s c : ℕ) (w : Bool) → Made now s c → treeOf (appendSet s c w (st .sets)) ≡ addChild (treeOf (st .sets)) s c w)
-        (removed-tree : (c : ℕ) → Removed now c → treeOf (unlinkSet c (st .sets)) ≡ takeAway (treeOf (st .sets)) c)
+    module _ (made-tree : (s c : ℕ) (w : Bool) → MayMake now s c → treeOf (appendSet s c w (st .sets)) ≡ addChild (treeOf (st .sets)) s c w)
+        (removed-tree : (c : ℕ) → MayRemove now c → treeOf (unlinkSet c (st .sets)) ≡ takeAway (treeOf (st .sets)) c)
         (root-tree : treeOf rootAlone ≡ rootTree) where
-      make-plain : (s c : ℕ) (w : Bool) → Made now s c → Plainly (made model s c w st) (plainCall (make s c w) pl)
+      make-plain : (s c : ℕ) (w : Bool) → MayMake now s c → Plainly (made model s c w st) (plainCall (make s c w) pl)
       unfolding made plainCall
       make-plain s c w m =
           let us : st .sets s .used ≡ true = ap (λ (x : View). x .tree .used s) (sym is) ∙ m .set .used in
@@ -135,7 +135,7 @@ module _ (st : Store model) (pl : Plain) (g : Plainly st pl) where
             agree = λ f. rw (made-tree s c w m) (make-agree (treeIn model st) s c w (st .files f) (v .files-ok f) ne (v .unused f c uc) (pl .files f) (g .agree f));
           }
 
-      remove-plain : (c : ℕ) → Removed now c → Plainly (removed model c st) (plainCall (remove c) pl)
+      remove-plain : (c : ℕ) → MayRemove now c → Plainly (removed model c st) (plainCall (remove c) pl)
       unfolding removed plainCall
       remove-plain c m =
           let none-in : (x : ℕ) → List·Memᴰ x (treeIn model st .children c) → ⊥ = λ x k. elim (subst (λ l. List·Memᴰ x l) (ap (λ (y : View). y .tree .children c) (sym is) ∙ m .childless) k) [ ] in

@@ -9,7 +9,7 @@ use Rattle.base.specs.Update.{upd, upd-other, upd-same}
 use Rattle.rules.proofs.Storages.Model.{model}
 use Rattle.rules.proofs.Steps.OneStep.{Alive, FilesOk, TreeOk, cut-page, cut-size, keep-refl, live-present, putEntry-ent, putEntry-other, putEntry-page, putEntry-size, putEntry-state, resolve-same}
 use Rattle.rules.proofs.Steps.StepFour.{Given, Going, each-all, each-inv, giveAll-done, giveAll-going, given-refl}
-use Rattle.rules.proofs.Steps.WriterSteps.{Entered, Held, NoDup, Settled, alive-own, bytes, enter-all, laid, mem?, reserve-files, reserve-held, resolve-here, settle-calm, settle-each, size-here}
+use Rattle.rules.proofs.Steps.WriterSteps.{Entered, Held, NoDup, Settled, alive-own, bytes, enter-all, laid, mem?, reserve-files, reserve-held, resolve-here, settle-no-virgin, settle-each, size-here}
 use Rattle.rules.specs.Reading.{needs, resolve, sizeByReading}
 use Rattle.rules.specs.Rules.{Work, change, dropPage, each, enter, giveAll, putEntry, reserve, resize, settle}
 use Rattle.rules.specs.State.{File, Files, Tree, hole, isAbsent, live, own, stored, unmapped, virgin}
@@ -38,7 +38,7 @@ module _ (t : Tree) (s : ℕ) where
 pub record Changed (t : Tree) (s : ℕ) (rs ds : List ℕ) (lay : ℕ → PageData → PageData) (sz : ℕ → ℕ) (a b : Files PageData) : Type 0 where
   pub ok′ : FilesOk t b
   pub alive : (x : ℕ) → Alive b x → Alive a x
-  pub gone : (x : ℕ) → isAbsent (b x .state) ≡ isAbsent (a x .state)
+  pub presence : (x : ℕ) → isAbsent (b x .state) ≡ isAbsent (a x .state)
   pub self : Alive b s
   pub page : (x p : ℕ) → p < 64 → (s ≡ x → ⊥) → Alive b x → resolve t b x p ≡ resolve t a x p
   pub size : (x : ℕ) → (s ≡ x → ⊥) → Alive b x → sizeByReading t b x ≡ sizeByReading t a x
@@ -49,7 +49,7 @@ pub record Changed (t : Tree) (s : ℕ) (rs ds : List ℕ) (lay : ℕ → PageDa
 
 module _ (t : Tree) (ok : TreeOk t) (s : ℕ) (ps rs ds : List ℕ) (in-r : (p : ℕ) → List·Memᴰ p rs → List·Memᴰ p ps) (in-d : (p : ℕ) → List·Memᴰ p ds → List·Memᴰ p ps)
     (lay : ℕ → PageData → PageData) (sz : ℕ → ℕ) (a b₁ b₃ b₄ b₅ : Files PageData)
-    (al : Alive a s) (r₁ : Settled t a b₁) (calm : (c : ℕ) → List·Memᴰ c (s ∷ t .children s) → b₁ c .state ≡ virgin → ⊥)
+    (al : Alive a s) (r₁ : Settled t a b₁) (no-virgin : (c : ℕ) → List·Memᴰ c (s ∷ t .children s) → b₁ c .state ≡ virgin → ⊥)
     (r₃ : Given t s b₁ b₃) (idle : (p : ℕ) → List·Memᴰ p ps → (c : ℕ) → List·Memᴰ c (t .children s) → needs b₃ c p ≡ false) (r₄ : Entered t s lay rs b₃ b₄) (r₅ : Dropped t s ds b₄ b₅) where
   last : Files PageData
   last = upd b₅ s (record { state = own; size = sz (b₅ s .size); map = b₅ s .map })
@@ -63,7 +63,7 @@ module _ (t : Tree) (ok : TreeOk t) (s : ℕ) (ps rs ds : List ℕ) (in-r : (p :
   last-x x n = upd-other b₅ s _ x n ∙ r₅ .others x n ∙ r₄ .others x n
 
   own₁ : b₁ s .state ≡ own
-  own₁ = alive-own (b₁ s .state) (r₁ .live′ s ∙ al) (calm s (List·Memᴰ·head refl))
+  own₁ = alive-own (b₁ s .state) (r₁ .live′ s ∙ al) (no-virgin s (List·Memᴰ·head refl))
 
   alive₃ : Alive b₃ s
   alive₃ = ap (λ (x : File PageData). live (x .state)) (r₃ .self) ∙ ap live own₁
@@ -106,16 +106,16 @@ module _ (t : Tree) (ok : TreeOk t) (s : ℕ) (ps rs ds : List ℕ) (in-r : (p :
           (λ n. ap (λ (f : File PageData). f .map p) (last-x x n) ∙ r₃ .ok′ .bare x p l (ap (λ (f : File PageData). f .state) (sym (last-x x n)) ∙ v));
     };
     alive = λ x h. r₁ .keep .alive x (r₃ .keep .alive x (back x h));
-    gone = λ x. same? s x
+    presence = λ x. same? s x
         (λ e. subst (λ y. isAbsent (last y .state) ≡ isAbsent (a y .state)) e (live-present (last s .state) (forth s alive₃) ∙ sym (live-present (a s .state) al)))
-        (λ n. ap (λ (f : File PageData). isAbsent (f .state)) (last-x x n) ∙ r₃ .keep .gone x ∙ r₁ .keep .gone x);
+        (λ n. ap (λ (f : File PageData). isAbsent (f .state)) (last-x x n) ∙ r₃ .keep .presence x ∙ r₁ .keep .presence x);
     self = forth s alive₃;
     page = λ x p l n h.
         ⊎-elim
         (λ m. cut-page t ok b₃ last (r₃ .ok′) s last-x p l (idle p m) x n (back x h))
         (λ o. resolve-same t b₃ last p (untouched p (λ m. o (in-r p m)) (λ m. o (in-d p m))) x)
         (mem? p ps) ∙ page₃ x p l (back x h);
-    size = λ x n h. cut-size t ok b₃ last (r₃ .ok′) s last-x (λ c m v. calm c (List·Memᴰ·tail m) (r₃ .calm c v)) x n (back x h) ∙ size₃ x (back x h);
+    size = λ x n h. cut-size t ok b₃ last (r₃ .ok′) s last-x (λ c m v. no-virgin c (List·Memᴰ·tail m) (r₃ .no-new-virgin c v)) x n (back x h) ∙ size₃ x (back x h);
     new-page = λ p l m d. resolve-here t last s p _ (entered p m d) refl ∙ ap (λ e. stored (lay p (bytes e))) (page₃ s p l alive₃);
     cut-page′ = λ p l m. resolve-here t last s p hole (holed p m) refl;
     old-page = λ p l o d. resolve-same t b₃ last p (untouched p o d) s ∙ page₃ s p l alive₃;
@@ -129,7 +129,7 @@ module _ (t : Tree) (ok : TreeOk t) (s : ℕ) (ps rs ds : List ℕ) (in-r : (p :
   pub changed : Changed t s rs ds lay sz (w .files) (change model t s ps rs ds lay sz w .files)
   unfolding change resize last
   changed =
-      let i : Settled t (w .files) (w .files) = record { ok′ = k; keep = keep-refl t (w .files); live′ = λ s. refl; calm = λ s h. h } in
+      let i : Settled t (w .files) (w .files) = record { ok′ = k; keep = keep-refl t (w .files); live′ = λ s. refl; no-new-virgin = λ s h. h } in
       let w₁ : Work model = each (settle model t) (s ∷ t .children s) w in
       let w₂ : Work model = each (reserve model t s) rs w₁ in
       let w₃ : Work model = giveAll model t s ps w₂ in
@@ -137,9 +137,9 @@ module _ (t : Tree) (ok : TreeOk t) (s : ℕ) (ps rs ds : List ℕ) (in-r : (p :
       let w₅ : Work model = each (dropPage model t s) ds w₄ in
       let e₂ : w₂ .files ≡ w₁ .files = reserve-files t s rs w₁ in
       let r₁ : Settled t (w .files) (w₂ .files) = rw e₂ (settle-each t ok w (s ∷ t .children s) i) in
-      let calm : (c : ℕ) → List·Memᴰ c (s ∷ t .children s) → w₂ .files c .state ≡ virgin → ⊥ = rw e₂ (settle-calm t ok w (s ∷ t .children s) i) in
-      let calm′ : (c : ℕ) → List·Memᴰ c (t .children s) → w₂ .files c .state ≡ virgin → ⊥ = λ c m. calm c (List·Memᴰ·tail m) in
+      let no-virgin : (c : ℕ) → List·Memᴰ c (s ∷ t .children s) → w₂ .files c .state ≡ virgin → ⊥ = rw e₂ (settle-no-virgin t ok w (s ∷ t .children s) i) in
+      let no-virgin′ : (c : ℕ) → List·Memᴰ c (t .children s) → w₂ .files c .state ≡ virgin → ⊥ = λ c m. no-virgin c (List·Memᴰ·tail m) in
       let g : Going t ok s w₂ w₂ = record { given = given-refl (r₁ .ok′); pending = refl } in
-      let g₃ : Going t ok s w₂ w₃ = giveAll-going t ok s w₂ calm′ ps g in
+      let g₃ : Going t ok s w₂ w₃ = giveAll-going t ok s w₂ no-virgin′ ps g in
       let pending : (p : ℕ) → List·Memᴰ p rs → Held (w₃ .pending p) = λ p m. rw (g₃ .pending) (reserve-held t s rs w₁ p m) in
-      assembled t ok s ps rs ds in-r in-d lay sz (w .files) (w₂ .files) (w₃ .files) (w₄ .files) (w₅ .files) a r₁ calm (g₃ .given) (giveAll-done t ok s w₂ calm′ ps g) (enter-all t s lay rs nd w₃ pending) (drop-all t s ds w₄)
+      assembled t ok s ps rs ds in-r in-d lay sz (w .files) (w₂ .files) (w₃ .files) (w₄ .files) (w₅ .files) a r₁ no-virgin (g₃ .given) (giveAll-done t ok s w₂ no-virgin′ ps g) (enter-all t s lay rs nd w₃ pending) (drop-all t s ds w₄)

@@ -11,7 +11,7 @@ use Rattle.rules.proofs.Storages.Model.{model}
 use Rattle.rules.proofs.Steps.OneStep.{Alive, FilesOk, TreeOk, cut-page, cut-size, keep-refl, needs-yes}
 use Rattle.rules.proofs.Agreement.CreateMake.{away-page, away-size}
 use Rattle.rules.proofs.Steps.StepFour.{Given, Going, giveAll-done, giveAll-going, given-refl}
-use Rattle.rules.proofs.Steps.WriterSteps.{Settled, settle-calm, settle-each}
+use Rattle.rules.proofs.Steps.WriterSteps.{Settled, settle-no-virgin, settle-each}
 use Rattle.rules.specs.Reading.{needs, resolve, sizeByReading}
 use Rattle.rules.specs.Rules.{Work, deleteAs, deleteFile, each, eraseFile, from, giveAll, settle}
 use Rattle.rules.specs.State.{File, Files, Tree, absent, isAbsent, live, unmapped, virgin}
@@ -22,13 +22,13 @@ pub record Gone (t : Tree) (s : ℕ) (a b : Files PageData) : Type 0 where
   pub ok′ : FilesOk t b
   pub empty : b s .state ≡ absent
   pub alive : (x : ℕ) → (s ≡ x → ⊥) → Alive b x → Alive a x
-  pub gone : (x : ℕ) → (s ≡ x → ⊥) → isAbsent (b x .state) ≡ isAbsent (a x .state)
+  pub presence : (x : ℕ) → (s ≡ x → ⊥) → isAbsent (b x .state) ≡ isAbsent (a x .state)
   pub page : (x p : ℕ) → p < 64 → (s ≡ x → ⊥) → Alive b x → resolve t b x p ≡ resolve t a x p
   pub size : (x : ℕ) → (s ≡ x → ⊥) → Alive b x → sizeByReading t b x ≡ sizeByReading t a x
 
 pub agree-gone : (t : Tree) (s : ℕ) (a b : Files PageData) (pf : ℕ → Option (List ℕ)) → Agree t a pf → Gone t s a b → Agree t b (upd pf s none)
 agree-gone t s a b pf g r =
-    agree-one t t a b pf g s none (r .gone) (r .alive) (r .page) (r .size) (sym (ap isAbsent (r .empty))) (λ l e h. cc) (λ l e h i j. cc)
+    agree-one t t a b pf g s none (r .presence) (r .alive) (r .page) (r .size) (sym (ap isAbsent (r .empty))) (λ l e h. cc) (λ l e h i j. cc)
 
 -- the files after an erasure
 erase-others : (t : Tree) (s : ℕ) (w : Work model) (x : ℕ) → (s ≡ x → ⊥) → eraseFile model t s w .files x ≡ w .files x
@@ -65,13 +65,13 @@ module _ (t : Tree) (ok : TreeOk t) (s : ℕ) (a b : Files PageData) (empty : b 
       };
       empty = empty;
       alive = was;
-      gone = λ x n. ap (λ (f : File PageData). isAbsent (f .state)) (others x n);
+      presence = λ x n. ap (λ (f : File PageData). isAbsent (f .state)) (others x n);
       page = λ x p l n al. away-page t t a b k s (λ _ _. refl) (λ _ _. refl) others leaf x p l n (was x n al);
       size = λ x n al. away-size t t a b k s (λ _ _. refl) (λ _ _. refl) others leaf x n (was x n al);
     }
 
   -- a live file: the children have been given what they need
-  module _ (b₁ b₃ : Files PageData) (r₁ : Settled t a b₁) (calm : (c : ℕ) → List·Memᴰ c (t .children s) → b₁ c .state ≡ virgin → ⊥) (r₃ : Given t s b₁ b₃)
+  module _ (b₁ b₃ : Files PageData) (r₁ : Settled t a b₁) (no-virgin : (c : ℕ) → List·Memᴰ c (t .children s) → b₁ c .state ≡ virgin → ⊥) (r₃ : Given t s b₁ b₃)
       (idle : (p : ℕ) → p < 64 → (c : ℕ) → List·Memᴰ c (t .children s) → needs b₃ c p ≡ false) (others : (x : ℕ) → (s ≡ x → ⊥) → b x ≡ b₃ x) where
     was₃ : (x : ℕ) → (s ≡ x → ⊥) → Alive b x → Alive b₃ x
     was₃ x n al = ap (λ (f : File PageData). live (f .state)) (sym (others x n)) ∙ al
@@ -89,9 +89,9 @@ module _ (t : Tree) (ok : TreeOk t) (s : ℕ) (a b : Files PageData) (empty : b 
       };
       empty = empty;
       alive = λ x n al. r₁ .keep .alive x (r₃ .keep .alive x (was₃ x n al));
-      gone = λ x n. ap (λ (f : File PageData). isAbsent (f .state)) (others x n) ∙ r₃ .keep .gone x ∙ r₁ .keep .gone x;
+      presence = λ x n. ap (λ (f : File PageData). isAbsent (f .state)) (others x n) ∙ r₃ .keep .presence x ∙ r₁ .keep .presence x;
       page = λ x p l n al. cut-page t ok b₃ b (r₃ .ok′) s others p l (idle p l) x n (was₃ x n al) ∙ r₃ .keep .page x p l (was₃ x n al) ∙ r₁ .keep .page x p l (r₃ .keep .alive x (was₃ x n al));
-      size = λ x n al. cut-size t ok b₃ b (r₃ .ok′) s others (λ c m v. calm c m (r₃ .calm c v)) x n (was₃ x n al) ∙ r₃ .keep .size x (was₃ x n al) ∙ r₁ .keep .size x (r₃ .keep .alive x (was₃ x n al));
+      size = λ x n al. cut-size t ok b₃ b (r₃ .ok′) s others (λ c m v. no-virgin c m (r₃ .no-new-virgin c v)) x n (was₃ x n al) ∙ r₃ .keep .size x (was₃ x n al) ∙ r₁ .keep .size x (r₃ .keep .alive x (was₃ x n al));
     }
 
 module _ (t : Tree) (ok : TreeOk t) (s : ℕ) (w : Work model) (k : FilesOk t (w .files)) where
@@ -101,14 +101,14 @@ module _ (t : Tree) (ok : TreeOk t) (s : ℕ) (w : Work model) (k : FilesOk t (w
   deleted-live : Gone t s (w .files) (deleteAs model t true s w .files)
   unfolding deleteAs
   deleted-live =
-      let i : Settled t (w .files) (w .files) = record { ok′ = k; keep = keep-refl t (w .files); live′ = λ s. refl; calm = λ s h. h } in
+      let i : Settled t (w .files) (w .files) = record { ok′ = k; keep = keep-refl t (w .files); live′ = λ s. refl; no-new-virgin = λ s h. h } in
       let w₁ : Work model = each (settle model t) (t .children s) w in
       let w₂ : Work model = giveAll model t s (from 0 64) w₁ in
       let r₁ : Settled t (w .files) (w₁ .files) = settle-each t ok w (t .children s) i in
-      let calm : (c : ℕ) → List·Memᴰ c (t .children s) → w₁ .files c .state ≡ virgin → ⊥ = settle-calm t ok w (t .children s) i in
+      let no-virgin : (c : ℕ) → List·Memᴰ c (t .children s) → w₁ .files c .state ≡ virgin → ⊥ = settle-no-virgin t ok w (t .children s) i in
       let g : Going t ok s w₁ w₁ = record { given = given-refl (r₁ .ok′); pending = refl } in
-      gone-live t ok s (w .files) (eraseFile model t s w₂ .files) (erase-empty t s w₂) (w₁ .files) (w₂ .files) r₁ calm (giveAll-going t ok s w₁ calm (from 0 64) g .given)
-      (λ p l. giveAll-done t ok s w₁ calm (from 0 64) g p (from-mem 0 64 p (omega arith) l)) (erase-others t s w₂)
+      gone-live t ok s (w .files) (eraseFile model t s w₂ .files) (erase-empty t s w₂) (w₁ .files) (w₂ .files) r₁ no-virgin (giveAll-going t ok s w₁ no-virgin (from 0 64) g .given)
+      (λ p l. giveAll-done t ok s w₁ no-virgin (from 0 64) g p (from-mem 0 64 p (omega arith) l)) (erase-others t s w₂)
 
   pub deleted : Gone t s (w .files) (deleteFile model t s w .files)
   unfolding deleteFile deleteAs

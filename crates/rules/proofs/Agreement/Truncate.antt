@@ -130,7 +130,7 @@ module _ (t : Tree) (s n : ℕ) (l : List ℕ) (a b : Files PageData) (pf : ℕ 
 
   pub agree-cut : Agree t b (upd pf s (some (cutOrFill l n)))
   agree-cut =
-      agree-one t t a b pf g s (some (cutOrFill l n)) (λ x n. r .gone x) (λ x n. r .alive x) (r .page) (r .size) (sym (live-present (b s .state) (r .self)))
+      agree-one t t a b pf g s (some (cutOrFill l n)) (λ x n. r .presence x) (λ x n. r .alive x) (r .page) (r .size) (sym (live-present (b s .state) (r .self)))
       (λ l′ q h. let e : cutOrFill l n ≡ l′ = cc in r .new-size ∙ sym (length-sized l n) ∙ ap length e)
       (λ l′ q h i j. let e : cutOrFill l n ≡ l′ = cc in cut-byte i j ∙ ap (λ z. getD z i 0) e)
 
@@ -144,7 +144,7 @@ module _ (t : Tree) (s n : ℕ) (l : List ℕ) (a b : Files PageData) (pf : ℕ 
 
   pub agree-more : Agree t b (upd pf s (some (cutOrFill l n)))
   agree-more =
-      agree-one t t a b pf g s (some (cutOrFill l n)) (λ x n. r .gone x) (λ x n. r .alive x) (r .page) (r .size) (sym (live-present (b s .state) (r .self)))
+      agree-one t t a b pf g s (some (cutOrFill l n)) (λ x n. r .presence x) (λ x n. r .alive x) (r .page) (r .size) (sym (live-present (b s .state) (r .self)))
       (λ l′ q h. let e : cutOrFill l n ≡ l′ = cc in r .new-size ∙ sym (length-sized l n) ∙ ap length e)
       (λ l′ q h i j. let e : cutOrFill l n ≡ l′ = cc in more-byte i j ∙ ap (λ z. getD z i 0) e)
 

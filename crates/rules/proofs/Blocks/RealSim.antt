@@ -15,7 +15,7 @@ use Rattle.rules.proofs.Steps.OneStep.{live-present, putEntry-ent, putE
 use Rattle.rules.proofs.Storages.Sim.{Demands, Sim, Translation, settle-ent}
 use Rattle.rules.proofs.Steps.StepFour.{needs-alive, needs-unmapped}
 use Rattle.rules.proofs.Blocks.TakeBlock.{take-below, take-bits, take-blocks, take-count, take-next, take-pages, take-unused}
-use Rattle.rules.proofs.Blocks.Tidy.{Tidy, mark-gone, mark-map-same, resolve-named, settle-gone, tidy-fewer, tidy-put}
+use Rattle.rules.proofs.Blocks.Tidy.{Tidy, mark-presence, mark-map-same, resolve-named, settle-presence, tidy-fewer, tidy-put}
 use Rattle.rules.proofs.Agreement.Truncate.{apart}
 use Rattle.rules.specs.Reading.{needs, resolve}
 use Rattle.rules.specs.Rules.{Work, copy, dropPage, enterAs, freeEntry, mark, putEntry, reserve, reserveAs, resize, settle, takeOwn, withFiles}
@@ -39,12 +39,12 @@ module _ (t : Tree) (s : ℕ) (m₀ : Memory) (Outer : ℕ → Type 0) where
 
   good-settle : (c : ℕ) (w : Work real) → Ok w → Ok (settle real t c w)
   unfolding settle
-  good-settle c w g = good-files w (settle real t c w) refl refl (settle-ent t c (w .files)) (λ x n. settle-gone t c (w .files) x) g
+  good-settle c w g = good-files w (settle real t c w) refl refl (settle-ent t c (w .files)) (λ x n. settle-presence t c (w .files) x) g
 
   good-mark : (c p : ℕ) (w : Work real) → Ok w → needs (w .files) c p ≡ true → Ok (mark real t c w)
   unfolding mark
   good-mark c p w g n =
-      good-files w (mark real t c w) refl refl (mark-map-same t (w .files) c) (λ x o. mark-gone t (w .files) c (needs-alive (w .files) c p n) x) g
+      good-files w (mark real t c w) refl refl (mark-map-same t (w .files) c) (λ x o. mark-presence t (w .files) c (needs-alive (w .files) c p n) x) g
 
   good-resize : (n : ℕ) (w : Work real) → Ok w → Ok (resize real t s n w)
   unfolding resize

@@ -25,23 +25,23 @@ module _ {K : Type 0} where
     -- nothing new is stored, and no other file comes or goes
     pub tidy-fewer : (files′ : Files K) → ((x p : ℕ) (b : K) → files′ x .map p ≡ stored b → files x .map p ≡ stored b) →
         ((x : ℕ) → (s ≡ x → ⊥) → isAbsent (files′ x .state) ≡ isAbsent (files x .state)) → Tidy t s files′
-    tidy-fewer files′ less gone = record {
+    tidy-fewer files′ less presence = record {
       low = λ x p b e. k .low x p b (less x p b e);
-      present = λ x p b n e. gone x n ∙ k .present x p b n (less x p b e);
-      lives = λ x n h. k .lives x n (sym (gone x n) ∙ h);
+      present = λ x p b n e. presence x n ∙ k .present x p b n (less x p b e);
+      lives = λ x n h. k .lives x n (sym (presence x n) ∙ h);
     }
 
     -- one entry is stored
     pub tidy-put : (c p : ℕ) (b : K) → p < 64 → ((s ≡ c → ⊥) → isAbsent (files c .state) ≡ false) → Tidy t s (putEntry files c p (stored b))
     tidy-put c p b l h = record {
       low = λ x q b′ e. ⊎-elim (λ e. k .low x q b′ e) (λ d. subst (λ y. y < 64) (sym (d .1)) l) (put-named x q b′ e);
-      present = λ x q b′ n e. putEntry-gone x ∙
+      present = λ x q b′ n e. putEntry-presence x ∙
           ⊎-elim (λ e. k .present x q b′ n e) (λ d. ap (λ y. isAbsent (files y .state)) (d .0) ∙ h (λ z. n (z ∙ sym (d .0)))) (put-named x q b′ e);
-      lives = λ x n e. k .lives x n (sym (putEntry-gone x) ∙ e);
+      lives = λ x n e. k .lives x n (sym (putEntry-presence x) ∙ e);
     }
       where
-        putEntry-gone : (x : ℕ) → isAbsent (putEntry files c p (stored b) x .state) ≡ isAbsent (files x .state)
-        putEntry-gone x = ap isAbsent (putEntry-state files c p (stored b) x)
+        putEntry-presence : (x : ℕ) → isAbsent (putEntry files c p (stored b) x .state) ≡ isAbsent (files x .state)
+        putEntry-presence x = ap isAbsent (putEntry-state files c p (stored b) x)
 
         put-named : (x q : ℕ) (b′ : K) → putEntry files c p (stored b) x .map q ≡ stored b′ → (files x .map q ≡ stored b′) ⊎ ((x ≡ c) × (q ≡ p))
         put-named x q b′ a =
@@ -50,9 +50,9 @@ module _ {K : Type 0} where
             (λ e. inl (sym (putEntry-page files c p (stored b) x q e) ∙ a))
 
   -- what the steps do to the states
-  pub settle-gone : (t : Tree) (c : ℕ) (files : Files K) (x : ℕ) → isAbsent (settleFile t c files x .state) ≡ isAbsent (files x .state)
+  pub settle-presence : (t : Tree) (c : ℕ) (files : Files K) (x : ℕ) → isAbsent (settleFile t c files x .state) ≡ isAbsent (files x .state)
   unfolding settleFile settleAs
-  settle-gone t c files x = go (files c .state) refl
+  settle-presence t c files x = go (files c .state) refl
     where
       go : (l : State) → files c .state ≡ l → isAbsent (settleAs l t files c x .state) ≡ isAbsent (files x .state)
       go absent e = refl
@@ -75,9 +75,9 @@ module _ {K : Type 0} where
       go true f = refl
       go false f = refl
 
-  pub mark-gone : (t : Tree) (files : Files K) (c : ℕ) → live (files c .state) ≡ true → (x : ℕ) → isAbsent (markDown t files c x .state) ≡ isAbsent (files x .state)
+  pub mark-presence : (t : Tree) (files : Files K) (c : ℕ) → live (files c .state) ≡ true → (x : ℕ) → isAbsent (markDown t files c x .state) ≡ isAbsent (files x .state)
   unfolding markDown markFile reaches
-  mark-gone t files c al x =
+  mark-presence t files c al x =
       test? (dependsOn t files c (t .level x) x)
       (λ e. rw e (sym (live-present (files x .state) (reached-live t files c al (t .level x) x e))))
       (λ e. rw e)

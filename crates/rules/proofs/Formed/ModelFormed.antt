@@ -6,7 +6,7 @@ use Prim.Native.Nat.{_<_, ℕ, _≤_}
 use native.Mathlib.Omega.{arith}
 use Rattle.base.specs.Logic.{same?}
 use Rattle.base.specs.Update.{upd, upd-all, upd-other, upd-same}
-use Rattle.rules.proofs.Whole.Accepted.{Made, Removed, passed-create, passed-delete, passed-make, passed-remove, passed-truncate, passed-write}
+use Rattle.rules.proofs.Whole.Accepted.{MayMake, MayRemove, passed-create, passed-delete, passed-make, passed-remove, passed-truncate, passed-write}
 use Rattle.rules.proofs.Formed.FilesOfSets.{create-formed, format-formed, make-records, remove-records}
 use Rattle.rules.proofs.Tree.MakeSet.{make-sets}
 use Rattle.rules.proofs.Storages.Model.{model}
@@ -48,7 +48,7 @@ module _ (m : Store model) (v : ModelFormed m) (B : ℕ) where
   numbers-at : (g c s : ℕ) (x : File PageData) → 16 ≤ g → x ≡ absentFile → upd (m .files g) c x s ≡ absentFile
   numbers-at g c s x h e = upd-all (λ (y : File PageData). y ≡ absentFile) (m .files g) c x e (λ s. v .numbers g s h) s
 
-  make-kept : (s c : ℕ) (w : Bool) → Made now s c → ModelFormed (made model s c w m)
+  make-kept : (s c : ℕ) (w : Bool) → MayMake now s c → ModelFormed (made model s c w m)
   unfolding made
   make-kept s c w a = record {
     sets-ok = make-sets (m .sets) (v .sets-ok) s c w (a .set .used) (a .new) (a .unused) (a .level-in);
@@ -56,7 +56,7 @@ module _ (m : Store model) (v : ModelFormed m) (B : ℕ) where
     numbers = λ g x h. numbers-at g c x (childFile (m .files g s)) h (ap childFile (v .numbers g s h));
   }
 
-  remove-kept : (c : ℕ) → Removed now c → ModelFormed (removed model c m)
+  remove-kept : (c : ℕ) → MayRemove now c → ModelFormed (removed model c m)
   unfolding removed
   remove-kept c a = record {
     sets-ok = remove-sets (m .sets) (v .sets-ok) c (a .set .used) (a .not-root) (a .childless);

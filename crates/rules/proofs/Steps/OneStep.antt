@@ -48,17 +48,17 @@ module _ {K : Type 0} where
   -- whoever is alive afterwards was so before, and reads what it read
   pub record Keep (t : Tree) (files files′ : Files K) : Type 0 where
     pub alive : (s : ℕ) → Alive files′ s → Alive files s
-    pub gone : (s : ℕ) → isAbsent (files′ s .state) ≡ isAbsent (files s .state)
+    pub presence : (s : ℕ) → isAbsent (files′ s .state) ≡ isAbsent (files s .state)
     pub page : (s p : ℕ) → p < 64 → Alive files′ s → resolve t files′ s p ≡ resolve t files s p
     pub size : (s : ℕ) → Alive files′ s → sizeByReading t files′ s ≡ sizeByReading t files s
 
   pub keep-refl : (t : Tree) (files : Files K) → Keep t files files
-  keep-refl t files = record { alive = λ s a. a; gone = λ s. refl; page = λ s p h a. refl; size = λ s a. refl }
+  keep-refl t files = record { alive = λ s a. a; presence = λ s. refl; page = λ s p h a. refl; size = λ s a. refl }
 
   pub keep-trans : {t : Tree} {a b c : Files K} → Keep t a b → Keep t b c → Keep t a c
   keep-trans h k = record {
     alive = λ s x. h .alive s (k .alive s x);
-    gone = λ s. k .gone s ∙ h .gone s;
+    presence = λ s. k .presence s ∙ h .presence s;
     page = λ s p l x. k .page s p l x ∙ h .page s p l (k .alive s x);
     size = λ s x. k .size s x ∙ h .size s (k .alive s x);
   }
@@ -139,7 +139,7 @@ module _ {K : Type 0} where
     unfolding fill
     fill-keep = record {
       alive = λ s a. rw putEntry-state at a;
-      gone = λ s. ap isAbsent (putEntry-state files c p _ s);
+      presence = λ s. ap isAbsent (putEntry-state files c p _ s);
       page = λ s p′ l a. same? p p′ (λ q. subst (λ x. resolve t fill s x ≡ resolve t files s x) q (fill-res s)) (λ q. resolve-same t files fill p′ (λ s. putEntry-page files c p _ s p′ q) s);
       size = λ s a. size-same t files fill (putEntry-state files c p _) (putEntry-size files c p _) s;
     }
@@ -196,7 +196,7 @@ module _ {K : Type 0} where
     unfolding settled
     settled-keep = record {
       alive = λ s a. rw settled-live at a;
-      gone = upd-keeps (λ (x : File K). isAbsent (x .state)) files c _ (sym (ap isAbsent vir));
+      presence = upd-keeps (λ (x : File K). isAbsent (x .state)) files c _ (sym (ap isAbsent vir));
       page = λ s p l a. resolve-same t files settled p (settled-ent p) s;
       size = λ s a. settled-size s;
     }
@@ -257,9 +257,9 @@ module _ {K : Type 0} where
         test? (eqb c s) (λ e. subst (Alive files) (eqb-true c s e) al)
         (λ e. and-left (live (files s .state)) _ (and-left _ _ (rw e at h)))
 
-    mark-gone : Alive files c → (s : ℕ) → isAbsent (markDown t files c s .state) ≡ isAbsent (files s .state)
+    mark-presence : Alive files c → (s : ℕ) → isAbsent (markDown t files c s .state) ≡ isAbsent (files s .state)
     unfolding markFile reaches
-    mark-gone al s =
+    mark-presence al s =
         test? (reaches t files c s)
         (λ e. ap (λ (x : File K). isAbsent (x .state)) (marked-by s true e) ∙ sym (live-present (files s .state) (reaches-live (t .level s) s al e)))
         (λ e. ap (λ (x : File K). isAbsent (x .state)) (marked-by s false e))
@@ -271,7 +271,7 @@ module _ {K : Type 0} where
     unfolding resolve sizeByReading
     mark-keep al = record {
       alive = mark-alive;
-      gone = mark-gone al;
+      presence = mark-presence al;
       page = λ s p l a.
           walk-frame (t .parent) (λ (x : File K). shownEntry (x .map p)) hole files (markDown t files c) (Alive (markDown t files c))
           (λ s _. ap (λ (x : ℕ → Entry K). shownEntry (x p)) (mark-ent s)) (λ s a n. mark-up s p l a (shown-none _ n)) (t .level s) s a;

@@ -42,10 +42,10 @@ module _ {K : Type 0} where
     pub keep : Keep t files files′
     pub less : (c p : ℕ) → needs files c p ≡ false → needs files′ c p ≡ false
     pub self : files′ s ≡ files s
-    pub calm : (c : ℕ) → files′ c .state ≡ virgin → files c .state ≡ virgin
+    pub no-new-virgin : (c : ℕ) → files′ c .state ≡ virgin → files c .state ≡ virgin
 
   pub given-refl : {t : Tree} {s : ℕ} {files : Files K} → FilesOk t files → Given t s files files
-  given-refl {t} {s} {files} k = record { ok′ = k; keep = keep-refl t files; less = λ c p h. h; self = refl; calm = λ c h. h }
+  given-refl {t} {s} {files} k = record { ok′ = k; keep = keep-refl t files; less = λ c p h. h; self = refl; no-new-virgin = λ c h. h }
 
   given-trans : {t : Tree} {s : ℕ} {a b c : Files K} → Given t s a b → Given t s b c → Given t s a c
   given-trans h k = record {
@@ -53,7 +53,7 @@ module _ {K : Type 0} where
     keep = keep-trans (h .keep) (k .keep);
     less = λ c p x. k .less c p (h .less c p x);
     self = k .self ∙ h .self;
-    calm = λ c x. h .calm c (k .calm c x);
+    no-new-virgin = λ c x. h .no-new-virgin c (k .no-new-virgin c x);
   }
 
   needs-shown : (files : Files K) (c p : ℕ) → shownEntry (files c .map p) ≡ some (files c .map p) → needs files c p ≡ false
@@ -112,7 +112,7 @@ module _ {K : Type 0} where
           (λ r. needs-same files _ c′ p′ (putEntry-state files c p _ c′) (ap (λ (x : File K). x .map p′) (putEntry-other files c p _ c′ r)) h))
           (λ q. needs-same files _ c′ p′ (putEntry-state files c p _ c′) (putEntry-page files c p _ c′ p′ q) h);
       self = putEntry-other files c p _ s differ;
-      calm = λ c′ h. rw putEntry-state at h;
+      no-new-virgin = λ c′ h. rw putEntry-state at h;
     })
       where
         u : files c .map p ≡ unmapped
@@ -146,7 +146,7 @@ module _ {K : Type 0} where
           (λ e. needs-dead (markDown t files c) c′ p′ (dead c′ e))
           (λ e. let m : markDown t files c c′ ≡ files c′ = marked-by t ok files k c c′ false e in needs-same files (markDown t files c) c′ p′ (ap (λ (x : File K). x .state) m) (ap (λ (x : File K). x .map p′) m) h);
       self = marked-by t ok files k c s false (missed);
-      calm = λ c′ h. ap (λ (x : File K). x .state) (sym (mark-same t ok files k c c′ (ap live h))) ∙ h;
+      no-new-virgin = λ c′ h. ap (λ (x : File K). x .state) (sym (mark-same t ok files k c c′ (ap live h))) ∙ h;
     }
 
     mark-done : (p : ℕ) → needs (markDown t files c) c p ≡ false
@@ -193,9 +193,9 @@ module _ (t : Tree) (ok : TreeOk t) (s : ℕ) where
     pub given : Given t s (w .files) (v .files)
     pub pending : v .pending ≡ w .pending
 
-  module _ (w : Work model) (calm : (c : ℕ) → List·Memᴰ c (t .children s) → w .files c .state ≡ virgin → ⊥) where
+  module _ (w : Work model) (no-virgin : (c : ℕ) → List·Memᴰ c (t .children s) → w .files c .state ≡ virgin → ⊥) where
     turn : (p c : ℕ) (v : Work model) → List·Memᴰ c (t .children s) → Going w v → Turn p c v (give model t s p c v)
-    turn p c v m g = give-turn p c v m (g .given .ok′) (λ h. calm c m (g .given .calm c h))
+    turn p c v m g = give-turn p c v m (g .given .ok′) (λ h. no-virgin c m (g .given .no-new-virgin c h))
 
     going : (p c : ℕ) (v : Work model) → List·Memᴰ c (t .children s) → Going w v → Going w (give model t s p c v)
     going p c v m g = record { given = given-trans (g .given) (turn p c v m g .given); pending = turn p c v m g .pending ∙ g .pending }

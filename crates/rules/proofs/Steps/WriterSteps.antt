@@ -43,22 +43,22 @@ module _ {K : Type 0} where
     pub ok′ : FilesOk t files′
     pub keep : Keep t files files′
     pub live′ : (s : ℕ) → live (files′ s .state) ≡ live (files s .state)
-    pub calm : (s : ℕ) → files′ s .state ≡ virgin → files s .state ≡ virgin
+    pub no-new-virgin : (s : ℕ) → files′ s .state ≡ virgin → files s .state ≡ virgin
 
   settled-trans : {t : Tree} {a b c : Files K} → Settled t a b → Settled t b c → Settled t a c
   settled-trans h k = record {
     ok′ = k .ok′;
     keep = keep-trans (h .keep) (k .keep);
     live′ = λ s. k .live′ s ∙ h .live′ s;
-    calm = λ s x. h .calm s (k .calm s x);
+    no-new-virgin = λ s x. h .no-new-virgin s (k .no-new-virgin s x);
   }
 
   module _ (t : Tree) (ok : TreeOk t) (c : ℕ) (files : Files K) (k : FilesOk t files) where
     settle-one : (l : State) → files c .state ≡ l → Settled t files (settleAs l t files c) × (settleAs l t files c c .state ≡ virgin → ⊥)
     unfolding settleAs settled
-    settle-one absent e = (record { ok′ = k; keep = keep-refl t files; live′ = λ s. refl; calm = λ s h. h }, λ v. let z : _≡_ {A = ℕ} 0 1 = cc in omega arith)
-    settle-one own e = (record { ok′ = k; keep = keep-refl t files; live′ = λ s. refl; calm = λ s h. h }, λ v. let z : _≡_ {A = ℕ} 0 1 = cc in omega arith)
-    settle-one marked e = (record { ok′ = k; keep = keep-refl t files; live′ = λ s. refl; calm = λ s h. h }, λ v. let z : _≡_ {A = ℕ} 0 1 = cc in omega arith)
+    settle-one absent e = (record { ok′ = k; keep = keep-refl t files; live′ = λ s. refl; no-new-virgin = λ s h. h }, λ v. let z : _≡_ {A = ℕ} 0 1 = cc in omega arith)
+    settle-one own e = (record { ok′ = k; keep = keep-refl t files; live′ = λ s. refl; no-new-virgin = λ s h. h }, λ v. let z : _≡_ {A = ℕ} 0 1 = cc in omega arith)
+    settle-one marked e = (record { ok′ = k; keep = keep-refl t files; live′ = λ s. refl; no-new-virgin = λ s h. h }, λ v. let z : _≡_ {A = ℕ} 0 1 = cc in omega arith)
     settle-one virgin e =
         let at : t .level c ≡ suc (t .level (t .parent c)) = ok .kid-lvl (t .parent c) c (k .listed c 0 (lit< tt) (ap live e) (k .bare c 0 (lit< tt) e)) in
         let here : settled t ok files c at e c .state ≡ own = ap (λ (x : File K). x .state) (upd-same files c _) in (
@@ -66,7 +66,7 @@ module _ {K : Type 0} where
             ok′ = settled-ok t ok files c at e k;
             keep = settled-keep t ok files c at e;
             live′ = settled-live t ok files c at e;
-            calm = λ s h. same? c s (λ q. let z : _≡_ {A = ℕ} 0 1 = cc in absurd (omega arith)) (λ q. ap (λ (x : File K). x .state) (sym (upd-other files c _ s q)) ∙ h);
+            no-new-virgin = λ s h. same? c s (λ q. let z : _≡_ {A = ℕ} 0 1 = cc in absurd (omega arith)) (λ q. ap (λ (x : File K). x .state) (sym (upd-other files c _ s q)) ∙ h);
           },
           λ v. let z : _≡_ {A = ℕ} 0 1 = cc in omega arith,
         )
@@ -83,13 +83,13 @@ module _ (t : Tree) (ok : TreeOk t) (w : Work model) where
   unfolding settle
   settle-each cs i = each-inv (settle model t) SettledW cs (λ c v m i. settled-trans i (settle-step t ok c (v .files) (i .ok′) .0)) w i
 
-  pub settle-calm : (cs : List ℕ) → SettledW w → (c : ℕ) → List·Memᴰ c cs → each (settle model t) cs w .files c .state ≡ virgin → ⊥
+  pub settle-no-virgin : (cs : List ℕ) → SettledW w → (c : ℕ) → List·Memᴰ c cs → each (settle model t) cs w .files c .state ≡ virgin → ⊥
   unfolding settle
-  settle-calm cs i =
+  settle-no-virgin cs i =
       each-all (settle model t) SettledW (λ c v. v .files c .state ≡ virgin → ⊥) cs
       (λ c v m i. settled-trans i (settle-step t ok c (v .files) (i .ok′) .0))
       (λ c v m i. settle-step t ok c (v .files) (i .ok′) .1)
-      (λ c c′ v m i h x. h (settle-step t ok c′ (v .files) (i .ok′) .0 .calm c x)) w i
+      (λ c c′ v m i h x. h (settle-step t ok c′ (v .files) (i .ok′) .0 .no-new-virgin c x)) w i
 
 -- STEP 3: the files stay, and each touched page has a block held
 abbrev pub Held : {K : Type 0} → Entry K → Type 0

@@ -45,13 +45,13 @@ live-unmarked marked h = absurd (true≢false (sym h))
 
 module _ (v : View) where
   -- a file that is looked at: present and not marked
-  pub record Looked (s f : ℕ) : Type 0 where
+  pub record MayLook (s f : ℕ) : Type 0 where
     pub set : UsedSet v s
     pub file : f < 16
     pub alive : live (v .state f s) ≡ true
 
   -- a file that is written or truncated
-  pub record Written (s f end need : ℕ) : Type 0 where
+  pub record MayWrite (s f end need : ℕ) : Type 0 where
     pub set : UsedSet v s
     pub file : f < 16
     pub writeable : v .tree .writeable s ≡ true
@@ -61,7 +61,7 @@ module _ (v : View) where
 
   written : (s f end need : ℕ)
       → lowest (notFormed v ∷ noSuchSet v s ∷ noSuchFile v f ∷ readOnly v s ∷ fileAbsent v s f ∷ fileMarked v s f ∷ endOver v end ∷ needOver v need ∷ []) ≡ 0
-      → Written s f end need
+      → MayWrite s f end need
   written s f end need h =
       let p₁ = pass _ 0 _ h in
       let p₂ = pass _ 1 _ (p₁ .1) in
@@ -80,15 +80,15 @@ module _ (v : View) where
         room = ltb-false (v .free) need (p₈ .0);
       }
 
-  pub passed-write : (s f off : ℕ) (bs : List ℕ) → numberOf v (write s f off bs) ≡ 0 → Written s f (off + length bs) (v .writeNeed s f off (length bs))
+  pub passed-write : (s f off : ℕ) (bs : List ℕ) → numberOf v (write s f off bs) ≡ 0 → MayWrite s f (off + length bs) (v .writeNeed s f off (length bs))
   unfolding numberOf conditions
   passed-write s f off bs h = written s f (off + length bs) (v .writeNeed s f off (length bs)) h
 
-  pub passed-truncate : (s f n : ℕ) → numberOf v (truncate s f n) ≡ 0 → Written s f n (v .truncateNeed s f n)
+  pub passed-truncate : (s f n : ℕ) → numberOf v (truncate s f n) ≡ 0 → MayWrite s f n (v .truncateNeed s f n)
   unfolding numberOf conditions
   passed-truncate s f n h = written s f n (v .truncateNeed s f n) h
 
-  looked : (s f : ℕ) → lowest (notFormed v ∷ noSuchSet v s ∷ noSuchFile v f ∷ fileAbsent v s f ∷ fileMarked v s f ∷ []) ≡ 0 → Looked s f
+  looked : (s f : ℕ) → lowest (notFormed v ∷ noSuchSet v s ∷ noSuchFile v f ∷ fileAbsent v s f ∷ fileMarked v s f ∷ []) ≡ 0 → MayLook s f
   looked s f h =
       let p₁ = pass _ 0 _ h in
       let p₂ = pass _ 1 _ (p₁ .1) in
@@ -97,21 +97,21 @@ module _ (v : View) where
       let p₅ = pass _ 5 _ (p₄ .1) in
       record { set = used-set v s (p₂ .0); file = below f 16 (p₃ .0); alive = live-of (v .state f s) (p₄ .0) (p₅ .0) }
 
-  pub passed-read : (s f off : ℕ) (buffer : List ℕ) → numberOf v (read s f off buffer) ≡ 0 → Looked s f
+  pub passed-read : (s f off : ℕ) (buffer : List ℕ) → numberOf v (read s f off buffer) ≡ 0 → MayLook s f
   unfolding numberOf conditions
   passed-read s f off buffer h = looked s f h
 
-  pub passed-size : (s f : ℕ) → numberOf v (tellSize s f) ≡ 0 → Looked s f
+  pub passed-size : (s f : ℕ) → numberOf v (tellSize s f) ≡ 0 → MayLook s f
   unfolding numberOf conditions
   passed-size s f h = looked s f h
 
-  pub record Created (s f : ℕ) : Type 0 where
+  pub record MayCreate (s f : ℕ) : Type 0 where
     pub set : UsedSet v s
     pub file : f < 16
     pub writeable : v .tree .writeable s ≡ true
     pub gone : isAbsent (v .state f s) ≡ true
 
-  pub passed-create : (s f : ℕ) → numberOf v (create s f) ≡ 0 → Created s f
+  pub passed-create : (s f : ℕ) → numberOf v (create s f) ≡ 0 → MayCreate s f
   unfolding numberOf conditions
   passed-create s f h =
       let p₁ = pass _ 0 _ h in
@@ -121,13 +121,13 @@ module _ (v : View) where
       let p₅ = pass _ 8 _ (p₄ .1) in
       record { set = used-set v s (p₂ .0); file = below f 16 (p₃ .0); writeable = not-false _ (p₄ .0); gone = not-false _ (p₅ .0) }
 
-  pub record Deleted (s f : ℕ) : Type 0 where
+  pub record MayDelete (s f : ℕ) : Type 0 where
     pub set : UsedSet v s
     pub file : f < 16
     pub writeable : v .tree .writeable s ≡ true
     pub present : isAbsent (v .state f s) ≡ false
 
-  pub passed-delete : (s f : ℕ) → numberOf v (delete s f) ≡ 0 → Deleted s f
+  pub passed-delete : (s f : ℕ) → numberOf v (delete s f) ≡ 0 → MayDelete s f
   unfolding numberOf conditions
   passed-delete s f h =
       let p₁ = pass _ 0 _ h in
@@ -137,13 +137,13 @@ module _ (v : View) where
       let p₅ = pass _ 4 _ (p₄ .1) in
       record { set = used-set v s (p₂ .0); file = below f 16 (p₃ .0); writeable = not-false _ (p₄ .0); present = p₅ .0 }
 
-  pub record Made (s c : ℕ) : Type 0 where
+  pub record MayMake (s c : ℕ) : Type 0 where
     pub set : UsedSet v s
     pub new : c < 8
     pub unused : v .tree .used c ≡ false
     pub level-in : v .tree .level s < 5
 
-  pub passed-make : (s c : ℕ) (w : Bool) → numberOf v (make s c w) ≡ 0 → Made s c
+  pub passed-make : (s c : ℕ) (w : Bool) → numberOf v (make s c w) ≡ 0 → MayMake s c
   unfolding numberOf conditions
   passed-make s c w h =
       let p₁ = pass _ 0 _ h in
@@ -157,7 +157,7 @@ module _ (v : View) where
         level-in = leb-false 5 (v .tree .level s) (p₄ .0);
       }
 
-  pub record Removed (s : ℕ) : Type 0 where
+  pub record MayRemove (s : ℕ) : Type 0 where
     pub set : UsedSet v s
     pub childless : v .tree .children s ≡ []
     pub not-root : s ≡ 0 → ⊥
@@ -166,7 +166,7 @@ module _ (v : View) where
   is-nil [] h = refl
   is-nil (x ∷ l) h = absurd (true≢false (sym h))
 
-  pub passed-remove : (s : ℕ) → numberOf v (remove s) ≡ 0 → Removed s
+  pub passed-remove : (s : ℕ) → numberOf v (remove s) ≡ 0 → MayRemove s
   unfolding numberOf conditions
   passed-remove s h =
       let p₁ = pass _ 0 _ h in
@@ -176,7 +176,7 @@ module _ (v : View) where
       record { set = used-set v s (p₂ .0); childless = is-nil (v .tree .children s) (not-false _ (p₃ .0)); not-root = eqb-false s 0 (p₄ .0) }
 
   -- no condition applies: the call is accepted
-  pub accepts-write : v .formed ≡ true → (s f off : ℕ) (bs : List ℕ) → Written s f (off + length bs) (v .writeNeed s f off (length bs)) → numberOf v (write s f off bs) ≡ 0
+  pub accepts-write : v .formed ≡ true → (s f off : ℕ) (bs : List ℕ) → MayWrite s f (off + length bs) (v .writeNeed s f off (length bs)) → numberOf v (write s f off bs) ≡ 0
   unfolding numberOf conditions lowest
   accepts-write formed s f off bs w =
       rw (

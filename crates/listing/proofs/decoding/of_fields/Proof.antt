@@ -11,7 +11,7 @@ returns c = (simp (lt-ltb _ _ (c .if1 .taken)), tt)
 
 returns-2 : tie.Need-returns-2
 unfolding requestOf
-returns-2 c = (simp (le-ltb _ _ (c .before .before .before .if1 .left), eq-eqb _ _ (c .before .if2 .taken)) (c .of-place .ensures .0), c .of-place .ensures .1)
+returns-2 c = (simp (le-ltb _ _ (c .before .before .before .if1 .left), eq-eqb _ _ (c .before .if2 .taken)) (c .decode-create .ensures .0), c .decode-create .ensures .1)
 
 returns-3 : tie.Need-returns-3
 unfolding requestOf
@@ -19,7 +19,7 @@ returns-3 c =
     let at-if3 = c .before in
     let at-if2 = at-if3 .before .before in
     let at-if1 = at-if2 .before .before in
-    (simp (le-ltb _ _ (at-if1 .if1 .left), ne-eqb _ _ (at-if2 .if2 .left), eq-eqb _ _ (at-if3 .if3 .taken)) (c .of-write .ensures .0), c .of-write .ensures .1)
+    (simp (le-ltb _ _ (at-if1 .if1 .left), ne-eqb _ _ (at-if2 .if2 .left), eq-eqb _ _ (at-if3 .if3 .taken)) (c .decode-write .ensures .0), c .decode-write .ensures .1)
 
 returns-4 : tie.Need-returns-4
 unfolding requestOf
@@ -28,7 +28,7 @@ returns-4 c =
     let at-if3 = at-if4 .before .before in
     let at-if2 = at-if3 .before .before in
     let at-if1 = at-if2 .before .before in
-    (simp (le-ltb _ _ (at-if1 .if1 .left), ne-eqb _ _ (at-if2 .if2 .left), ne-eqb _ _ (at-if3 .if3 .left), eq-eqb _ _ (at-if4 .if4 .taken)) (c .of-truncate .ensures .0), c .of-truncate .ensures .1)
+    (simp (le-ltb _ _ (at-if1 .if1 .left), ne-eqb _ _ (at-if2 .if2 .left), ne-eqb _ _ (at-if3 .if3 .left), eq-eqb _ _ (at-if4 .if4 .taken)) (c .decode-truncate .ensures .0), c .decode-truncate .ensures .1)
 
 returns-5 : tie.Need-returns-5
 unfolding requestOf
@@ -38,7 +38,7 @@ returns-5 c =
     let at-if3 = at-if4 .before .before in
     let at-if2 = at-if3 .before .before in
     let at-if1 = at-if2 .before .before in
-    (simp (le-ltb _ _ (at-if1 .if1 .left), ne-eqb _ _ (at-if2 .if2 .left), ne-eqb _ _ (at-if3 .if3 .left), ne-eqb _ _ (at-if4 .if4 .left), eq-eqb _ _ (at-if5 .if5 .taken)) (c .of-place2 .ensures .0), c .of-place2 .ensures .1)
+    (simp (le-ltb _ _ (at-if1 .if1 .left), ne-eqb _ _ (at-if2 .if2 .left), ne-eqb _ _ (at-if3 .if3 .left), ne-eqb _ _ (at-if4 .if4 .left), eq-eqb _ _ (at-if5 .if5 .taken)) (c .decode-delete .ensures .0), c .decode-delete .ensures .1)
 
 returns-6 : tie.Need-returns-6
 unfolding requestOf
@@ -49,7 +49,7 @@ returns-6 c =
     let at-if3 = at-if4 .before .before in
     let at-if2 = at-if3 .before .before in
     let at-if1 = at-if2 .before .before in
-    (simp (le-ltb _ _ (at-if1 .if1 .left), ne-eqb _ _ (at-if2 .if2 .left), ne-eqb _ _ (at-if3 .if3 .left), ne-eqb _ _ (at-if4 .if4 .left), ne-eqb _ _ (at-if5 .if5 .left), eq-eqb _ _ (at-if6 .if6 .taken)) (c .of-make .ensures .0), c .of-make .ensures .1)
+    (simp (le-ltb _ _ (at-if1 .if1 .left), ne-eqb _ _ (at-if2 .if2 .left), ne-eqb _ _ (at-if3 .if3 .left), ne-eqb _ _ (at-if4 .if4 .left), ne-eqb _ _ (at-if5 .if5 .left), eq-eqb _ _ (at-if6 .if6 .taken)) (c .decode-make .ensures .0), c .decode-make .ensures .1)
 
 returns-7 : tie.Need-returns-7
 unfolding requestOf
@@ -61,7 +61,7 @@ returns-7 c =
     let at-if3 = at-if4 .before .before in
     let at-if2 = at-if3 .before .before in
     let at-if1 = at-if2 .before .before in
-    (simp (le-ltb _ _ (at-if1 .if1 .left), ne-eqb _ _ (at-if2 .if2 .left), ne-eqb _ _ (at-if3 .if3 .left), ne-eqb _ _ (at-if4 .if4 .left), ne-eqb _ _ (at-if5 .if5 .left), ne-eqb _ _ (at-if6 .if6 .left), eq-eqb _ _ (at-if7 .if7 .taken)) (c .of-make2 .ensures .0), c .of-make2 .ensures .1)
+    (simp (le-ltb _ _ (at-if1 .if1 .left), ne-eqb _ _ (at-if2 .if2 .left), ne-eqb _ _ (at-if3 .if3 .left), ne-eqb _ _ (at-if4 .if4 .left), ne-eqb _ _ (at-if5 .if5 .left), ne-eqb _ _ (at-if6 .if6 .left), eq-eqb _ _ (at-if7 .if7 .taken)) (c .decode-make2 .ensures .0), c .decode-make2 .ensures .1)
 
 returns-8 : tie.Need-returns-8
 unfolding requestOf
@@ -74,7 +74,7 @@ returns-8 c =
     let at-if3 = at-if4 .before .before in
     let at-if2 = at-if3 .before .before in
     let at-if1 = at-if2 .before .before in
-    (simp (le-ltb _ _ (at-if1 .if1 .left), ne-eqb _ _ (at-if2 .if2 .left), ne-eqb _ _ (at-if3 .if3 .left), ne-eqb _ _ (at-if4 .if4 .left), ne-eqb _ _ (at-if5 .if5 .left), ne-eqb _ _ (at-if6 .if6 .left), ne-eqb _ _ (at-if7 .if7 .left), eq-eqb _ _ (at-if8 .if8 .taken)) (c .of-remove .ensures .0), c .of-remove .ensures .1)
+    (simp (le-ltb _ _ (at-if1 .if1 .left), ne-eqb _ _ (at-if2 .if2 .left), ne-eqb _ _ (at-if3 .if3 .left), ne-eqb _ _ (at-if4 .if4 .left), ne-eqb _ _ (at-if5 .if5 .left), ne-eqb _ _ (at-if6 .if6 .left), ne-eqb _ _ (at-if7 .if7 .left), eq-eqb _ _ (at-if8 .if8 .taken)) (c .decode-remove .ensures .0), c .decode-remove .ensures .1)
 
 returns-9 : tie.Need-returns-9
 unfolding requestOf

@@ -30,7 +30,7 @@ next-sibling-of-requires c κs = (c .before .before .before .before .before .pre
 loop-again : tie.Need-loop-again Inv-loop μ-loop
 loop-again c =
     let d = c .before in let i = d .before in let l = i .before .before .loop in
-    (omega arith, times-more _ _ _ _ (l .n) (l .at) _ _ (omega arith) (omega arith) (l .inv .1) (d .same .ensures .0) (c .next-sibling-of .ensures .0))
+    (omega arith, times-more _ _ _ _ (l .n) (l .at) _ _ (omega arith) (omega arith) (l .inv .1) (d .one-if-same .ensures .0) (c .next-sibling-of .ensures .0))
 
 returns-2 : tie.Need-returns-2 Inv-loop μ-loop
 returns-2 c = let l = c .before .loop in (times-done _ _ _ _ (l .n) (l .at) (omega arith) (l .inv .1), omega arith)

@@ -1,7 +1,7 @@
 -- `setcheck::header::header_formed` meets its contract. Assumes nothing.
 use native.Mathlib.Omega.{arith}
 use borrow.Author.Needs.{needs}
-use Rattle.setcheck.proofs.Numbers.{header-none, header-many, header-next, header-pages}
+use Rattle.setcheck.proofs.HeaderTests.{header-none, header-many, header-next, header-pages}
 use Rattle.setcheck.proofs.header.header_formed.Statement.{statement}
 use Rattle.setcheck.proofs.header.header_formed.Tie as tie
 

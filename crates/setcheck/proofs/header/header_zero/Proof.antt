@@ -1,6 +1,6 @@
 -- `setcheck::header::header_zero` meets its contract. Assumes nothing.
 use borrow.Author.Needs.{needs}
-use Rattle.setcheck.proofs.Numbers.{header-field}
+use Rattle.setcheck.proofs.HeaderTests.{header-field}
 use Rattle.setcheck.proofs.header.header_zero.Statement.{statement}
 use Rattle.setcheck.proofs.header.header_zero.Tie as tie
 

@@ -1,6 +1,6 @@
 -- `setcheck::records::set_zero` meets its contract. Assumes nothing.
 use borrow.Author.Needs.{needs}
-use Rattle.setcheck.proofs.Numbers.{set-field}
+use Rattle.setcheck.proofs.HeaderTests.{set-field}
 use Rattle.setcheck.proofs.records.set_zero.Statement.{statement}
 use Rattle.setcheck.proofs.records.set_zero.Tie as tie
 

@@ -1,14 +1,14 @@
--- `listing::decoding::of_place` meets its contract. Assumes nothing.
+-- `listing::decoding::decode_create` meets its contract. Assumes nothing.
 use borrow.Author.Needs.{needs}
 use Rattle.listing.proofs.Requests.{kept}
-use Rattle.listing.proofs.decoding.of_place.Statement.{statement}
-use Rattle.listing.proofs.decoding.of_place.Tie as tie
+use Rattle.listing.proofs.decoding.decode_create.Statement.{statement}
+use Rattle.listing.proofs.decoding.decode_create.Tie as tie
 
 returns : tie.Need-returns
 returns c = (kept _ _ _ _ (c .checked .ensures .0) (c .before .are-zero .ensures), c .checked .ensures .1)
 
-pub of-place-spec : {M : Type 1} → statement M
-of-place-spec =
+pub decode-create-spec : {M : Type 1} → statement M
+decode-create-spec =
     tie.close
     (tie.spec
     (λ c κs. search needs) (λ c κs. search needs) returns)

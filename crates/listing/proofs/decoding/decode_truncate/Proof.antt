@@ -1,14 +1,14 @@
--- `listing::decoding::of_make` meets its contract. Assumes nothing.
+-- `listing::decoding::decode_truncate` meets its contract. Assumes nothing.
 use borrow.Author.Needs.{needs}
 use Rattle.listing.proofs.Requests.{kept}
-use Rattle.listing.proofs.decoding.of_make.Statement.{statement}
-use Rattle.listing.proofs.decoding.of_make.Tie as tie
+use Rattle.listing.proofs.decoding.decode_truncate.Statement.{statement}
+use Rattle.listing.proofs.decoding.decode_truncate.Tie as tie
 
 returns : tie.Need-returns
 returns c = (kept _ _ _ _ (c .checked .ensures .0) (c .before .are-zero .ensures), c .checked .ensures .1)
 
-pub of-make-spec : {M : Type 1} → statement M
-of-make-spec =
+pub decode-truncate-spec : {M : Type 1} → statement M
+decode-truncate-spec =
     tie.close
     (tie.spec
     (λ c κs. search needs) (λ c κs. search needs) returns)

@@ -1,14 +1,14 @@
--- `listing::decoding::of_remove` meets its contract. Assumes nothing.
+-- `listing::decoding::decode_delete` meets its contract. Assumes nothing.
 use borrow.Author.Needs.{needs}
 use Rattle.listing.proofs.Requests.{kept}
-use Rattle.listing.proofs.decoding.of_remove.Statement.{statement}
-use Rattle.listing.proofs.decoding.of_remove.Tie as tie
+use Rattle.listing.proofs.decoding.decode_delete.Statement.{statement}
+use Rattle.listing.proofs.decoding.decode_delete.Tie as tie
 
 returns : tie.Need-returns
 returns c = (kept _ _ _ _ (c .checked .ensures .0) (c .before .are-zero .ensures), c .checked .ensures .1)
 
-pub of-remove-spec : {M : Type 1} → statement M
-of-remove-spec =
+pub decode-delete-spec : {M : Type 1} → statement M
+decode-delete-spec =
     tie.close
     (tie.spec
     (λ c κs. search needs) (λ c κs. search needs) returns)

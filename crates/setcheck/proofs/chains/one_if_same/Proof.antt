@@ -1,8 +1,8 @@
--- `setcheck::chains::same` meets its contract. Assumes nothing.
+-- `setcheck::chains::one_if_same` meets its contract. Assumes nothing.
 use native.Mathlib.Omega.{arith}
 use borrow.Author.Tests.{eq-eqb, ne-eqb}
-use Rattle.setcheck.proofs.chains.same.Statement.{statement}
-use Rattle.setcheck.proofs.chains.same.Tie as tie
+use Rattle.setcheck.proofs.chains.one_if_same.Statement.{statement}
+use Rattle.setcheck.proofs.chains.one_if_same.Tie as tie
 
 returns : tie.Need-returns
 returns c = (rw (eq-eqb _ _ (c .if1 .taken)), omega arith)
@@ -10,8 +10,8 @@ returns c = (rw (eq-eqb _ _ (c .if1 .taken)), omega arith)
 returns-2 : tie.Need-returns-2
 returns-2 c = (rw (ne-eqb _ _ (c .if1 .left)), omega arith)
 
-pub same-spec : {M : Type 1} → statement M
-same-spec =
+pub one-if-same-spec : {M : Type 1} → statement M
+one-if-same-spec =
     tie.close
     (tie.spec
     returns returns-2)

@@ -1,14 +1,14 @@
--- `listing::decoding::of_write` meets its contract. Assumes nothing.
+-- `listing::decoding::decode_write` meets its contract. Assumes nothing.
 use borrow.Author.Needs.{needs}
 use Rattle.listing.proofs.Requests.{kept}
-use Rattle.listing.proofs.decoding.of_write.Statement.{statement}
-use Rattle.listing.proofs.decoding.of_write.Tie as tie
+use Rattle.listing.proofs.decoding.decode_write.Statement.{statement}
+use Rattle.listing.proofs.decoding.decode_write.Tie as tie
 
 returns : tie.Need-returns
 returns c = (kept _ _ _ _ (c .checked .ensures .0) (c .before .are-zero .ensures), c .checked .ensures .1)
 
-pub of-write-spec : {M : Type 1} → statement M
-of-write-spec =
+pub decode-write-spec : {M : Type 1} → statement M
+decode-write-spec =
     tie.close
     (tie.spec
     (λ c. search needs) (λ c. search needs) (λ c κs. search needs) (λ c κs. search needs) returns)
