@@ -3,13 +3,13 @@ use mathlib.Core.Bool.{Bool, false, not, true}
 use mathlib.Core.List.{List}
 use mathlib.Core.Option.{Option}
 use mathlib.Core.Path.{_≡_, ap, fun-ext, refl, subst, sym, _∙_}
-use Prim.Native.Nat.{_%_, _*_, _+_, _-_, _<_, suc, zero, ℕ, _≤_}
+use Prim.Native.Nat.{_%_, _*_, _+_, _-_, _<_, suc, ℕ, _≤_}
 use native.Mathlib.Nat.{mod-lt}
 use native.Mathlib.Numerals.{add-one}
 use native.Mathlib.Omega.{arith}
 use lib.ListN.{length}
 use Rattle.base.specs.Count.{count, count-fewer, count-less}
-use Rattle.base.specs.Logic.{pick, same?, test?}
+use Rattle.base.specs.Logic.{pick, same?}
 use Rattle.base.specs.Search.{firstFree}
 use Rattle.base.specs.Update.{upd, upd-all, upd-keeps, upd-other, upd-same, upd-upd}
 use Rattle.copying.specs.Work.{Does, Ready, Rest, Sound, Step, memoryOf, onFiles, rest, work, workOf}

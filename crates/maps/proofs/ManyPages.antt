@@ -7,18 +7,15 @@ use native.Mathlib.Nat.{mul-le-mul-right}
 use native.Mathlib.Omega.{arith}
 use lib.Bits.{bitAnd}
 use lib.Count.{trailingZeros}
-use lib.Dec.{ltb}
 use lib.ListN.{length}
-use borrow.Author.Tests.{ltb-false, ltb-true}
 use Rattle.base.specs.Count.{count, count-fewer, count-le}
-use Rattle.base.specs.Logic.{and-left, and-right, same?, test?}
+use Rattle.base.specs.Logic.{and-left, same?, test?}
 use Rattle.base.specs.Update.{upd, upd-other, upd-same}
 use Rattle.masks.proofs.MaskPages.{and-pages, lowest-gone, lowest-others, lowest-page, no-pages, not-pages, range-count}
 use Rattle.masks.proofs.PageMasks.{mask-page}
 use Rattle.masks.specs.Pages.{IsRange, pageMask, pages}
 use Rattle.packing.specs.Bitmap.{number-lt}
-use Rattle.rules.specs.Reading.{resolve}
-use Rattle.rules.specs.State.{Entry, Tables, hole, isUnmapped, stored, treeOf, unmapped}
+use Rattle.rules.specs.State.{Entry, Tables, hole, isUnmapped, stored, unmapped}
 use Rattle.tables.proofs.KeptEntries.{all-holes}
 use Rattle.tables.specs.Views.{allHoles, entriesOf}
 use Rattle.maps.proofs.Steps.{resolve-above, resolve-here, resolve-level, resolve-low}
@@ -41,9 +38,6 @@ module _ (m : ℕ) (map : ℕ → Entry ℕ) (l₀ l : List ℕ) (left : ℕ) (i
       → KeptSoFar m map l₀ l′ (bitAnd left (left - 1))
   kept-more l′ k q h lt z eq e len = record { len = len; entries = go }
     where
-      x : ℕ
-      x = bitAnd left (left - 1)
-
       go : (p : ℕ) → p < 64 → cond (pages (bitAnd left (left - 1)) p) (map p) (entriesOf l′ p) ≡ cond (pages m p) (map p) (entriesOf l₀ p)
       go p hp = same? q p
           (λ s. let c : 63 - k ≡ p = sym eq ∙ s in

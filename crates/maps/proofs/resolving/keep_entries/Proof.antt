@@ -1,5 +1,4 @@
 -- `maps::resolving::keep_entries` meets its contract. The loop's invariant: the entries of the pages that are no longer left are kept. Assumes nothing.
-use mathlib.Core.Path.{ap, _∙_}
 use Prim.Native.Nat.{_<_, _^_}
 use native.Mathlib.Omega.{arith}
 use Rattle.masks.proofs.LowestBit.{less, less-lt}
