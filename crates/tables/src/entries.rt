@@ -20,8 +20,8 @@ use packing::words;
 // A file page number.
 pub struct Page(usize);
 
-// A store block number.
-pub struct Block(usize);
+// A store block number. It is no wider than an entry, so that an Entry is small and passed on in one piece.
+pub struct Block(u16);
 
 // "a page is unmapped, a hole, or stored in a named block"
 pub enum Entry {
@@ -48,7 +48,7 @@ impl Block {
     pub fn number(self) -> usize
         ensures { λ r. ⌜ r ≡ self .0 ⌝ }
     {
-        self.0
+        self.0 as usize
     }
 }
 
@@ -61,7 +61,7 @@ fn decode(w: u16) -> Entry
     if w < 32768 {
         return Entry::Hole;
     }
-    Entry::Stored(Block((w % 16384) as usize))
+    Entry::Stored(Block(w % 16384))
 }
 
 fn encode(e: Entry) -> u16
@@ -71,7 +71,7 @@ fn encode(e: Entry) -> u16
     match e {
         Entry::Unmapped => 0,
         Entry::Hole => 16384,
-        Entry::Stored(b) => (32768 + b.0) as u16,
+        Entry::Stored(b) => 32768 + b.0,
     }
 }
 
@@ -133,7 +133,7 @@ pub fn take_block(t: &mut [u8]) -> Block
     };
     bitmap::set_bit(t, 4, b);
     header::put_next(t, after(b, limit));
-    Block(b)
+    Block(b as u16)
 }
 
 // The block is free again.
@@ -141,7 +141,7 @@ pub fn release_block(t: &mut [u8], b: Block)
     requires { ⌜ PackedTables (now t) × (b .0 < 4096) ⌝ }
     ensures { λ _. ⌜ Turns (now (t .entry)) (now (t .exit)) (putBitIn (b .0) false) ⌝ }
 {
-    bitmap::clear_bit(t, 4, b.0);
+    bitmap::clear_bit(t, 4, b.0 as usize);
 }
 
 // No block is pending.
@@ -157,13 +157,7 @@ pub fn hold(pending: &mut [u16; 64], page: Page, b: Block)
     ensures { λ _. ⌜ (pendingOf (now (pending .exit)) ≡ upd (pendingOf (now (pending .entry))) (page .0) (stored (b .0))) × (length (now (pending .exit)) ≡ 64) ⌝ }
 {
     let i = page.0;
-    pending[i] = b.0 as u16;
-}
-
-fn wide(x: u16) -> usize
-    ensures { λ r. ⌜ r ≡ x ⌝ }
-{
-    x as usize
+    pending[i] = b.0;
 }
 
 // The block that is pending for a page.
@@ -172,7 +166,7 @@ pub fn held(pending: &[u16; 64], page: Page) -> Entry
     ensures { λ r. ⌜ entryMeant r ≡ pendingOf (now (pending .entry)) (page .0) ⌝ }
 {
     let i = page.0;
-    let n = wide(pending[i]);
+    let n = pending[i];
     if n < 16384 {
         return Entry::Stored(Block(n));
     }

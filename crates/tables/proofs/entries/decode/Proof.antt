@@ -22,4 +22,4 @@ pub decode-spec : {M : Type 1} → statement M
 decode-spec =
     tie.close
     (tie.spec
-    returns returns-2 (λ c. search needs) returns-3)
+    returns returns-2 returns-3)

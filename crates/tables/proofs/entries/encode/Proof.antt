@@ -31,4 +31,4 @@ pub encode-spec : {M : Type 1} → statement M
 encode-spec =
     tie.close
     (tie.spec
-    (λ c. search needs) (λ c. search needs) (λ c. search needs) (λ c. omega (arith, fits c)) (λ c. omega (arith, fits c)) returns returns-2 returns-3)
+    (λ c. search needs) (λ c. search needs) (λ c. search needs) (λ c. omega (arith, fits c)) returns returns-2 returns-3)

@@ -1,6 +1,7 @@
 -- `tables::entries::held` meets its contract. Assumes nothing.
-use mathlib.Core.Path.{sym, _∙_, _≡_}
+use mathlib.Core.Path.{refl, sym, _∙_, _≡_}
 use native.Mathlib.Omega.{arith}
+use lib.ListN.{getD}
 use borrow.Author.Needs.{needs}
 use Rattle.tables.proofs.Pending.{pending-at, pending-none, pending-stored}
 use Rattle.tables.specs.Meaning.{entryMeant}
@@ -8,8 +9,8 @@ use Rattle.tables.specs.Views.{pendingIn, pendingOf}
 use Rattle.tables.proofs.entries.held.Statement.{statement}
 use Rattle.tables.proofs.entries.held.Tie as tie
 
-pending : (c : tie.After-wide) → let a = c .before .before .args in pendingOf (a .pending .now) (a .page .0) ≡ pendingIn (c .wide .result)
-pending c = let a = c .before .before .args in pending-at (a .pending .now) (a .page .0) (c .wide .result) 0 (omega arith) (c .wide .ensures)
+pending : (c : tie.After-n) → let a = c .before .args in pendingOf (a .pending .now) (a .page .0) ≡ pendingIn (getD (a .pending .now) (a .page .0) 0)
+pending c = let a = c .before .args in pending-at (a .pending .now) (a .page .0) _ 0 (omega arith) refl
 
 returns : tie.Need-returns
 unfolding entryMeant
@@ -23,4 +24,4 @@ pub held-spec : {M : Type 1} → statement M
 held-spec =
     tie.close
     (tie.spec
-    (λ c. search needs) (λ c. search needs) (λ c κs. search needs) returns returns-2)
+    (λ c. search needs) (λ c. search needs) returns returns-2)

@@ -9,12 +9,11 @@ use Rattle.tables.proofs.entries.hold.Tie as tie
 
 returns : tie.Need-returns
 returns c =
-    let s = c .before in
-    let a = s .args in
-    (pending-set _ _ _ (omega arith) (s .pre .2), length-set (a .pending .now) (a .page .0) (a .b .0) ∙ s .pre .1)
+    let a = c .args in
+    (pending-set _ _ _ (omega arith) (c .pre .2), length-set (a .pending .now) (a .page .0) (a .b .0) ∙ c .pre .1)
 
 pub hold-spec : {M : Type 1} → statement M
 hold-spec =
     tie.close
     (tie.spec
-    (λ c. search needs) (λ c. search needs) (λ c. search needs) returns)
+    (λ c. search needs) (λ c. search needs) returns)

@@ -56,6 +56,13 @@ put-next-requires c κs =
       omega (arith, c .after .ensures, mod-lt (k .b .given .0 .0 + 1) {m = n .result} (omega (arith, n .ensures .0, p .1 .at-least)), n .ensures .0, p .1 .most),
     )
 
+-- its number fits
+cast : tie.Need-cast-t18
+cast c =
+    let k = c .before .before .before .before .before .before .before .before .before .before in
+    let p = start k .pre in
+    omega (arith, first-lt _ _ (p .0) (p .1) (first k))
+
 returns-2 : tie.Need-returns-2
 returns-2 c =
     let a = c .before .before .before in
@@ -69,4 +76,4 @@ take-block-spec =
     tie.close
     (tie.spec
     (λ c κs. search needs) (λ c κs. search needs) (λ c κs. search needs) (λ c. search needs) (λ c. search needs) (λ c. search needs) returns
-    set-bit-requires after-requires put-next-requires (λ c. search needs) returns-2)
+    set-bit-requires after-requires put-next-requires cast (λ c. search needs) returns-2)
