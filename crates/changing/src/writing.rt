@@ -21,15 +21,6 @@ use tables::entries;
 use tables::files;
 use tables::header;
 
-fn larger(a: usize, b: usize) -> usize
-    ensures { λ r. ⌜ r ≡ max a b ⌝ }
-{
-    if a < b {
-        return b;
-    }
-    a
-}
-
 // Steps 2 to 5, where m pages from page number `first` on hold the bytes of data, which begin at byte `off` of the file.
 fn write_pages(
     t: &mut [u8],
@@ -52,7 +43,7 @@ fn write_pages(
     let b = giving::give_all(t, p, f, s, first, m, a);
     entering::enter_all(t, p, &pending, f, s, first, m, off, data, b);
     let z = files::size_at(&*t, f, s);
-    let n = larger(z, off + data.len());
+    let n = pages::larger(z, off + data.len());
     dropping::resize(t, f, s, n);
     b
 }

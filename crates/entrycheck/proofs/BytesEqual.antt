@@ -12,7 +12,7 @@ use lib.ListN.{getD}
 use borrow.Author.Tests.{eq-eqb, eqb-false, eqb-true, ne-eqb}
 use Rattle.base.specs.Count.{all, all-at, all-more, all-none, all-of}
 use Rattle.base.specs.Logic.{test?}
-use Rattle.entrycheck.specs.Marking.{same-bits-at, same-bits-of, sameBits}
+use Rattle.entrycheck.specs.Seeing.{same-bits-at, same-bits-of, sameBits}
 use Rattle.packing.specs.Bitmap.{bitAt, isOne, map-byte, map-same}
 use Rattle.packing.specs.Bits.{bit}
 use Rattle.packing.specs.Words.{Bytes}

@@ -11,7 +11,7 @@ use borrow.Author.Tests.{eq-eqb, ltb-true, ne-eqb}
 use Rattle.base.specs.Count.{all, all-more, all-none, sum}
 use Rattle.base.specs.Logic.{and-both, and-left, and-right, digit, same?, test?}
 use Rattle.base.specs.Update.{upd, upd-other, upd-same}
-use Rattle.entrycheck.specs.Marking.{Pass, Seen, andThen, markEntry, markNamed, through, through-more, through-none}
+use Rattle.entrycheck.specs.Seeing.{Pass, Seen, andThen, seeEntry, seeNamed, through, through-more, through-none}
 use Rattle.packing.specs.Bitmap.{isOne, one-digit}
 use Rattle.rules.specs.State.{Entry, hole, stored, unmapped}
 use Rattle.rules.specs.WellFormed.{blockBelow, names}
@@ -37,7 +37,7 @@ none-some x e = absurd (Option·none-ne-some x e)
 
 module _ (limit : ℕ) where
   named-passes : (e : Entry ℕ) (seen : Seen) → blockBelow limit e ≡ true → ((b : ℕ) → b < limit → digit (seen b) + digit (names b e) ≤ 1)
-      → (x : Seen) × (markNamed limit e seen ≡ some x)
+      → (x : Seen) × (seeNamed limit e seen ≡ some x)
   named-passes unmapped seen g h = (seen, refl)
   named-passes hole seen g h = (seen, refl)
   named-passes (stored c) seen g h =
@@ -53,7 +53,7 @@ module _ (limit : ℕ) where
       (λ e. subst (λ x. digit (upd seen c true x) ≡ digit (seen x) + digit (eqb x c)) e (rw (upd-same seen c true, z, eq-eqb c c refl)))
       (λ n. rw (upd-other seen c true b n, ne-eqb b c (λ q. n (sym q))) (omega arith))
 
-  named-counts : (e : Entry ℕ) (seen x : Seen) → markNamed limit e seen ≡ some x → (blockBelow limit e ≡ true) × ((b : ℕ) → digit (x b) ≡ digit (seen b) + digit (names b e))
+  named-counts : (e : Entry ℕ) (seen x : Seen) → seeNamed limit e seen ≡ some x → (blockBelow limit e ≡ true) × ((b : ℕ) → digit (x b) ≡ digit (seen b) + digit (names b e))
   named-counts unmapped seen x q = let z : seen ≡ x = Option·some-injective seen x q in (refl, λ b. let y : digit (x b) ≡ digit (seen b) = ap (λ g. digit (g b)) (sym z) in omega arith)
   named-counts hole seen x q = let z : seen ≡ x = Option·some-injective seen x q in (refl, λ b. let y : digit (x b) ≡ digit (seen b) = ap (λ g. digit (g b)) (sym z) in omega arith)
   named-counts (stored c) seen x q =
@@ -66,21 +66,21 @@ module _ (limit : ℕ) where
       (λ l. let d : none ≡ some x = rw l at q in none-some x d)
 
   -- LAW: the block that an entry names
-  pub block-counts : (e : Entry ℕ) → Counts limit (markNamed limit e) (blockBelow limit e) (λ b. digit (names b e))
+  pub block-counts : (e : Entry ℕ) → Counts limit (seeNamed limit e) (blockBelow limit e) (λ b. digit (names b e))
   block-counts e = record { passes = named-passes e; counts = named-counts e }
 
   -- LAW: one entry
-  pub entry-counts : (w : ℕ) → Counts limit (markEntry limit w) (entryFormed [] w && blockBelow limit (readEntry w)) (λ b. digit (names b (readEntry w)))
-  unfolding markEntry
+  pub entry-counts : (w : ℕ) → Counts limit (seeEntry limit w) (entryFormed [] w && blockBelow limit (readEntry w)) (λ b. digit (names b (readEntry w)))
+  unfolding seeEntry
   entry-counts w = record {
     passes = λ seen g h.
         let r = named-passes (readEntry w) seen (and-right (entryFormed [] w) _ g) h in
-        (r .0, ap (λ o. cond o (markNamed limit (readEntry w) seen) none) (and-left (entryFormed [] w) _ g) ∙ r .1);
+        (r .0, ap (λ o. cond o (seeNamed limit (readEntry w) seen) none) (and-left (entryFormed [] w) _ g) ∙ r .1);
     counts = λ seen x q.
         test? (entryFormed [] w)
-        (λ z. let r = named-counts (readEntry w) seen x (ap (λ o. cond o (markNamed limit (readEntry w) seen) none) (sym z) ∙ q) in
+        (λ z. let r = named-counts (readEntry w) seen x (ap (λ o. cond o (seeNamed limit (readEntry w) seen) none) (sym z) ∙ q) in
         (and-both (entryFormed [] w) _ z (r .0), r .1))
-        (λ z. let d : none ≡ some x = ap (λ o. cond o (markNamed limit (readEntry w) seen) none) (sym z) ∙ q in none-some x d);
+        (λ z. let d : none ≡ some x = ap (λ o. cond o (seeNamed limit (readEntry w) seen) none) (sym z) ∙ q in none-some x d);
   }
 
   -- ---- parts in order

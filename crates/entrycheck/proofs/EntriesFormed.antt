@@ -11,7 +11,7 @@ use borrow.Author.Tests.{eq-eqb, eqb-true}
 use Rattle.base.specs.Count.{all, all-at, all-of, count, sum}
 use Rattle.base.specs.Logic.{and-both, and-left, and-right, digit, test?}
 use Rattle.entrycheck.proofs.Counts.{Counts, digit-most, digit-same, entry-counts, through-counts}
-use Rattle.entrycheck.specs.Marking.{Seen, entriesFormed, formedBy, markAll, markEntry, markFile, markNumber, noneSeen, same-bits-at, same-bits-of, sameBits}
+use Rattle.entrycheck.specs.Seeing.{Seen, entriesFormed, formedBy, seeAll, seeEntry, seeFile, seeNumber, noneSeen, same-bits-at, same-bits-of, sameBits}
 use Rattle.rules.proofs.Blocks.Sums.{count-sum, sum-same, sum-zero}
 use Rattle.rules.proofs.Formed.Tests.{files-at, files-of}
 use Rattle.rules.specs.WellFormed.{allFiles, allPages, bitsFormed, blockBelow, names, timesNamed}
@@ -43,19 +43,19 @@ module _ (t : List ℕ) where
   good limit f s p = entryFormed [] (entryWord t f s p) && blockBelow limit (readEntry (entryWord t f s p))
 
   -- a file, the files of a number, all files
-  pub file-counts : (limit f s : ℕ) → Counts limit (markFile limit t f s) (all 64 (good limit f s)) (λ b. sum 64 (λ p. hit b f s p))
-  unfolding markFile
-  file-counts limit f s = through-counts limit (λ p. markEntry limit (entryWord t f s p)) (good limit f s) (λ p b. hit b f s p) 64 (λ p l. entry-counts limit (entryWord t f s p))
+  pub file-counts : (limit f s : ℕ) → Counts limit (seeFile limit t f s) (all 64 (good limit f s)) (λ b. sum 64 (λ p. hit b f s p))
+  unfolding seeFile
+  file-counts limit f s = through-counts limit (λ p. seeEntry limit (entryWord t f s p)) (good limit f s) (λ p b. hit b f s p) 64 (λ p l. entry-counts limit (entryWord t f s p))
 
-  number-counts : (limit f : ℕ) → Counts limit (markNumber limit t f) (all 8 (λ s. all 64 (good limit f s))) (λ b. sum 8 (λ s. sum 64 (λ p. hit b f s p)))
-  unfolding markNumber
+  number-counts : (limit f : ℕ) → Counts limit (seeNumber limit t f) (all 8 (λ s. all 64 (good limit f s))) (λ b. sum 8 (λ s. sum 64 (λ p. hit b f s p)))
+  unfolding seeNumber
   number-counts limit f =
-      through-counts limit (λ s. markFile limit t f s) (λ s. all 64 (good limit f s)) (λ s b. sum 64 (λ p. hit b f s p)) 8 (λ s l. file-counts limit f s)
+      through-counts limit (λ s. seeFile limit t f s) (λ s. all 64 (good limit f s)) (λ s b. sum 64 (λ p. hit b f s p)) 8 (λ s l. file-counts limit f s)
 
-  all-counts : (limit : ℕ) → Counts limit (markAll limit t) (all 16 (λ f. all 8 (λ s. all 64 (good limit f s)))) (λ b. sum 16 (λ f. sum 8 (λ s. sum 64 (λ p. hit b f s p))))
-  unfolding markAll
+  all-counts : (limit : ℕ) → Counts limit (seeAll limit t) (all 16 (λ f. all 8 (λ s. all 64 (good limit f s)))) (λ b. sum 16 (λ f. sum 8 (λ s. sum 64 (λ p. hit b f s p))))
+  unfolding seeAll
   all-counts limit =
-      through-counts limit (λ f. markNumber limit t f) (λ f. all 8 (λ s. all 64 (good limit f s))) (λ f b. sum 8 (λ s. sum 64 (λ p. hit b f s p))) 16
+      through-counts limit (λ f. seeNumber limit t f) (λ f. all 8 (λ s. all 64 (good limit f s))) (λ f b. sum 8 (λ s. sum 64 (λ p. hit b f s p))) 16
       (λ f l. number-counts limit f)
 
   -- a block is named as often as the sum over all files says
@@ -73,7 +73,7 @@ module _ (t : List ℕ) where
 
   -- ---- from the pass to the rules
 
-  to-rules : (x : Seen) → markAll limit t noneSeen ≡ some x → sameBits t x ≡ true → (kindsFormed t && bitsFormed (unpack t)) ≡ true
+  to-rules : (x : Seen) → seeAll limit t noneSeen ≡ some x → sameBits t x ≡ true → (kindsFormed t && bitsFormed (unpack t)) ≡ true
   unfolding kindsFormed bitsFormed allPages
   to-rules x e h =
       let r = all-counts limit .counts noneSeen x e in
@@ -102,7 +102,7 @@ module _ (t : List ℕ) where
     unfolding bitsFormed
     named-is b l = sym (times-named b) ∙ eqb-true (timesNamed (unpack t) b) (digit (unpack t .bits b)) (all-at 4096 _ (and-left _ (allFiles _) bits) b l)
 
-    from-rules : (x : Seen) × ((markAll limit t noneSeen ≡ some x) × (sameBits t x ≡ true))
+    from-rules : (x : Seen) × ((seeAll limit t noneSeen ≡ some x) × (sameBits t x ≡ true))
     from-rules =
         let c = all-counts limit in
         let r = c .passes noneSeen all-good (λ b l. let n = named-is b (omega arith) in let d = digit-most (unpack t .bits b) in omega arith) in
@@ -113,9 +113,9 @@ module _ (t : List ℕ) where
   pub entries-formed : unpack t .blocks ≤ 4096 → entriesFormed t ≡ (kindsFormed t && bitsFormed (unpack t))
   unfolding entriesFormed
   entries-formed most =
-      both-ways (entriesFormed t) (kindsFormed t && bitsFormed (unpack t)) (go (markAll limit t noneSeen) refl)
+      both-ways (entriesFormed t) (kindsFormed t && bitsFormed (unpack t)) (go (seeAll limit t noneSeen) refl)
       (λ h. let r = from-rules most (and-left (kindsFormed t) _ h) (and-right (kindsFormed t) _ h) in ap (formedBy t) (r .1 .0) ∙ r .1 .1)
     where
-      go : (o : Option Seen) → markAll limit t noneSeen ≡ o → formedBy t o ≡ true → (kindsFormed t && bitsFormed (unpack t)) ≡ true
+      go : (o : Option Seen) → seeAll limit t noneSeen ≡ o → formedBy t o ≡ true → (kindsFormed t && bitsFormed (unpack t)) ≡ true
       go none e h = absurd (true≢false (sym h))
       go (some x) e h = to-rules x e h

@@ -7,7 +7,7 @@ pub mod Runs
 pub mod Windows
 pub mod MovedPages
 pub mod PageBits
-pub mod RowMarks
+pub mod RowSteps
 pub mod InRow
 pub mod PlainBlocks
-pub mod FileMarks
+pub mod FileEntries

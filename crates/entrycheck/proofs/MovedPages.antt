@@ -12,7 +12,7 @@ use borrow.Author.Tests.{lt-ltb, ltb-true}
 use Rattle.base.specs.Count.{all-at, all-of, count, count-less, count-none, count-same, sum}
 use Rattle.base.specs.Logic.{and-left, digit, same?, test?}
 use Rattle.entrycheck.proofs.Runs.{above-run, in-run, inRun, not-in-run, run-counts, run?, runPass}
-use Rattle.entrycheck.specs.Marking.{Marks}
+use Rattle.entrycheck.specs.Seeing.{Sees}
 use Rattle.entrycheck.specs.Moving.{Moved, timesLeft}
 use Rattle.packing.specs.Bitmap.{bitAt}
 use Rattle.rules.proofs.Blocks.Sums.{sum-same}
@@ -126,9 +126,9 @@ module _ (limit : ℕ) (block : ℕ → ℕ) where
     times-row c = times-run block left p n c h on ∙ ap (λ z. z + timesLeft block (without p n left) c) (named-row c)
 
     -- LAW: they become seen
-    pub row-moved : Marks (runPass limit b n) l l′ true → Moved limit block l l′ left (without p n left) true
+    pub row-moved : Sees (runPass limit b n) l l′ true → Moved limit block l l′ left (without p n left) true
     row-moved m =
-        let r = run-counts limit b n .counts (bitAt l 0) (bitAt l′ 0) (m .marks) in
+        let r = run-counts limit b n .counts (bitAt l 0) (bitAt l′ 0) (m .sees) in
         record {
           len = m .len;
           within = λ q k e. and-left (left q) (not (inRun p n q)) e;
@@ -143,7 +143,7 @@ module _ (limit : ℕ) (block : ℕ → ℕ) where
         }
 
     -- LAW: one of them cannot
-    pub row-fails : Marks (runPass limit b n) l l′ false → Moved limit block l l′ left left false
+    pub row-fails : Sees (runPass limit b n) l l′ false → Moved limit block l l′ left left false
     row-fails m = record {
       len = m .len;
       within = λ q k e. e;
@@ -153,5 +153,5 @@ module _ (limit : ℕ) (block : ℕ → ℕ) where
           let r = run-counts limit b n .passes (bitAt l 0)
           (all-of n (λ j. ltb (b + j) limit) (λ j k. lt-ltb (b + j) limit (subst (λ z. z < limit) (row j k) (can .low (p + j) (omega arith) (on j k)))))
           (λ c k. let q = can .once c in let z = times-row c in omega arith) in
-          Option·none-ne-some (r .0) (sym (m .marks) ∙ r .1);
+          Option·none-ne-some (r .0) (sym (m .sees) ∙ r .1);
     }

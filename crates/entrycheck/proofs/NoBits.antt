@@ -9,7 +9,7 @@ use borrow.Author.Tests.{ltb-false, ltb-true}
 use Rattle.base.specs.Logic.{test?}
 use Rattle.packing.specs.Bitmap.{bitAt, isOne}
 use Rattle.packing.specs.Bits.{bit, bit-none}
-use Rattle.entrycheck.specs.Marking.{noneSeen}
+use Rattle.entrycheck.specs.Seeing.{noneSeen}
 
 unfoldable pub noBits : List ℕ
 noBits = replicate 512 0

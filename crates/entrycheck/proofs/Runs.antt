@@ -8,7 +8,7 @@ use borrow.Author.Tests.{eq-eqb, le-ltb, lt-ltb, ltb-false, ltb-true, ne-eqb}
 use Rattle.base.specs.Count.{all, sum}
 use Rattle.base.specs.Logic.{digit, same?, test?}
 use Rattle.entrycheck.proofs.Counts.{Counts, block-counts, through-counts}
-use Rattle.entrycheck.specs.Marking.{Pass, markNamed, through}
+use Rattle.entrycheck.specs.Seeing.{Pass, seeNamed, through}
 use Rattle.rules.specs.State.{stored}
 
 -- is c one of b, .., b + n - 1
@@ -58,8 +58,8 @@ run-sum b (suc n) c =
 
 -- the pass over the blocks b, .., b + n - 1
 abbrev pub runPass : ℕ → ℕ → ℕ → Pass
-runPass limit b n = through n (λ j. markNamed limit (stored (b + j)))
+runPass limit b n = through n (λ j. seeNamed limit (stored (b + j)))
 
 -- LAW: what it counts
 pub run-counts : (limit b n : ℕ) → Counts limit (runPass limit b n) (all n (λ j. ltb (b + j) limit)) (λ c. sum n (λ j. digit (eqb c (b + j))))
-run-counts limit b n = through-counts limit (λ j. markNamed limit (stored (b + j))) (λ j. ltb (b + j) limit) (λ j c. digit (eqb c (b + j))) n (λ j l. block-counts limit (stored (b + j)))
+run-counts limit b n = through-counts limit (λ j. seeNamed limit (stored (b + j))) (λ j. ltb (b + j) limit) (λ j c. digit (eqb c (b + j))) n (λ j l. block-counts limit (stored (b + j)))

@@ -7,7 +7,7 @@ use Prim.Native.Nat.{_+_, _<_, suc, zero, ℕ, _≤_}
 use native.Mathlib.Numerals.{add-one}
 use native.Mathlib.Omega.{arith}
 use Rattle.base.specs.Logic.{same?}
-use Rattle.entrycheck.specs.Marking.{Marks, Pass, Seen, andThen, outcome, through, through-more}
+use Rattle.entrycheck.specs.Seeing.{Sees, Pass, Seen, andThen, outcome, through, through-more}
 use Rattle.packing.specs.Bitmap.{bitAt}
 
 -- a part that does not pass: no more passes
@@ -18,9 +18,9 @@ through-fails pass seen n (suc m) l e =
     (λ z. rw z at e)
     (λ z. through-more m pass seen ∙ ap (λ o. andThen o (pass m)) (through-fails pass seen n m (omega arith) e))
 
-module _ (pass : ℕ → Pass) (seen : Seen) (n : ℕ) (l l′ : List ℕ) (ok : Bool) (e : through n pass seen ≡ some (bitAt l 0)) (m : Marks (pass n) l l′ ok) where
+module _ (pass : ℕ → Pass) (seen : Seen) (n : ℕ) (l l′ : List ℕ) (ok : Bool) (e : through n pass seen ≡ some (bitAt l 0)) (m : Sees (pass n) l l′ ok) where
   step : through (n + 1) pass seen ≡ outcome ok (bitAt l′ 0)
-  step = ap (λ k. through k pass seen) (add-one n) ∙ through-more n pass seen ∙ ap (λ o. andThen o (pass n)) e ∙ m .marks
+  step = ap (λ k. through k pass seen) (add-one n) ∙ through-more n pass seen ∙ ap (λ o. andThen o (pass n)) e ∙ m .sees
 
   -- LAW: the next part passes
   pub through-next : ok ≡ true → through (n + 1) pass seen ≡ some (bitAt l′ 0)

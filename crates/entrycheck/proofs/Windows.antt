@@ -14,7 +14,7 @@ use Rattle.base.specs.Count.{all, all-at, all-of}
 use Rattle.base.specs.Logic.{digit, same?}
 use Rattle.entrycheck.proofs.Counts.{counts-none, counts-some}
 use Rattle.entrycheck.proofs.Runs.{in-run, inRun, not-in-run, run-counts, run-sum, run?, runPass}
-use Rattle.entrycheck.specs.Marking.{Marks}
+use Rattle.entrycheck.specs.Seeing.{Sees}
 use Rattle.masks.proofs.Digits.{and-digit, or-digit, zero-digits}
 use Rattle.packing.specs.Bitmap.{bitAt, bits-same, isOne, word-bit}
 use Rattle.packing.specs.Bits.{bit, bit-and, bit-lt, bit-none, bit-or}
@@ -31,9 +31,9 @@ and-true true b h k = absurd (true≢false (sym k ∙ h))
 and-true false b h k = refl
 
 -- LAW: a block is the limit or more
-pub run-limit : (limit b n : ℕ) (l : List ℕ) → length l ≡ 512 → 0 < n → limit < b + n → Marks (runPass limit b n) l l false
+pub run-limit : (limit b n : ℕ) (l : List ℕ) → length l ≡ 512 → 0 < n → limit < b + n → Sees (runPass limit b n) l l false
 run-limit limit b n l len p h = record {
-  marks = counts-none limit (runPass limit b n) _ _ (run-counts limit b n) (bitAt l 0)
+  sees = counts-none limit (runPass limit b n) _ _ (run-counts limit b n) (bitAt l 0)
       (λ g o. let e = ltb-true (b + (n - 1)) limit (all-at n (λ j. ltb (b + j) limit) g (n - 1) (omega arith)) in omega arith);
   len = len;
 }
@@ -107,9 +107,9 @@ module _ (m : ℕ) (l : List ℕ) (bs : Bytes l) (i y s n : ℕ) (fit : s + n �
     one-more false false h = refl
 
     -- LAW: a block is seen
-    run-clash : bitAnd x y < 2 ^ (8 * suc m) → (bitAnd x y ≡ 0 → ⊥) → Marks (runPass limit (8 * i + s) n) l l false
+    run-clash : bitAnd x y < 2 ^ (8 * suc m) → (bitAnd x y ≡ 0 → ⊥) → Sees (runPass limit (8 * i + s) n) l l false
     run-clash lt hit = record {
-      marks = counts-none limit (runPass limit (8 * i + s) n) _ _ (run-counts limit (8 * i + s) n) (bitAt l 0)
+      sees = counts-none limit (runPass limit (8 * i + s) n) _ _ (run-counts limit (8 * i + s) n) (bitAt l 0)
           (λ g o. hit (apart lt (λ c a b. none-seen (bitAt l 0 c) (let q = run-sum (8 * i + s) n c in let d = in-run (8 * i + s) n c a b in omega (arith, o c, ap digit d)))));
       len = len;
     }
@@ -119,9 +119,9 @@ module _ (m : ℕ) (l : List ℕ) (bs : Bytes l) (i y s n : ℕ) (fit : s + n �
         none-seen false h = refl
 
     -- LAW: the blocks become seen
-    run-marked : (hi : i + m < length l) (hv : bitOr x y < 256 ^ suc m) (bs′ : Bytes l′) → 8 * i + s + n ≤ limit → bitAnd x y ≡ 0 → Marks (runPass limit (8 * i + s) n) l l′ true
-    run-marked hi hv bs′ h e = record {
-      marks = counts-some limit (runPass limit (8 * i + s) n) _ _ (run-counts limit (8 * i + s) n) (bitAt l 0) (bitAt l′ 0)
+    run-seen : (hi : i + m < length l) (hv : bitOr x y < 256 ^ suc m) (bs′ : Bytes l′) → 8 * i + s + n ≤ limit → bitAnd x y ≡ 0 → Sees (runPass limit (8 * i + s) n) l l′ true
+    run-seen hi hv bs′ h e = record {
+      sees = counts-some limit (runPass limit (8 * i + s) n) _ _ (run-counts limit (8 * i + s) n) (bitAt l 0) (bitAt l′ 0)
           (all-of n (λ j. ltb (8 * i + s + j) limit) (λ j k. lt-ltb (8 * i + s + j) limit (omega arith)))
           (λ c. ap digit (now-seen hi hv bs′ c)
           ∙ one-more (bitAt l 0 c) (inRun (8 * i + s) n c) (λ r. run? (8 * i + s) n c (λ a b. unseen e c a b) (λ o. absurd (true≢false (sym r ∙ not-in-run (8 * i + s) n c o))))
@@ -176,10 +176,10 @@ module _ (limit : ℕ) (l : List ℕ) (bs : Bytes l) (len : length l ≡ 512) (b
   at-block = omega arith
 
   abbrev Run : ℕ → List ℕ → Bool → Type 0
-  Run n l′ ok = Marks (runPass limit b n) l l′ ok
+  Run n l′ ok = Sees (runPass limit b n) l l′ ok
 
-  moved : (n : ℕ) (l′ : List ℕ) (ok : Bool) → Marks (runPass limit (8 * (b / 8) + b % 8) n) l l′ ok → Run n l′ ok
-  moved n l′ ok h = subst (λ c. Marks (runPass limit c n) l l′ ok) at-block h
+  moved : (n : ℕ) (l′ : List ℕ) (ok : Bool) → Sees (runPass limit (8 * (b / 8) + b % 8) n) l l′ ok → Run n l′ ok
+  moved n l′ ok h = subst (λ c. Sees (runPass limit c n) l l′ ok) at-block h
 
   module _ (h : b < 4096) where
     abbrev byte1 : ℕ
@@ -194,11 +194,11 @@ module _ (limit : ℕ) (l : List ℕ) (bs : Bytes l) (len : length l ≡ 512) (b
     one-clash k = moved 1 l false (run-clash zero l bs (b / 8) mask1 (b % 8) 1 (omega arith) (λ j q. one-digits (b % 8) j (omega arith) q) limit len
         (and-lt 8 byte1 mask1 (bs (b / 8)) (let q = shr-le 128 (b % 8) in omega arith)) k)
 
-    pub one-marked : b < limit → bitAnd byte1 mask1 ≡ 0 → Run 1 (set l (b / 8) (bitOr byte1 mask1)) true
+    pub one-seen : b < limit → bitAnd byte1 mask1 ≡ 0 → Run 1 (set l (b / 8) (bitOr byte1 mask1)) true
     unfolding getWord putWord
-    one-marked k e =
+    one-seen k e =
         let v : bitOr byte1 mask1 < 256 = or-lt 8 byte1 mask1 (bs (b / 8)) (let q = shr-le 128 (b % 8) in omega arith) in
-        moved 1 _ true (run-marked zero l bs (b / 8) mask1 (b % 8) 1 (omega arith) (λ j q. one-digits (b % 8) j (omega arith) q) limit len
+        moved 1 _ true (run-seen zero l bs (b / 8) mask1 (b % 8) 1 (omega arith) (λ j q. one-digits (b % 8) j (omega arith) q) limit len
         (omega arith) v (bytes-set l (b / 8) (bitOr byte1 mask1) (omega arith) v bs) (omega arith) e)
 
   module _ (h : b < 4096) (room : b % 64 < 61) where
@@ -214,13 +214,13 @@ module _ (limit : ℕ) (l : List ℕ) (bs : Bytes l) (len : length l ≡ 512) (b
     -- LAWS: four blocks
     pub four-clash : (bitAnd word8 mask8 ≡ 0 → ⊥) → Run 4 l false
     four-clash k =
-        subst (λ c. Marks (runPass limit c 4) l l false) at-word
+        subst (λ c. Sees (runPass limit c 4) l l false) at-word
         (run-clash 7 l bs (b / 64 * 8) mask8 (b % 64) 4 (omega arith) (λ j q. four-digits (b % 64) j room q) limit len
         (and-lt 64 word8 mask8 (get-lt 7 l (b / 64 * 8) bs) (let q = shr-le 0xF000000000000000 (b % 64) in omega arith)) k)
 
-    pub four-marked : b + 3 < limit → bitAnd word8 mask8 ≡ 0 → Run 4 (putWord 7 l (b / 64 * 8) (bitOr word8 mask8)) true
-    four-marked k e =
+    pub four-seen : b + 3 < limit → bitAnd word8 mask8 ≡ 0 → Run 4 (putWord 7 l (b / 64 * 8) (bitOr word8 mask8)) true
+    four-seen k e =
         let v : bitOr word8 mask8 < 256 ^ 8 = or-lt 64 word8 mask8 (get-lt 7 l (b / 64 * 8) bs) (let q = shr-le 0xF000000000000000 (b % 64) in omega arith) in
-        subst (λ c. Marks (runPass limit c 4) l (putWord 7 l (b / 64 * 8) (bitOr word8 mask8)) true) at-word
-        (run-marked 7 l bs (b / 64 * 8) mask8 (b % 64) 4 (omega arith) (λ j q. four-digits (b % 64) j room q) limit len
+        subst (λ c. Sees (runPass limit c 4) l (putWord 7 l (b / 64 * 8) (bitOr word8 mask8)) true) at-word
+        (run-seen 7 l bs (b / 64 * 8) mask8 (b % 64) 4 (omega arith) (λ j q. four-digits (b % 64) j room q) limit len
         (omega arith) v (bytes-put 7 l (b / 64 * 8) (bitOr word8 mask8) (omega arith) v bs) (omega arith) e)

@@ -1,3 +1,3 @@
-pub mod Marking
+pub mod Seeing
 pub mod Plain
 pub mod Moving

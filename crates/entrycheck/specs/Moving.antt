@@ -13,7 +13,7 @@ use Rattle.masks.specs.Pages.{pages}
 use Rattle.packing.specs.Bitmap.{bitAt, isOne}
 use Rattle.packing.specs.Bits.{bit}
 use Rattle.packing.specs.Words.{getWord}
-use Rattle.entrycheck.specs.declared.marks.Left.{Left}
+use Rattle.entrycheck.specs.declared.seeing.Left.{Left}
 
 abbrev pub noPage : ℕ → Bool
 noPage p = false
@@ -26,8 +26,8 @@ blockAt t at p = getWord 1 t (at + p * 2) % 4096
 unfoldable pub timesLeft : (ℕ → ℕ) → (ℕ → Bool) → ℕ → ℕ
 timesLeft block left b = count 64 (λ p. left p && eqb b (block p))
 
--- can the blocks of the pages left be marked: each is below the limit, is not seen, and is named once
-pub record CanMark (limit : ℕ) (block : ℕ → ℕ) (left : ℕ → Bool) (seen : List ℕ) : Type 0 where
+-- can the blocks of the pages left become seen: each is below the limit, is not seen, and is named once
+pub record CanSee (limit : ℕ) (block : ℕ → ℕ) (left : ℕ → Bool) (seen : List ℕ) : Type 0 where
   pub low : (p : ℕ) → p < 64 → left p ≡ true → block p < limit
   pub once : (b : ℕ) → digit (bitAt seen 0 b) + timesLeft block left b ≤ 1
 
@@ -37,7 +37,7 @@ pub record Moved (limit : ℕ) (block : ℕ → ℕ) (seen seen′ : List ℕ) (
   pub within : (p : ℕ) → p < 64 → left′ p ≡ true → left p ≡ true
   pub counts : ok ≡ true → (b : ℕ) → digit (bitAt seen′ 0 b) + timesLeft block left′ b ≡ digit (bitAt seen 0 b) + timesLeft block left b
   pub low : ok ≡ true → (p : ℕ) → p < 64 → left p ≡ true → left′ p ≡ false → block p < limit
-  pub fails : ok ≡ false → CanMark limit block left seen → ⊥
+  pub fails : ok ≡ false → CanSee limit block left seen → ⊥
 
 -- the bits k, .., k + 3 are set
 abbrev pub Full : ℕ → ℕ → Type 0

@@ -6,14 +6,14 @@ ghost use Prim.Native.Nat.{_<_, _≤_};
 ghost use lib.ListN.{length};
 ghost use Rattle.packing.specs.Bitmap.{bitAt};
 ghost use Rattle.tables.specs.Layout.{tableBytes};
-ghost use Rattle.entrycheck.specs.Marking.{FileMarked, noneSeen, sameBits};
-use crate::kinds::blocks_plain;
-use crate::marks::mark_pages;
-use crate::marks::mark_rows;
+ghost use Rattle.entrycheck.specs.Seeing.{FileSeen, noneSeen, sameBits};
+use crate::plain::blocks_plain;
+use crate::seeing::see_pages;
+use crate::seeing::see_rows;
 use masks::kinds::kind_masks;
 
-pub mod kinds;
-pub mod marks;
+pub mod plain;
+pub mod seeing;
 
 // Whether every entry passed so far; and then which pages are stored and which unmapped, each later page a less
 // significant bit.
@@ -44,7 +44,7 @@ fn not_passed() -> Masks
 // The entries of file f in set s.
 pub fn file_entries(t: &[u8], seen: &mut [u8; 512], f: usize, s: usize, limit: usize) -> Masks
     requires { ⌜ (length (now t) ≡ tableBytes) × (length (now seen) ≡ 512) × (f < 16) × (s < 8) × (limit ≤ 4096) ⌝ }
-    ensures { λ r. ⌜ FileMarked limit (now (t .entry)) f s (now (seen .entry)) (now (seen .exit)) r ⌝ }
+    ensures { λ r. ⌜ FileSeen limit (now (t .entry)) f s (now (seen .entry)) (now (seen .exit)) r ⌝ }
 {
     let at = 544 + (s * 16 + f) * 132;
     let k = kind_masks(t, at);
@@ -54,11 +54,11 @@ pub fn file_entries(t: &[u8], seen: &mut [u8; 512], f: usize, s: usize, limit: u
     if !blocks_plain(t, at) {
         return not_passed();
     }
-    let left = mark_rows(t, seen, at, k.stored, limit);
+    let left = see_rows(t, seen, at, k.stored, limit);
     if !left.ok {
         return not_passed();
     }
-    let ok = mark_pages(t, seen, at, left.pages, limit);
+    let ok = see_pages(t, seen, at, left.pages, limit);
     Masks {
         ok: ok,
         stored: k.stored,

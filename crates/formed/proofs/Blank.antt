@@ -11,7 +11,7 @@ use borrow.Author.Tests.{eqb-true, not-true}
 use Rattle.base.specs.Count.{all, all-of}
 use Rattle.base.specs.Logic.{and-left, and-right, same?, test?}
 use Rattle.masks.proofs.PageMasks.{mask-all, mask-none}
-use Rattle.entrycheck.specs.Marking.{Seen, andThen, markEntry, markFile, markNamed, through, through-more, through-none}
+use Rattle.entrycheck.specs.Seeing.{Seen, andThen, seeEntry, seeFile, seeNamed, through, through-more, through-none}
 use Rattle.masks.specs.Pages.{pageMask}
 use Rattle.formed.proofs.AloneRules.{alone-zero}
 use Rattle.formed.specs.Files.{fileAlone}
@@ -49,9 +49,9 @@ unused-next t n r h u e k s a b = same? s (n - 1)
     (λ q. u s (omega arith) b)
 
 -- an entry whose word is zero makes nothing seen
-zero-marks : (limit : ℕ) (seen : Seen) → markEntry limit 0 seen ≡ some seen
-unfolding markEntry
-zero-marks limit seen = ap (λ (e : Entry ℕ). markNamed limit e seen) (zero-entry [] .1)
+zero-sees : (limit : ℕ) (seen : Seen) → seeEntry limit 0 seen ≡ some seen
+unfolding seeEntry
+zero-sees limit seen = ap (λ (e : Entry ℕ). seeNamed limit e seen) (zero-entry [] .1)
 
 module _ (t : List ℕ) (n : ℕ) (b : BlankFrom t n) (f s : ℕ) (lf : f < 16) (ln : n ≤ s) (ls : s < 8) where
   zeros : (j : ℕ) → j < 132 → getD t (fileAt f s + j) 0 ≡ 0
@@ -81,17 +81,17 @@ module _ (t : List ℕ) (n : ℕ) (b : BlankFrom t n) (f s : ℕ) (lf : f < 16) 
   pub blank-dead : live (unpack t .files f s .state) ≡ false
   blank-dead = ap (λ (x : File ℕ). live (x .state)) absent-here
 
-  blank-entries : (limit m : ℕ) (seen : Seen) → m ≤ 64 → through m (λ p. markEntry limit (entryWord t f s p)) seen ≡ some seen
-  blank-entries limit zero seen l = through-none (λ p. markEntry limit (entryWord t f s p)) seen
+  blank-entries : (limit m : ℕ) (seen : Seen) → m ≤ 64 → through m (λ p. seeEntry limit (entryWord t f s p)) seen ≡ some seen
+  blank-entries limit zero seen l = through-none (λ p. seeEntry limit (entryWord t f s p)) seen
   blank-entries limit (suc m) seen l =
-      through-more m (λ p. markEntry limit (entryWord t f s p)) seen
-      ∙ ap (λ o. andThen o (markEntry limit (entryWord t f s m))) (blank-entries limit m seen (omega arith))
-      ∙ ap (λ w. markEntry limit w seen) (entry-zero t f s (entries-zero t f s lf ls zeros) m (omega arith))
-      ∙ zero-marks limit seen
+      through-more m (λ p. seeEntry limit (entryWord t f s p)) seen
+      ∙ ap (λ o. andThen o (seeEntry limit (entryWord t f s m))) (blank-entries limit m seen (omega arith))
+      ∙ ap (λ w. seeEntry limit w seen) (entry-zero t f s (entries-zero t f s lf ls zeros) m (omega arith))
+      ∙ zero-sees limit seen
 
   blank-pass : (limit : ℕ) (seen : Seen) → passFile limit t f s seen ≡ some seen
-  unfolding passFile onlyIf markFile
-  blank-pass limit seen = ap (λ (x : Bool). cond x (through 64 (λ p. markEntry limit (entryWord t f s p)) seen) none) blank-alone ∙ blank-entries limit 64 seen (omega arith)
+  unfolding passFile onlyIf seeFile
+  blank-pass limit seen = ap (λ (x : Bool). cond x (through 64 (λ p. seeEntry limit (entryWord t f s p)) seen) none) blank-alone ∙ blank-entries limit 64 seen (omega arith)
 
 module _ (t : List ℕ) (n : ℕ) (b : BlankFrom t n) (f : ℕ) (lf : f < 16) where
   -- LAW: the sets from n on are passed

@@ -14,7 +14,7 @@ use Rattle.base.specs.Count.{all, all-more, all-none}
 use Rattle.base.specs.Logic.{same?, test?}
 use Rattle.entrycheck.proofs.Through.{through-next, through-refused}
 use Rattle.entrycheck.specs.declared.Masks.{Masks}
-use Rattle.entrycheck.specs.Marking.{FileMarked, Marks, Pass, Seen, andThen, markAll, markFile, markNumber, outcome, through, through-more, through-none}
+use Rattle.entrycheck.specs.Seeing.{FileSeen, Sees, Pass, Seen, andThen, seeAll, seeFile, seeNumber, outcome, through, through-more, through-none}
 use Rattle.masks.specs.Pages.{pageMask}
 use Rattle.formed.specs.Files.{LivesTo, MasksTo, fileAlone, fileLinked, numberFormed, placeDigit, placeOf}
 use Rattle.formed.proofs.AloneRules.{state-is}
@@ -29,32 +29,32 @@ use Rattle.tables.specs.Layout.{headWord, stateOf}
 use Rattle.tables.specs.Packed.{unpack}
 
 -- ---- a pass that needs a test passed besides
-module _ (b : Bool) (pass : Pass) (l l′ : List ℕ) (ok : Bool) (m : Marks pass l l′ ok) where
+module _ (b : Bool) (pass : Pass) (l l′ : List ℕ) (ok : Bool) (m : Sees pass l l′ ok) where
   only-is : onlyIf b pass (bitAt l 0) ≡ cond b (outcome ok (bitAt l′ 0)) none
   unfolding onlyIf
-  only-is = ap (λ o. cond b o none) (m .marks)
+  only-is = ap (λ o. cond b o none) (m .sees)
 
-  only-refused : not ok ≡ true → Marks (onlyIf b pass) l l′ false
-  only-refused h = record { marks = only-is ∙ ap (λ x. cond b (outcome x (bitAt l′ 0)) none) (not-true ok h) ∙ same b; len = m .len }
+  only-refused : not ok ≡ true → Sees (onlyIf b pass) l l′ false
+  only-refused h = record { sees = only-is ∙ ap (λ x. cond b (outcome x (bitAt l′ 0)) none) (not-true ok h) ∙ same b; len = m .len }
     where
       same : (b : Bool) → cond b (outcome false (bitAt l′ 0)) none ≡ none
       same true = refl
       same false = refl
 
-  only-decided : (r : Bool) → not ok ≡ false → r ≡ b → Marks (onlyIf b pass) l l′ r
+  only-decided : (r : Bool) → not ok ≡ false → r ≡ b → Sees (onlyIf b pass) l l′ r
   only-decided r h e = record {
-    marks = only-is ∙ ap (λ x. cond b (outcome x (bitAt l′ 0)) none) (not-false ok h) ∙ ap (λ x. outcome x (bitAt l′ 0)) (sym e);
+    sees = only-is ∙ ap (λ x. cond b (outcome x (bitAt l′ 0)) none) (not-false ok h) ∙ ap (λ x. outcome x (bitAt l′ 0)) (sym e);
     len = m .len;
   }
 
 -- ---- one file
-module _ (limit : ℕ) (t : List ℕ) (f s digit : ℕ) (seen seen′ : List ℕ) (m : Masks) (k : FileMarked limit t f s seen seen′ m)
+module _ (limit : ℕ) (t : List ℕ) (f s digit : ℕ) (seen seen′ : List ℕ) (m : Masks) (k : FileSeen limit t f s seen seen′ m)
     (stored stored′ unmapped unmapped′ : List ℕ) (lives lives′ : ℕ) where
   -- LAW: an entry does not pass
   pub file-refused : not (m .ok) ≡ true → FilePassed limit t f s digit seen seen′ stored stored′ unmapped unmapped′ lives lives′ false
   unfolding passFile
   file-refused h = record {
-    marked = only-refused (fileAlone t f s) (markFile limit t f s) seen seen′ (m .ok) (k .marked) h;
+    passes = only-refused (fileAlone t f s) (seeFile limit t f s) seen seen′ (m .ok) (k .passes) h;
     alone = λ q. absurd (true≢false (sym q));
     stored-is = λ q. absurd (true≢false (sym q));
     unmapped-is = λ q. absurd (true≢false (sym q));
@@ -66,7 +66,7 @@ module _ (limit : ℕ) (t : List ℕ) (f s digit : ℕ) (seen seen′ : List ℕ
       → lives′ ≡ bitOr lives (cond (live (unpack t .files f s .state)) digit 0) → FilePassed limit t f s digit seen seen′ stored stored′ unmapped unmapped′ lives lives′ r
   unfolding passFile
   file-decided r h e a b c = record {
-    marked = only-decided (fileAlone t f s) (markFile limit t f s) seen seen′ (m .ok) (k .marked) r h e;
+    passes = only-decided (fileAlone t f s) (seeFile limit t f s) seen seen′ (m .ok) (k .passes) r h e;
     alone = λ q. sym e ∙ q;
     stored-is = λ q. a ∙ ap (set stored s) (k .stored-is (not-false (m .ok) h));
     unmapped-is = λ q. b ∙ ap (set unmapped s) (k .unmapped-is (not-false (m .ok) h));
@@ -120,8 +120,8 @@ module _ (limit : ℕ) (t : List ℕ) (f : ℕ) (seen₀ : List ℕ) where
         let c = x .lives-are o in
         let used = live-used t f s (x .alone o) in
         record {
-          passed = through-next (λ s. passFile limit t f s) (bitAt seen₀ 0) s seen seen′ ok (k .passed) (x .marked) o;
-          len = x .marked .len;
+          passed = through-next (λ s. passFile limit t f s) (bitAt seen₀ 0) s seen seen′ ok (k .passed) (x .passes) o;
+          len = x .passes .len;
           masks = record {
             stored-len = ap length a ∙ length-set stored s _ ∙ k .masks .stored-len;
             unmapped-len = ap length b ∙ length-set unmapped s _ ∙ k .masks .unmapped-len;
@@ -141,9 +141,9 @@ module _ (limit : ℕ) (t : List ℕ) (f : ℕ) (seen₀ : List ℕ) where
     pub sets-refused : not ok ≡ true → NumberPassed limit t f seen₀ seen′ stored′ unmapped′ lives′ false
     unfolding passSets
     sets-refused h = record {
-      marked = record {
-        marks = through-refused (λ s. passFile limit t f s) (bitAt seen₀ 0) s seen seen′ ok (k .passed) (x .marked) 8 ls (not-true ok h);
-        len = x .marked .len;
+      passes = record {
+        sees = through-refused (λ s. passFile limit t f s) (bitAt seen₀ 0) s seen seen′ ok (k .passed) (x .passes) 8 ls (not-true ok h);
+        len = x .passes .len;
       };
       alone = λ q. absurd (true≢false (sym q));
       masks = λ q. absurd (true≢false (sym q));
@@ -174,7 +174,7 @@ module _ (limit : ℕ) (t : List ℕ) (f : ℕ) (seen₀ : List ℕ) where
 
     all-passed : NumberPassed limit t f seen₀ seen stored unmapped lives true
     all-passed = record {
-      marked = record { marks = blank-sets t n b f lf limit 8 (bitAt seen₀ 0) (b .most) (omega arith) ∙ k .passed; len = k .len };
+      passes = record { sees = blank-sets t n b f lf limit 8 (bitAt seen₀ 0) (b .most) (omega arith) ∙ k .passed; len = k .len };
       alone = λ h x l. test? (ltb x n) (λ e. k .alone x (ltb-true x n e)) (λ e. blank-alone t n b f x lf (ltb-false x n e) l);
       masks = λ h. all-masks;
       lives-are = λ h. all-lives;
@@ -186,14 +186,14 @@ module _ (limit : ℕ) (t : List ℕ) (f : ℕ) (seen₀ : List ℕ) where
 
 module _ (limit : ℕ) (t : List ℕ) (f : ℕ) (seen seen′ stored unmapped : List ℕ) (lives : ℕ) (ok : Bool) (k : NumberPassed limit t f seen seen′ stored unmapped lives ok) where
   -- LAW: a file of the number does not pass
-  pub number-refused : not ok ≡ true → Marks (passNumber limit t f) seen seen′ false
+  pub number-refused : not ok ≡ true → Sees (passNumber limit t f) seen seen′ false
   unfolding passNumber
-  number-refused h = only-refused (all 8 (fileLinked t f)) (passSets limit t f 8) seen seen′ ok (k .marked) h
+  number-refused h = only-refused (all 8 (fileLinked t f)) (passSets limit t f 8) seen seen′ ok (k .passes) h
 
   -- LAW: all pass, and the rules that concern several sets decide
-  pub number-decided : (r : Bool) → not ok ≡ false → r ≡ all 8 (fileLinked t f) → Marks (passNumber limit t f) seen seen′ r
+  pub number-decided : (r : Bool) → not ok ≡ false → r ≡ all 8 (fileLinked t f) → Sees (passNumber limit t f) seen seen′ r
   unfolding passNumber
-  number-decided r h e = only-decided (all 8 (fileLinked t f)) (passSets limit t f 8) seen seen′ ok (k .marked) r h e
+  number-decided r h e = only-decided (all 8 (fileLinked t f)) (passSets limit t f 8) seen seen′ ok (k .passes) r h e
 
 -- ---- all numbers
 -- a test of each part is one test of the whole
@@ -221,13 +221,13 @@ only-both true b pass seen = refl
 only-both false b pass seen = refl
 
 module _ (limit : ℕ) (t : List ℕ) where
-  number-is : (f : ℕ) → passNumber limit t f ≡ onlyIf (numberFormed t f) (markNumber limit t f)
-  unfolding passNumber passSets passFile markNumber numberFormed
+  number-is : (f : ℕ) → passNumber limit t f ≡ onlyIf (numberFormed t f) (seeNumber limit t f)
+  unfolding passNumber passSets passFile seeNumber numberFormed
   number-is f =
-      ap (onlyIf (all 8 (fileLinked t f))) (fun-ext (λ seen. through-only 8 (fileAlone t f) (λ s. markFile limit t f s) seen))
-      ∙ fun-ext (λ seen. only-both (all 8 (fileLinked t f)) (all 8 (fileAlone t f)) (through 8 (λ s. markFile limit t f s)) seen)
+      ap (onlyIf (all 8 (fileLinked t f))) (fun-ext (λ seen. through-only 8 (fileAlone t f) (λ s. seeFile limit t f s) seen))
+      ∙ fun-ext (λ seen. only-both (all 8 (fileLinked t f)) (all 8 (fileAlone t f)) (through 8 (λ s. seeFile limit t f s)) seen)
 
   -- LAW: the pass over all files is that over the entries, where all rules on files hold
-  pub numbers-are : (seen : Seen) → through 16 (λ f. passNumber limit t f) seen ≡ onlyIf (all 16 (numberFormed t)) (markAll limit t) seen
-  unfolding markAll
-  numbers-are seen = ap (λ p. through 16 p seen) (fun-ext number-is) ∙ through-only 16 (numberFormed t) (λ f. markNumber limit t f) seen
+  pub numbers-are : (seen : Seen) → through 16 (λ f. passNumber limit t f) seen ≡ onlyIf (all 16 (numberFormed t)) (seeAll limit t) seen
+  unfolding seeAll
+  numbers-are seen = ap (λ p. through 16 p seen) (fun-ext number-is) ∙ through-only 16 (numberFormed t) (λ f. seeNumber limit t f) seen

@@ -12,7 +12,7 @@ use Rattle.base.specs.Count.{all, all-at, all-of}
 use Rattle.base.specs.Logic.{and-both, and-false, and-left, and-right, same?}
 use Rattle.entrycheck.proofs.EntriesFormed.{entries-formed}
 use Rattle.entrycheck.proofs.Through.{through-next, through-refused}
-use Rattle.entrycheck.specs.Marking.{Marks, Seen, entriesFormed, formedBy, markAll, noneSeen, sameBits, through, through-none}
+use Rattle.entrycheck.specs.Seeing.{Sees, Seen, entriesFormed, formedBy, seeAll, noneSeen, sameBits, through, through-none}
 use Rattle.formed.proofs.Passes.{numbers-are}
 use Rattle.formed.proofs.Past.{same-test}
 use Rattle.formed.specs.Files.{Falling, fileAlone, fileLinked, numberFormed}
@@ -122,14 +122,14 @@ module _ (t : List ℕ) where
 
 -- ---- all files
 module _ (t : List ℕ) (most : unpack t .blocks ≤ 4096) where
-  only-formed : (b : Bool) (seen : Seen) → formedBy t (onlyIf b (markAll (unpack t .blocks) t) seen) ≡ (formedBy t (markAll (unpack t .blocks) t seen) && b)
+  only-formed : (b : Bool) (seen : Seen) → formedBy t (onlyIf b (seeAll (unpack t .blocks) t) seen) ≡ (formedBy t (seeAll (unpack t .blocks) t seen) && b)
   unfolding onlyIf
-  only-formed true seen = go (formedBy t (markAll (unpack t .blocks) t seen))
+  only-formed true seen = go (formedBy t (seeAll (unpack t .blocks) t seen))
     where
       go : (b : Bool) → b ≡ (b && true)
       go true = refl
       go false = refl
-  only-formed false seen = sym (and-false (formedBy t (markAll (unpack t .blocks) t seen)))
+  only-formed false seen = sym (and-false (formedBy t (seeAll (unpack t .blocks) t seen)))
 
   -- LAW: what the pass over all files says
   pub files-say : formedBy t (through 16 (λ f. passNumber (unpack t .blocks) t f) noneSeen) ≡ (kindsFormed t && bitsFormed (unpack t) && fileRecordsFormed t)
@@ -148,7 +148,7 @@ pub files-start : (t : List ℕ) (limit : ℕ) (seen : List ℕ) → length seen
 files-start t limit seen len e = record { passed = through-none (λ f. passNumber limit t f) noneSeen ∙ ap some (sym e); len = len }
 
 -- LAW: a number whose files pass
-pub files-next : (t : List ℕ) (limit : ℕ) (seen : List ℕ) (f : ℕ) → FilesPassed t limit seen f → (seen′ : List ℕ) (ok : Bool) → Marks (passNumber limit t f) seen seen′ ok
+pub files-next : (t : List ℕ) (limit : ℕ) (seen : List ℕ) (f : ℕ) → FilesPassed t limit seen f → (seen′ : List ℕ) (ok : Bool) → Sees (passNumber limit t f) seen seen′ ok
     → not ok ≡ false → FilesPassed t limit seen′ (f + 1)
 files-next t limit seen f k seen′ ok x h =
     record { passed = through-next (λ f. passNumber limit t f) noneSeen f seen seen′ ok (k .passed) x (not-false ok h); len = x .len }
@@ -159,7 +159,7 @@ module _ (t : List ℕ) (limit : ℕ) (el : limit ≡ unpack t .blocks) (most : 
 
   module _ (seen : List ℕ) (f : ℕ) (k : FilesPassed t limit seen f) where
     -- LAW: a number of which one does not
-    pub files-refused : (seen′ : List ℕ) (ok : Bool) → Marks (passNumber limit t f) seen seen′ ok → f < 16 → not ok ≡ true
+    pub files-refused : (seen′ : List ℕ) (ok : Bool) → Sees (passNumber limit t f) seen seen′ ok → f < 16 → not ok ≡ true
         → false ≡ (kindsFormed t && bitsFormed (unpack t) && fileRecordsFormed t)
     files-refused seen′ ok x l h =
         sym (ap (formedBy t) (through-refused (λ f. passNumber limit t f) noneSeen f seen seen′ ok (k .passed) x 16 l (not-true ok h))) ∙ by-limit

@@ -7,7 +7,7 @@ use Prim.Native.Nat.{_+_, _<_, ℕ, _≤_}
 use lib.Bits.{bitOr}
 use lib.ListN.{getD, length, set}
 use Rattle.base.specs.Count.{all}
-use Rattle.entrycheck.specs.Marking.{Marks, Pass, markFile, through}
+use Rattle.entrycheck.specs.Seeing.{Sees, Pass, seeFile, through}
 use Rattle.masks.specs.Pages.{pageMask}
 use Rattle.formed.specs.Files.{LivesTo, MasksTo, fileAlone, fileLinked}
 use Rattle.rules.specs.State.{SetRecord, fileCount, isStored, isUnmapped, live, setCount}
@@ -21,7 +21,7 @@ onlyIf b pass seen = cond b (pass seen) none
 module _ (limit : ℕ) (t : List ℕ) where
   -- file f of set s: its entries, and the rules that concern no other file
   unfoldable pub passFile : ℕ → ℕ → Pass
-  passFile f s = onlyIf (fileAlone t f s) (markFile limit t f s)
+  passFile f s = onlyIf (fileAlone t f s) (seeFile limit t f s)
 
   -- the files of number f in the sets before set s
   unfoldable pub passSets : ℕ → ℕ → Pass
@@ -46,7 +46,7 @@ EachIs l v = (length l ≡ setCount) × ((s : ℕ) → s < setCount → getD l s
 
 -- file f of set s, which has the digit given, has been looked at: what is seen; and where it passes, its masks are kept, and whether it is own or virgin
 pub record FilePassed (limit : ℕ) (t : List ℕ) (f s digit : ℕ) (seen seen′ stored stored′ unmapped unmapped′ : List ℕ) (lives lives′ : ℕ) (ok : Bool) : Type 0 where
-  pub marked : Marks (passFile limit t f s) seen seen′ ok
+  pub passes : Sees (passFile limit t f s) seen seen′ ok
   pub alone : ok ≡ true → fileAlone t f s ≡ true
   pub stored-is : ok ≡ true → stored′ ≡ set stored s (pageMask isStored (unpack t .files f s .map))
   pub unmapped-is : ok ≡ true → unmapped′ ≡ set unmapped s (pageMask isUnmapped (unpack t .files f s .map))
@@ -54,7 +54,7 @@ pub record FilePassed (limit : ℕ) (t : List ℕ) (f s digit : ℕ) (seen seen�
 
 -- the files of number f have been looked at
 pub record NumberPassed (limit : ℕ) (t : List ℕ) (f : ℕ) (seen seen′ stored unmapped : List ℕ) (lives : ℕ) (ok : Bool) : Type 0 where
-  pub marked : Marks (passSets limit t f setCount) seen seen′ ok
+  pub passes : Sees (passSets limit t f setCount) seen seen′ ok
   pub alone : ok ≡ true → (s : ℕ) → s < setCount → fileAlone t f s ≡ true
   pub masks : ok ≡ true → MasksTo (unpack t .files f) setCount stored unmapped
   pub lives-are : ok ≡ true → LivesTo (unpack t .sets) (unpack t .files f) setCount lives

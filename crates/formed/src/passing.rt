@@ -12,7 +12,7 @@ ghost use Rattle.tables.specs.Layout.{stateOf, tableBytes};
 ghost use Rattle.tables.specs.Meaning.{setMeant};
 ghost use Rattle.tables.specs.Packed.{kindsFormed, unpack};
 ghost use Rattle.setcheck.specs.Records.{fileRecordsFormed};
-ghost use Rattle.entrycheck.specs.Marking.{FileMarked, Marks};
+ghost use Rattle.entrycheck.specs.Seeing.{FileSeen, Sees};
 ghost use Rattle.formed.specs.Files.{DigitsAre, Falling, Places, placeDigit};
 ghost use Rattle.formed.specs.Pass.{BlankFrom, EachIs, FilePassed, NumberPassed, UnusedFrom, passNumber};
 use crate::alone::file_alone;
@@ -53,7 +53,7 @@ fn all_unmapped(t: &[u8], at: usize, w: u32) -> bool
 // The entries of file f in set s, whose head is w.
 fn entries_of(t: &[u8], seen: &mut [u8; 512], f: usize, s: usize, w: u32, limit: usize) -> Masks
     requires { ⌜ (length (now t) ≡ tableBytes) × (length (now seen) ≡ 512) × (f < 16) × (s < 8) × (limit ≤ 4096) ⌝ }
-    ensures { λ r. ⌜ FileMarked limit (now (t .entry)) f s (now (seen .entry)) (now (seen .exit)) r ⌝ }
+    ensures { λ r. ⌜ FileSeen limit (now (t .entry)) f s (now (seen .entry)) (now (seen .exit)) r ⌝ }
 {
     if all_unmapped(t, 544 + (s * 16 + f) * 132, w) {
         return Masks {
@@ -126,7 +126,7 @@ fn pass_number(
     limit: usize,
 ) -> bool
     requires { ⌜ (length (now t) ≡ tableBytes) × Falling (unpack (now t) .sets) × (length (now seen) ≡ 512) × Places (unpack (now t) .sets) (now digits) (now parents) × (f < 16) × BlankFrom (now t) n × (limit ≤ 4096) ⌝ }
-    ensures { λ r. ⌜ Marks (passNumber limit (now (t .entry)) f) (now (seen .entry)) (now (seen .exit)) r ⌝ }
+    ensures { λ r. ⌜ Sees (passNumber limit (now (t .entry)) f) (now (seen .entry)) (now (seen .exit)) r ⌝ }
 {
     let mut stored = masks_of(0);
     let mut unmapped = masks_of(0xFFFF_FFFF_FFFF_FFFF);

@@ -19,15 +19,6 @@ pub struct ReadCounts {
     pub looks: u32,
 }
 
-fn smaller(a: usize, b: usize) -> usize
-    ensures { λ r. ⌜ r ≡ min a b ⌝ }
-{
-    if a < b {
-        return a;
-    }
-    b
-}
-
 // "the smaller of the buffer's length and the bytes from the offset to the size, none at or past it"
 fn read_count(n: usize, off: usize, size: usize) -> usize
     ensures { λ r. ⌜ r ≡ readCount n off size ⌝ }
@@ -35,7 +26,7 @@ fn read_count(n: usize, off: usize, size: usize) -> usize
     if size <= off {
         return 0;
     }
-    smaller(n, size - off)
+    pages::smaller(n, size - off)
 }
 
 // Reads n bytes of one page, from byte `from` of the file on, to the places of the buffer from `at` on; the entries of the
@@ -59,7 +50,7 @@ fn read_pages(p: &[u8], kept: &[u16; 64], off: usize, n: usize, buffer: &mut [u8
 {
     let mut done = 0;
     while done < n {
-        let m = smaller(512 - (off + done) % 512, n - done);
+        let m = pages::smaller(512 - (off + done) % 512, n - done);
         read_part(p, kept, off + done, buffer, done, m);
         done += m;
     }

@@ -1,7 +1,7 @@
 -- `entrycheck::file_entries` meets its contract. Assumes nothing.
 use borrow.Author.Tests.{not-false, not-true}
 use borrow.Author.Needs.{needs}
-use Rattle.entrycheck.proofs.FileMarks.{reads-block, reads-rows, reads-three, reads-whole}
+use Rattle.entrycheck.proofs.FileEntries.{reads-block, reads-rows, reads-three, reads-whole}
 use Rattle.entrycheck.proofs.file_entries.Statement.{statement}
 use Rattle.entrycheck.proofs.file_entries.Tie as tie
 
@@ -28,7 +28,7 @@ returns-2 c =
 returns-3 : tie.Need-returns-3
 returns-3 c =
     let i3 = c .before in
-    let r = i3 .before .before .mark-rows in
+    let r = i3 .before .before .see-rows in
     let i2 = i3 .before .before .before .before in
     let b = i2 .before .blocks-plain in
     let i1 = i2 .before .before in
@@ -40,9 +40,9 @@ returns-3 c =
 
 returns-4 : tie.Need-returns-4
 returns-4 c =
-    let g = c .before .mark-pages in
+    let g = c .before .see-pages in
     let i3 = c .before .before .before in
-    let r = i3 .before .before .mark-rows in
+    let r = i3 .before .before .see-rows in
     let i2 = i3 .before .before .before .before in
     let b = i2 .before .blocks-plain in
     let i1 = i2 .before .before in

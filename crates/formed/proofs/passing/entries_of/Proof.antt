@@ -1,6 +1,6 @@
 -- `formed::passing::entries_of` meets its contract. Assumes nothing.
 use borrow.Author.Needs.{needs}
-use Rattle.entrycheck.proofs.FileMarks.{zero-file}
+use Rattle.entrycheck.proofs.FileEntries.{zero-file}
 use Rattle.formed.proofs.passing.entries_of.Statement.{statement}
 use Rattle.formed.proofs.passing.entries_of.Tie as tie
 

@@ -1,4 +1,4 @@
--- `entrycheck::marks::mark_four` meets its contract. Assumes nothing.
+-- `entrycheck::seeing::see_four` meets its contract. Assumes nothing.
 use mathlib.Core.Bool.{true}
 use mathlib.Core.Path.{ap, subst, sym, _∙_, _≡_}
 use Prim.Native.Nat.{_%_, _*_, _/_, _^_}
@@ -7,10 +7,10 @@ use lib.Bits.{bitAnd, bitOr}
 use borrow.Author.Needs.{needs}
 use Rattle.packing.specs.Words.{putWord}
 use Rattle.entrycheck.proofs.Runs.{runPass}
-use Rattle.entrycheck.proofs.Windows.{four-clash, four-marked, run-limit}
-use Rattle.entrycheck.specs.Marking.{Marks}
-use Rattle.entrycheck.proofs.marks.mark_four.Statement.{statement}
-use Rattle.entrycheck.proofs.marks.mark_four.Tie as tie
+use Rattle.entrycheck.proofs.Windows.{four-clash, four-seen, run-limit}
+use Rattle.entrycheck.specs.Seeing.{Sees}
+use Rattle.entrycheck.proofs.seeing.see_four.Statement.{statement}
+use Rattle.entrycheck.proofs.seeing.see_four.Tie as tie
 
 returns : tie.Need-returns
 returns c = let s = c .before .before in run-limit (s .args .limit) (s .args .b) 4 _ (s .pre .0) (omega arith) (omega arith)
@@ -34,12 +34,12 @@ returns-3 c =
     let b = s .args .b in
     let y = 0xF000000000000000 / 2 ^ (b % 64) in
     let l = s .args .seen .now in
-    subst (λ l′. Marks (runPass (s .args .limit) b 4) l l′ true)
+    subst (λ l′. Sees (runPass (s .args .limit) b 4) l l′ true)
     (sym (w .ensures ∙ ap (λ x. putWord 7 l (b / 64 * 8) (bitOr x y)) (r .ensures)))
-    (four-marked _ l (λ i. k .slice-known .given i .fits) (s .pre .0) b (s .pre .1) (s .pre .2) (i1 .if1 .left) (ap (λ x. bitAnd x y) (sym (r .ensures)) ∙ i2 .if2 .left))
+    (four-seen _ l (λ i. k .slice-known .given i .fits) (s .pre .0) b (s .pre .1) (s .pre .2) (i1 .if1 .left) (ap (λ x. bitAnd x y) (sym (r .ensures)) ∙ i2 .if2 .left))
 
-pub mark-four-spec : {M : Type 1} → statement M
-mark-four-spec =
+pub see-four-spec : {M : Type 1} → statement M
+see-four-spec =
     tie.close
     (tie.spec
     (λ c. search needs) returns (λ c. search needs) (λ c κs. search needs) (λ c. search needs) (λ c. search needs) returns-2

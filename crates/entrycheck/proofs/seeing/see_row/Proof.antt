@@ -1,15 +1,15 @@
--- `entrycheck::marks::mark_row` meets its contract. Assumes nothing.
+-- `entrycheck::seeing::see_row` meets its contract. Assumes nothing.
 use borrow.Author.Tests.{not-false, not-true}
 use borrow.Author.Needs.{needs}
-use Rattle.entrycheck.proofs.RowMarks.{as-said, room-of, row-no, row-none, row-yes}
-use Rattle.entrycheck.proofs.marks.mark_row.Statement.{statement}
-use Rattle.entrycheck.proofs.marks.mark_row.Tie as tie
+use Rattle.entrycheck.proofs.RowSteps.{as-said, room-of, row-no, row-none, row-yes}
+use Rattle.entrycheck.proofs.seeing.see_row.Statement.{statement}
+use Rattle.entrycheck.proofs.seeing.see_row.Tie as tie
 
 returns : tie.Need-returns
 returns c = let s = c .before .before .before in row-none _ _ _ _ (s .args .seen .now) _ _ (s .pre .1)
 
-mark-four-requires : tie.Need-mark-four-requires
-mark-four-requires c κs =
+see-four-requires : tie.Need-see-four-requires
+see-four-requires c κs =
     let b = c .before .block-of in
     let i1 = c .before .before in
     let r = i1 .before .in-row in
@@ -18,7 +18,7 @@ mark-four-requires c κs =
 
 returns-2 : tie.Need-returns-2
 returns-2 c =
-    let f = c .before .mark-four in
+    let f = c .before .see-four in
     let b = c .before .before .before .block-of in
     let i1 = c .before .before .before .before in
     let r = i1 .before .in-row in
@@ -28,7 +28,7 @@ returns-2 c =
 
 returns-3 : tie.Need-returns-3
 returns-3 c =
-    let f = c .before .mark-four in
+    let f = c .before .see-four in
     let b = c .before .before .before .block-of in
     let i1 = c .before .before .before .before in
     let r = i1 .before .in-row in
@@ -36,9 +36,9 @@ returns-3 c =
     row-yes _ _ _ _ _ _ _ (s .pre .2) (s .pre .3) (r .ensures (not-false (r .result) (i1 .if1 .left))) (b .result) (b .ensures .0)
     (as-said _ _ _ (f .result) _ (not-false (f .result) (c .if2 .left)) (f .ensures))
 
-pub mark-row-spec : {M : Type 1} → statement M
-mark-row-spec =
+pub see-row-spec : {M : Type 1} → statement M
+see-row-spec =
     tie.close
     (tie.spec
-    (λ c. search needs) (λ c. search needs) (λ c. search needs) (λ c κs. search needs) returns (λ c κs. search needs) mark-four-requires
+    (λ c. search needs) (λ c. search needs) (λ c. search needs) (λ c κs. search needs) returns (λ c κs. search needs) see-four-requires
     returns-2 (λ c. search needs) returns-3)

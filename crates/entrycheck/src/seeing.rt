@@ -6,7 +6,7 @@ ghost use Prim.Native.Nat.{_+_, _%_, _<_, _≤_};
 ghost use lib.ListN.{length};
 ghost use Rattle.rules.specs.State.{stored};
 ghost use Rattle.packing.specs.Words.{getWord};
-ghost use Rattle.entrycheck.specs.Marking.{Marks, markNamed, through};
+ghost use Rattle.entrycheck.specs.Seeing.{Sees, seeNamed, through};
 ghost use Rattle.masks.specs.Pages.{pages};
 ghost use Rattle.entrycheck.specs.Moving.{FourInARow, Full, Moved, RowMoved, blockAt, noPage, rows};
 use masks::lowest;
@@ -29,9 +29,9 @@ fn block_of(t: &[u8], at: usize) -> usize
 }
 
 // Block b is seen from here on, unless it is seen already, or is not below the limit.
-fn mark_block(seen: &mut [u8], b: usize, limit: usize) -> bool
+fn see_block(seen: &mut [u8], b: usize, limit: usize) -> bool
     requires { ⌜ (length (now seen) ≡ 512) × (b < 4096) ⌝ }
-    ensures { λ r. ⌜ Marks (through 1 (λ j. markNamed limit (stored (b + j)))) (now (seen .entry)) (now (seen .exit)) r ⌝ }
+    ensures { λ r. ⌜ Sees (through 1 (λ j. seeNamed limit (stored (b + j)))) (now (seen .entry)) (now (seen .exit)) r ⌝ }
 {
     if b >= limit {
         return false;
@@ -46,14 +46,14 @@ fn mark_block(seen: &mut [u8], b: usize, limit: usize) -> bool
 }
 
 // The pages of the mask m one by one.
-pub fn mark_pages(t: &[u8], seen: &mut [u8; 512], at: usize, m: u64, limit: usize) -> bool
+pub fn see_pages(t: &[u8], seen: &mut [u8; 512], at: usize, m: u64, limit: usize) -> bool
     requires { ⌜ (at + 128 ≤ length (now t)) × (length (now seen) ≡ 512) ⌝ }
     ensures { λ r. ⌜ Moved limit (blockAt (now (t .entry)) at) (now (seen .entry)) (now (seen .exit)) (pages m) noPage r ⌝ }
 {
     let mut left = m;
     while left != 0 {
         let k = lowest(left);
-        if !mark_block(seen, block_of(t, at + (63 - k) * 2), limit) {
+        if !see_block(seen, block_of(t, at + (63 - k) * 2), limit) {
             return false;
         }
         left = left & (left - 1);
@@ -63,9 +63,9 @@ pub fn mark_pages(t: &[u8], seen: &mut [u8; 512], at: usize, m: u64, limit: usiz
 
 // The same of the blocks b to b + 3, by the word of 64 bits of the map that has them: blocks that follow each other then change the
 // same word, which the processor has at hand from the last store.
-fn mark_four(seen: &mut [u8], b: usize, limit: usize) -> bool
+fn see_four(seen: &mut [u8], b: usize, limit: usize) -> bool
     requires { ⌜ (length (now seen) ≡ 512) × (b < 4096) × (b % 64 < 61) ⌝ }
-    ensures { λ r. ⌜ Marks (through 4 (λ j. markNamed limit (stored (b + j)))) (now (seen .entry)) (now (seen .exit)) r ⌝ }
+    ensures { λ r. ⌜ Sees (through 4 (λ j. seeNamed limit (stored (b + j)))) (now (seen .entry)) (now (seen .exit)) r ⌝ }
 {
     if b + 3 >= limit {
         return false;
@@ -98,14 +98,14 @@ fn in_row(t: &[u8], at: usize) -> bool
     words::low64(t, at) == long(e) * 0x0001_0001_0001_0001 + 0x0300_0200_0100_0000
 }
 
-// Whether the blocks could be marked, and the pages that are left.
+// Whether the blocks are new and below the limit, and the pages that are left.
 pub struct Left {
     pub ok: bool,
     pub pages: u64,
 }
 
 // The four pages of the mask m that stand in its bits k to k + 3, if they name blocks in a row.
-fn mark_row(t: &[u8], seen: &mut [u8; 512], at: usize, m: u64, k: usize, limit: usize) -> Left
+fn see_row(t: &[u8], seen: &mut [u8; 512], at: usize, m: u64, k: usize, limit: usize) -> Left
     requires { ⌜ (at + 128 ≤ length (now t)) × (length (now seen) ≡ 512) × (k < 61) × Full m k ⌝ }
     ensures { λ r. ⌜ RowMoved limit (blockAt (now (t .entry)) at) (now (seen .entry)) (now (seen .exit)) m k r ⌝ }
 {
@@ -114,7 +114,7 @@ fn mark_row(t: &[u8], seen: &mut [u8; 512], at: usize, m: u64, k: usize, limit: 
         return Left { ok: true, pages: m };
     }
     let b = block_of(t, p);
-    if !mark_four(seen, b, limit) {
+    if !see_four(seen, b, limit) {
         return Left {
             ok: false,
             pages: m,
@@ -135,7 +135,7 @@ fn rows_of(m: u64) -> u64
 }
 
 // The words of four pages of the mask m that name blocks in a row.
-pub fn mark_rows(t: &[u8], seen: &mut [u8; 512], at: usize, m: u64, limit: usize) -> Left
+pub fn see_rows(t: &[u8], seen: &mut [u8; 512], at: usize, m: u64, limit: usize) -> Left
     requires { ⌜ (at + 128 ≤ length (now t)) × (length (now seen) ≡ 512) ⌝ }
     ensures { λ r. ⌜ Moved limit (blockAt (now (t .entry)) at) (now (seen .entry)) (now (seen .exit)) (pages m) (pages (r .pages)) (r .ok) ⌝ }
 {
@@ -143,7 +143,7 @@ pub fn mark_rows(t: &[u8], seen: &mut [u8; 512], at: usize, m: u64, limit: usize
     let mut q = rows_of(m);
     while q != 0 {
         let k = lowest(q);
-        left = mark_row(t, seen, at, left.pages, k, limit);
+        left = see_row(t, seen, at, left.pages, k, limit);
         if !left.ok {
             return left;
         }

@@ -1,9 +1,9 @@
--- `entrycheck::marks::mark_block` meets its contract. Assumes nothing.
+-- `entrycheck::seeing::see_block` meets its contract. Assumes nothing.
 use native.Mathlib.Omega.{arith}
 use borrow.Author.Needs.{needs}
-use Rattle.entrycheck.proofs.Windows.{one-clash, one-marked, run-limit}
-use Rattle.entrycheck.proofs.marks.mark_block.Statement.{statement}
-use Rattle.entrycheck.proofs.marks.mark_block.Tie as tie
+use Rattle.entrycheck.proofs.Windows.{one-clash, one-seen, run-limit}
+use Rattle.entrycheck.proofs.seeing.see_block.Statement.{statement}
+use Rattle.entrycheck.proofs.seeing.see_block.Tie as tie
 
 returns : tie.Need-returns
 returns c = let s = c .before in run-limit (s .args .limit) (s .args .b) 1 _ (s .pre .0) (omega arith) (omega arith)
@@ -18,10 +18,10 @@ returns-3 : tie.Need-returns-3
 returns-3 c =
     let k = c .before in
     let s = k .before .before in
-    one-marked _ _ (λ i. k .slice-known .given i .fits) (s .pre .0) (s .args .b) (s .pre .1) (k .before .if1 .left) (c .if2 .left)
+    one-seen _ _ (λ i. k .slice-known .given i .fits) (s .pre .0) (s .args .b) (s .pre .1) (k .before .if1 .left) (c .if2 .left)
 
-pub mark-block-spec : {M : Type 1} → statement M
-mark-block-spec =
+pub see-block-spec : {M : Type 1} → statement M
+see-block-spec =
     tie.close
     (tie.spec
     returns (λ c. search needs) (λ c. search needs) (λ c. search needs) returns-2 (λ c. search needs) (λ c. search needs) returns-3)

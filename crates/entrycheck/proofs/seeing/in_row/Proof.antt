@@ -1,4 +1,4 @@
--- `entrycheck::marks::in_row` meets its contract. Assumes nothing.
+-- `entrycheck::seeing::in_row` meets its contract. Assumes nothing.
 use mathlib.Core.Bool.{true≢false}
 use mathlib.Core.Path.{ap, subst, sym, _∙_, _≡_}
 use Prim.Native.Nat.{_%_, _*_, _+_, _/_, _<_}
@@ -6,8 +6,8 @@ use native.Mathlib.Omega.{arith}
 use borrow.Author.Tests.{eqb-true}
 use borrow.Author.Needs.{needs}
 use Rattle.entrycheck.proofs.InRow.{in-a-row}
-use Rattle.entrycheck.proofs.marks.in_row.Statement.{statement}
-use Rattle.entrycheck.proofs.marks.in_row.Tie as tie
+use Rattle.entrycheck.proofs.seeing.in_row.Statement.{statement}
+use Rattle.entrycheck.proofs.seeing.in_row.Tie as tie
 
 returns : tie.Need-returns
 returns c = λ e. absurd (true≢false (sym e))

@@ -1,4 +1,4 @@
--- The steps of the marking: one page, four pages, and the masks of what is left. Assumes nothing.
+-- Blocks that become seen, one page and four pages at a time, and the masks of what is left. Assumes nothing.
 use mathlib.Core.Bool.{Bool, false, true, true≢false}
 use mathlib.Core.List.{List}
 use mathlib.Core.Path.{ap, refl, subst, sym, _∙_, _≡_}
@@ -14,12 +14,12 @@ use Rattle.masks.specs.Pages.{pages}
 use Rattle.entrycheck.proofs.MovedPages.{moved-left, moved-none, moved-then, row-fails, row-moved, without}
 use Rattle.entrycheck.proofs.PageBits.{cleared-pages, four-cleared, lowest-cleared, rest, rows-on}
 use Rattle.entrycheck.proofs.Runs.{runPass}
-use Rattle.entrycheck.specs.Marking.{Marks, Pass}
+use Rattle.entrycheck.specs.Seeing.{Sees, Pass}
 use Rattle.entrycheck.specs.Moving.{FourInARow, Full, Moved, RowMoved, blockAt, noPage, rows}
 use Rattle.packing.specs.Bitmap.{isOne}
 use Rattle.packing.specs.Bits.{bit, bit-none}
 use Rattle.packing.specs.Words.{getWord}
-use Rattle.entrycheck.specs.declared.marks.Left.{Left}
+use Rattle.entrycheck.specs.declared.seeing.Left.{Left}
 
 -- ---- one page
 
@@ -38,7 +38,7 @@ module _ (limit : ℕ) (t : List ℕ) (at : ℕ) (l₀ l l′ : List ℕ) (m lef
       ap (blockAt t at) c ∙ sym (d ∙ e)
 
   -- LAW: its block becomes seen
-  pub page-next : Marks (runPass limit b 1) l l′ true → Moved limit (blockAt t at) l₀ l′ (pages m) (pages (bitAnd left (left - 1))) true
+  pub page-next : Sees (runPass limit b 1) l l′ true → Moved limit (blockAt t at) l₀ l′ (pages m) (pages (bitAnd left (left - 1))) true
   page-next s =
       moved-then limit (blockAt t at) l₀ l l′ (pages m) (pages left) _ true inv
       (moved-left limit (blockAt t at) l l′ (pages left) (without (63 - k) 1 (pages left)) _ true
@@ -46,7 +46,7 @@ module _ (limit : ℕ) (t : List ℕ) (at : ℕ) (l₀ l l′ : List ℕ) (m lef
       (row-moved limit (blockAt t at) l l′ (pages left) (63 - k) 1 b (omega (arith, lowest .0)) on row s))
 
   -- LAW: it cannot
-  pub page-not : Marks (runPass limit b 1) l l′ false → Moved limit (blockAt t at) l₀ l′ (pages m) noPage false
+  pub page-not : Sees (runPass limit b 1) l l′ false → Moved limit (blockAt t at) l₀ l′ (pages m) noPage false
   page-not s =
       let r = moved-then limit (blockAt t at) l₀ l l′ (pages m) (pages left) (pages left) false inv
       (row-fails limit (blockAt t at) l l′ (pages left) (63 - k) 1 b (omega (arith, lowest .0)) on row s) in
@@ -80,12 +80,12 @@ module _ (limit : ℕ) (t : List ℕ) (at : ℕ) (l l′ : List ℕ) (m k : ℕ)
         let c : at + (60 - k + j) * 2 ≡ at + (60 - k) * 2 + j * 2 = omega arith in
         ap (λ a. getWord 1 t a % 4096) c ∙ r .row j q ∙ ap (λ a. getWord 1 t a % 4096 + j) (add-zero (at + (60 - k) * 2)) ∙ ap (λ z. z + j) (sym e)
 
-    -- LAW: one of their blocks cannot be marked
-    pub row-no : Marks (runPass limit b 4) l l′ false → RowMoved limit (blockAt t at) l l′ m k (record { ok = false; pages = m })
+    -- LAW: one of their blocks is seen already, or is not below the limit
+    pub row-no : Sees (runPass limit b 4) l l′ false → RowMoved limit (blockAt t at) l l′ m k (record { ok = false; pages = m })
     row-no s = record { moved = row-fails limit (blockAt t at) l l′ (pages m) (60 - k) 4 b (omega arith) four-on four-row s; others = λ j q o. refl }
 
     -- LAW: their blocks become seen
-    pub row-yes : Marks (runPass limit b 4) l l′ true → RowMoved limit (blockAt t at) l l′ m k (record { ok = true; pages = rest m k hk })
+    pub row-yes : Sees (runPass limit b 4) l l′ true → RowMoved limit (blockAt t at) l l′ m k (record { ok = true; pages = rest m k hk })
     row-yes s = record {
       moved = moved-left limit (blockAt t at) l l′ (pages m) (without (60 - k) 4 (pages m)) (pages (rest m k hk)) true
           (cleared-pages m (rest m k hk) k 4 (omega arith) (four-cleared m k hk))
@@ -127,5 +127,5 @@ module _ (q left k : ℕ) (h : 0 < q) (lt : q < 2 ^ 64) (w : Whole q left) (z : 
 pub room-of : (t : List ℕ) (at b : ℕ) → FourInARow t at → b ≡ getWord 1 t at % 4096 → b % 64 < 61
 room-of t at b r e = subst (λ z. z % 64 < 61) (ap (λ a. getWord 1 t a % 4096) (add-zero at) ∙ sym e) (r .room)
 
-pub as-said : (pass : Pass) (l l′ : List ℕ) (ok o : Bool) → ok ≡ o → Marks pass l l′ ok → Marks pass l l′ o
-as-said pass l l′ ok o e m = subst (Marks pass l l′) e m
+pub as-said : (pass : Pass) (l l′ : List ℕ) (ok o : Bool) → ok ≡ o → Sees pass l l′ ok → Sees pass l l′ o
+as-said pass l l′ ok o e m = subst (Sees pass l l′) e m

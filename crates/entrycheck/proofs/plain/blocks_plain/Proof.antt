@@ -1,4 +1,4 @@
--- `entrycheck::kinds::blocks_plain` meets its contract. The loop's invariant: the two words have the bits of the first i entries. Assumes nothing.
+-- `entrycheck::plain::blocks_plain` meets its contract. The loop's invariant: the two words have the bits of the first i entries. Assumes nothing.
 use mathlib.Core.Path.{ap, subst, sym, _∙_, _≡_}
 use Prim.Native.Nat.{_≤_, _<_, _-_}
 use native.Mathlib.Omega.{arith}
@@ -6,8 +6,8 @@ use lib.Bits.{bitOr, or-lt}
 use Rattle.base.specs.Count.{all}
 use Rattle.entrycheck.specs.Plain.{plainAt}
 use Rattle.entrycheck.proofs.PlainBlocks.{clean, clean-end, clean-more, clean-none, clean-not, unless-lt}
-use Rattle.entrycheck.proofs.kinds.blocks_plain.Statement.{statement}
-use Rattle.entrycheck.proofs.kinds.blocks_plain.Tie as tie
+use Rattle.entrycheck.proofs.plain.blocks_plain.Statement.{statement}
+use Rattle.entrycheck.proofs.plain.blocks_plain.Tie as tie
 
 abbrev Inv-loop : tie.InvT-loop
 Inv-loop t at any₀ plain₀ i₀ any plain i = (i ≤ 64) × (any < 65536) × (plain < 65536) × (clean any plain ≡ all i (plainAt t at))

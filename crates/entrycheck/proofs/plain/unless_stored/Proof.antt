@@ -1,8 +1,8 @@
--- `entrycheck::kinds::unless_stored` meets its contract. Assumes nothing.
+-- `entrycheck::plain::unless_stored` meets its contract. Assumes nothing.
 use Prim.Native.Nat.{_%_}
 use borrow.Author.Tests.{le-ltb, lt-ltb}
-use Rattle.entrycheck.proofs.kinds.unless_stored.Statement.{statement}
-use Rattle.entrycheck.proofs.kinds.unless_stored.Tie as tie
+use Rattle.entrycheck.proofs.plain.unless_stored.Statement.{statement}
+use Rattle.entrycheck.proofs.plain.unless_stored.Tie as tie
 
 returns : tie.Need-returns
 returns c = rw (lt-ltb (c .before .args .e % 256) 128 (c .if1 .taken))

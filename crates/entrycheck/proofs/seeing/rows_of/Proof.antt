@@ -1,8 +1,8 @@
--- `entrycheck::marks::rows_of` meets its contract. Assumes nothing.
+-- `entrycheck::seeing::rows_of` meets its contract. Assumes nothing.
 use borrow.Author.Needs.{needs}
 use Rattle.entrycheck.specs.Moving.{rows}
-use Rattle.entrycheck.proofs.marks.rows_of.Statement.{statement}
-use Rattle.entrycheck.proofs.marks.rows_of.Tie as tie
+use Rattle.entrycheck.proofs.seeing.rows_of.Statement.{statement}
+use Rattle.entrycheck.proofs.seeing.rows_of.Tie as tie
 
 returns : tie.Need-returns
 unfolding rows

@@ -1,10 +1,10 @@
--- `entrycheck::marks::block_of` meets its contract. Assumes nothing.
+-- `entrycheck::seeing::block_of` meets its contract. Assumes nothing.
 use mathlib.Core.Path.{_∙_}
 use native.Mathlib.Omega.{arith}
 use borrow.Author.Needs.{needs}
 use Rattle.masks.proofs.LowWords.{low-block}
-use Rattle.entrycheck.proofs.marks.block_of.Statement.{statement}
-use Rattle.entrycheck.proofs.marks.block_of.Tie as tie
+use Rattle.entrycheck.proofs.seeing.block_of.Statement.{statement}
+use Rattle.entrycheck.proofs.seeing.block_of.Tie as tie
 
 returns : tie.Need-returns
 returns c =

@@ -46,31 +46,31 @@ unfolding through
 through-more n pass seen = refl
 
 -- an entry that names a block makes it seen
-abbrev pub markNamed : ℕ → Entry ℕ → Pass
-markNamed limit unmapped seen = some seen
-markNamed limit hole seen = some seen
-markNamed limit (stored b) seen = cond (ltb b limit && not (seen b)) (some (upd seen b true)) none
+abbrev pub seeNamed : ℕ → Entry ℕ → Pass
+seeNamed limit unmapped seen = some seen
+seeNamed limit hole seen = some seen
+seeNamed limit (stored b) seen = cond (ltb b limit && not (seen b)) (some (upd seen b true)) none
 
 -- one entry, by its word
-unfoldable pub markEntry : ℕ → ℕ → Pass
-markEntry limit w seen = cond (entryFormed [] w) (markNamed limit (readEntry w) seen) none
+unfoldable pub seeEntry : ℕ → ℕ → Pass
+seeEntry limit w seen = cond (entryFormed [] w) (seeNamed limit (readEntry w) seen) none
 
 module _ (limit : ℕ) (t : List ℕ) where
   -- the entries of file f in set s
-  unfoldable pub markFile : ℕ → ℕ → Pass
-  markFile f s = through pageCount (λ p. markEntry limit (entryWord t f s p))
+  unfoldable pub seeFile : ℕ → ℕ → Pass
+  seeFile f s = through pageCount (λ p. seeEntry limit (entryWord t f s p))
 
   -- the files of number f
-  unfoldable pub markNumber : ℕ → Pass
-  markNumber f = through setCount (λ s. markFile f s)
+  unfoldable pub seeNumber : ℕ → Pass
+  seeNumber f = through setCount (λ s. seeFile f s)
 
   -- all files
-  unfoldable pub markAll : Pass
-  markAll = through fileCount (λ f. markNumber f)
+  unfoldable pub seeAll : Pass
+  seeAll = through fileCount (λ f. seeNumber f)
 
   -- the files before file f in set s: those of lower numbers, and of number f those of lower sets
-  unfoldable pub markTo : ℕ → ℕ → Pass
-  markTo f s seen = andThen (through f (λ f. markNumber f) seen) (through s (λ s. markFile f s))
+  unfoldable pub seeTo : ℕ → ℕ → Pass
+  seeTo f s seen = andThen (through f (λ f. seeNumber f) seen) (through s (λ s. seeFile f s))
 
 beq-is : (a b : Bool) → Bool·beq a b ≡ true → a ≡ b
 beq-is true true h = refl
@@ -103,19 +103,19 @@ formedBy t (some seen) = sameBits t seen
 
 -- every entry passes, and the blocks seen at the end are those whose bits are 1
 unfoldable pub entriesFormed : List ℕ → Bool
-entriesFormed t = formedBy t (markAll (unpack t .blocks) t noneSeen)
+entriesFormed t = formedBy t (seeAll (unpack t .blocks) t noneSeen)
 
 -- what a pass gives, where ok says whether every entry passes
 abbrev pub outcome : Bool → Seen → Option Seen
 outcome ok seen = cond ok (some seen) none
 
 -- the map of the blocks seen becomes seen′ by the pass
-pub record Marks (pass : Pass) (seen seen′ : List ℕ) (ok : Bool) : Type 0 where
-  pub marks : pass (bitAt seen 0) ≡ outcome ok (bitAt seen′ 0)
+pub record Sees (pass : Pass) (seen seen′ : List ℕ) (ok : Bool) : Type 0 where
+  pub sees : pass (bitAt seen 0) ≡ outcome ok (bitAt seen′ 0)
   pub len : length seen′ ≡ 512
 
 -- the entries of file f in set s: what is seen, and which pages are stored and which unmapped
-pub record FileMarked (limit : ℕ) (t : List ℕ) (f s : ℕ) (seen seen′ : List ℕ) (r : Masks) : Type 0 where
-  pub marked : Marks (markFile limit t f s) seen seen′ (r .ok)
+pub record FileSeen (limit : ℕ) (t : List ℕ) (f s : ℕ) (seen seen′ : List ℕ) (r : Masks) : Type 0 where
+  pub passes : Sees (seeFile limit t f s) seen seen′ (r .ok)
   pub stored-is : r .ok ≡ true → r .stored ≡ pageMask isStored (unpack t .files f s .map)
   pub unmapped-is : r .ok ≡ true → r .unmapped ≡ pageMask isUnmapped (unpack t .files f s .map)

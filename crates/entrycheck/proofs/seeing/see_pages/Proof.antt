@@ -1,4 +1,4 @@
--- `entrycheck::marks::mark_pages` meets its contract. The loop's invariant: the blocks of the pages that are no longer left are seen. Assumes nothing.
+-- `entrycheck::seeing::see_pages` meets its contract. The loop's invariant: the blocks of the pages that are no longer left are seen. Assumes nothing.
 use mathlib.Core.Bool.{true}
 use Prim.Native.Nat.{_<_, _^_}
 use native.Mathlib.Omega.{arith}
@@ -6,10 +6,10 @@ use borrow.Author.Tests.{not-false, not-true}
 use Rattle.masks.proofs.LowestBit.{less, less-lt}
 use Rattle.masks.specs.Pages.{pages}
 use Rattle.entrycheck.proofs.MovedPages.{moved-none}
-use Rattle.entrycheck.proofs.RowMarks.{as-said, page-next, page-not, pages-done}
+use Rattle.entrycheck.proofs.RowSteps.{as-said, page-next, page-not, pages-done}
 use Rattle.entrycheck.specs.Moving.{Moved, blockAt}
-use Rattle.entrycheck.proofs.marks.mark_pages.Statement.{statement}
-use Rattle.entrycheck.proofs.marks.mark_pages.Tie as tie
+use Rattle.entrycheck.proofs.seeing.see_pages.Statement.{statement}
+use Rattle.entrycheck.proofs.seeing.see_pages.Tie as tie
 
 abbrev Inv-loop : tie.InvT-loop
 Inv-loop t seen₀ at m limit left₀ seen left = (left < 2 ^ 64) × Moved limit (blockAt t at) seen₀ seen (pages m) (pages left) true
@@ -20,12 +20,12 @@ abbrev μ-loop : tie.MeasureT-loop
 loop-holds : tie.Need-loop-holds Inv-loop μ-loop
 loop-holds c = (omega arith, moved-none _ _ _ _ (c .before .pre .1))
 
-mark-block-requires : tie.Need-mark-block-requires Inv-loop μ-loop
-mark-block-requires c κs = (c .before .before .before .before .loop .inv .1 .len, c .block-of .ensures .1)
+see-block-requires : tie.Need-see-block-requires Inv-loop μ-loop
+see-block-requires c κs = (c .before .before .before .before .loop .inv .1 .len, c .block-of .ensures .1)
 
 returns : tie.Need-returns Inv-loop μ-loop
 returns c =
-    let f = c .before .mark-block in
+    let f = c .before .see-block in
     let b = c .before .before .block-of in
     let z = c .before .before .before .before .lowest in
     let l = c .before .before .before .before .before .before .loop in
@@ -37,7 +37,7 @@ loop-less c = less (c .before .before .before .before .before .before .loop .lef
 
 loop-again : tie.Need-loop-again Inv-loop μ-loop
 loop-again c =
-    let f = c .before .mark-block in
+    let f = c .before .see-block in
     let b = c .before .before .block-of in
     let z = c .before .before .before .before .lowest in
     let l = c .before .before .before .before .before .before .loop in (
@@ -49,9 +49,9 @@ loop-again c =
 returns-2 : tie.Need-returns-2 Inv-loop μ-loop
 returns-2 c = let l = c .before .loop in pages-done _ _ _ _ _ _ (l .left) (omega arith) (l .inv .1)
 
-pub mark-pages-spec : {M : Type 1} → statement M
-mark-pages-spec =
+pub see-pages-spec : {M : Type 1} → statement M
+see-pages-spec =
     tie.close
     (tie.spec
     Inv-loop μ-loop loop-holds (λ c κs. omega arith) (λ c. omega arith) (λ c. omega arith) (λ c. omega arith) (λ c κs. omega arith)
-    mark-block-requires returns (λ c. omega arith) loop-less loop-again returns-2)
+    see-block-requires returns (λ c. omega arith) loop-less loop-again returns-2)
