@@ -68,7 +68,7 @@ own-root k n u every root r e = rw (e, not-false root r) (sym (not-not (eqb u 0)
 zero-field : (w : ℕ) → getField headWidths w 2 ≡ w % 16384
 zero-field w = omega arith
 
-size-field : (w : ℕ) → readSize w ≡ w / 16384 % 65536
+pub size-field : (w : ℕ) → readSize w ≡ w / 16384 % 65536
 unfolding readSize
 size-field w = omega arith
 
@@ -120,6 +120,14 @@ module _ (w u : ℕ) (used root : Bool) where
   head-zero z =
       head-absent (ap (λ x. x % 16384) z) 0 0 (sym (ap (λ x. x / 1073741824) z)) (sym (ap (λ x. x / 16384 % 65536) z)) (eqb u 18446744073709551615) refl refl
 
+-- LAW: the head of a virgin file of size 0, whose entries are all unmapped
+pub head-virgin : (used root : Bool) → headFormed 2147483648 18446744073709551615 used root ≡ (used && not root)
+unfolding headFormed aloneFormed stateFormed readSize
+head-virgin true true = refl
+head-virgin true false = refl
+head-virgin false true = refl
+head-virgin false false = refl
+
 -- ---- a file of the tables
 -- LAW: some page is unmapped where the mask is not 0
 pub some-unmapped : (u : ℕ) (map : ℕ → Entry ℕ) → u ≡ pageMask isUnmapped map → not (eqb u 0) ≡ someUnmapped 64 map
@@ -134,7 +142,7 @@ module _ (t : List ℕ) (f s w u : ℕ) (lf : f < 16) (ls : s < 8) (e : w ≡ he
   unfolding readState
   state-is = ap readState e ∙ sym (read-state t f s lf ls)
 
-  size-is : readSize w ≡ unpack t .files f s .size
+  pub size-is : readSize w ≡ unpack t .files f s .size
   size-is = ap readSize e ∙ sym (read-size t f s lf ls)
 
   head-is : headFormed w u (unpack t .sets s .used) (eqb s 0) ≡ fileAlone t f s

@@ -14,7 +14,7 @@ use Rattle.masks.proofs.PageMasks.{mask-all, mask-none}
 use Rattle.entrycheck.specs.Seeing.{Seen, andThen, seeEntry, seeFile, seeNamed, through, through-more, through-none}
 use Rattle.masks.specs.Pages.{pageMask}
 use Rattle.formed.proofs.AloneRules.{alone-zero}
-use Rattle.formed.specs.Files.{fileAlone}
+use Rattle.formed.specs.Files.{endOf, fileAlone}
 use Rattle.formed.specs.Pass.{BlankFrom, UnusedFrom, onlyIf, passFile, passSets}
 use Rattle.packing.specs.Words.{Bytes}
 use Rattle.packing.specs.Zeros.{zero-at, zero-of, zeroBytes}
@@ -77,6 +77,10 @@ module _ (t : List ℕ) (n : ℕ) (b : BlankFrom t n) (f s : ℕ) (lf : f < 16) 
   pub blank-alone : fileAlone t f s ≡ true
   blank-alone =
       sym (alone-zero t f s (headWord t f s) (pageMask isUnmapped (unpack t .files f s .map)) lf ls refl refl (head-zero t f s lf ls zeros)) ∙ every-page
+
+  pub blank-end : endOf (unpack t .files f s .state) (unpack t .files f s .size) ≡ 64
+  unfolding endOf
+  blank-end = ap (λ (x : File ℕ). endOf (x .state) (x .size)) absent-here
 
   pub blank-dead : live (unpack t .files f s .state) ≡ false
   blank-dead = ap (λ (x : File ℕ). live (x .state)) absent-here

@@ -3,6 +3,6 @@ pub mod Resolved
 pub mod Past
 pub mod LinkedRules
 pub mod Blank
-pub mod Places
+pub mod PlaceDigits
 pub mod Passes
 pub mod Whole

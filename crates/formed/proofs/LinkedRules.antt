@@ -11,7 +11,7 @@ use lib.Dec.{eqb, ltb}
 use lib.ListN.{getD, length, length-set, set}
 use lib.Pow.{pow-pos}
 use lib.Seq.{getD-set-other, getD-set-same}
-use borrow.Author.Tests.{eq-eqb, eqb-true, ne-eqb, not-false, not-true}
+use borrow.Author.Tests.{eq-eqb, eqb-true, le-ltb, lt-ltb, ltb-false, ltb-true, ne-eqb, not-false, not-true}
 use Rattle.base.specs.Count.{all, all-not, all-of}
 use Rattle.base.specs.Logic.{and-false, and-right, same?, test?}
 use Rattle.masks.proofs.LowestBit.{Lowest, lowest-is}
@@ -20,7 +20,7 @@ use Rattle.masks.specs.Pages.{pageMask}
 use Rattle.formed.proofs.AloneRules.{some-unmapped}
 use Rattle.formed.proofs.Past.{past-none, past-shift}
 use Rattle.formed.proofs.Resolved.{resolved-above, resolved-own}
-use Rattle.formed.specs.Files.{LinkDecided, Numbered, fileAlone, fileLinked, placeDigit, placeOf, resolvedMask}
+use Rattle.formed.specs.Files.{LinkDecided, Numbered, endOf, endsBefore, fileAlone, fileLinked, placeDigit, placeOf, resolvedMask}
 use Rattle.maps.proofs.OutOfRange.{state-out}
 use Rattle.packing.specs.Bitmap.{isOne}
 use Rattle.packing.specs.Bits.{bit, bit-none, bit-suc, bit-zero}
@@ -49,8 +49,8 @@ below-lowest (suc n) m j h =
     (λ e. even-below m (trailingZeros n (m / 2)) j e (subst (λ d. j < under d (trailingZeros n (m / 2))) e h) (λ i l. below-lowest n (m / 2) i l))
     (λ e. let o : m % 2 ≡ 1 = omega arith in absurd (none-below (trailingZeros n (m / 2)) j (subst (λ d. j < under d (trailingZeros n (m / 2))) o h)))
 
--- a number cut down to one digit
-and-digit : (n k : ℕ) → bitAnd n (2 ^ k) ≡ bit n k * 2 ^ k
+-- LAW: a number cut down to one digit
+pub and-digit : (n k : ℕ) → bitAnd n (2 ^ k) ≡ bit n k * 2 ^ k
 unfolding bit
 and-digit n k =
     let q : 1 + k ≡ suc k = omega arith in
@@ -95,26 +95,43 @@ module _ (t : List ℕ) (f s : ℕ) (h : fileAlone t f s ≡ true) (lv : live (u
       eqb-true (pageMask isUnmapped (file .map)) 0 (not-false (eqb (pageMask isUnmapped (file .map)) 0) (mask-some (file .map) ∙ not-true (someUnmapped 64 (file .map)) n))
 
 -- ---- the pages past the size
-module _ (t : List ℕ) (f s : ℕ) (l : State) (el : l ≡ unpack t .files f s .state) where
-  pub past-other : (a : Bool) → a ≡ isOwn l → not a ≡ true → true ≡ pastFormed (unpack t) f s
-  unfolding pastFormed
-  past-other a e h = rw (← el, ← e, not-true a h)
+-- LAW: there is none
+pub ends-all : (k m : ℕ) → 64 ≤ k → true ≡ endsBefore k m
+unfolding endsBefore
+ends-all k m h = sym (ap (λ b. cond b (eqb (m * 2 ^ k % 2 ^ 64) 0) true) (le-ltb k 64 h))
 
-  module _ (a : Bool) (e : a ≡ isOwn l) (h : not a ≡ false) (n : ℕ) (en : n ≡ unpack t .files f s .size) where
-    own-past : all 64 (λ p. ltb (p * 512) n || not (isStored (resolve (treeOf (unpack t .sets)) (unpack t .files f) s p))) ≡ pastFormed (unpack t) f s
+-- LAW: there are some
+pub ends-shift : (k m : ℕ) → k < 64 → eqb (m * 2 ^ k % 2 ^ 64) 0 ≡ endsBefore k m
+unfolding endsBefore
+ends-shift k m h = sym (ap (λ b. cond b (eqb (m * 2 ^ k % 2 ^ 64) 0) true) (lt-ltb k 64 h))
+
+module _ (t : List ℕ) (f s k m : ℕ) (ek : k ≡ endOf (unpack t .files f s .state) (unpack t .files f s .size)) (em : m ≡ resolvedMask t f s) where
+  past-other : isOwn (unpack t .files f s .state) ≡ false → endsBefore k m ≡ pastFormed (unpack t) f s
+  unfolding pastFormed endOf
+  past-other h = let e : k ≡ 64 = ek ∙ ap (λ b. cond b ((unpack t .files f s .size + 511) / 512) 64) h in sym (ends-all k m (omega arith)) ∙ rw h
+
+  module _ (h : isOwn (unpack t .files f s .state) ≡ true) where
+    own-past : all 64 (λ p. ltb (p * 512) (unpack t .files f s .size) || not (isStored (resolve (treeOf (unpack t .sets)) (unpack t .files f) s p))) ≡ pastFormed (unpack t) f s
     unfolding pastFormed allPages
-    own-past = rw (← el, ← e, not-false a h, ← en)
+    own-past = rw h
 
-    -- k is the first page wholly past the size
-    module _ (k : ℕ) (ek : k ≡ (n + 511) / 512) where
-      pub past-all : 64 ≤ k → true ≡ pastFormed (unpack t) f s
-      past-all h = past-none (λ p. isStored (resolve (treeOf (unpack t .sets)) (unpack t .files f) s p)) n (subst (λ x. 64 ≤ x) ek h) ∙ own-past
+    own-end : k ≡ (unpack t .files f s .size + 511) / 512
+    unfolding endOf
+    own-end = ek ∙ ap (λ b. cond b ((unpack t .files f s .size + 511) / 512) 64) h
 
-      pub past-mask : (m : ℕ) → k < 64 → m ≡ pageMask isStored (resolve (treeOf (unpack t .sets)) (unpack t .files f) s) → eqb (m * 2 ^ k % 2 ^ 64) 0 ≡ pastFormed (unpack t) f s
-      past-mask m h q = past-shift (λ p. isStored (resolve (treeOf (unpack t .sets)) (unpack t .files f) s p)) m k n q ek h ∙ own-past
+    past-own : endsBefore k m ≡ pastFormed (unpack t) f s
+    past-own =
+        let g : ℕ → Bool = λ p. isStored (resolve (treeOf (unpack t .sets)) (unpack t .files f) s p) in
+        test? (ltb k 64)
+        (λ e. let l = ltb-true k 64 e in sym (ends-shift k m l) ∙ past-shift g m k (unpack t .files f s .size) em own-end l ∙ own-past)
+        (λ e. let l = ltb-false k 64 e in sym (ends-all k m l) ∙ past-none g (unpack t .files f s .size) (subst (λ x. 64 ≤ x) own-end l) ∙ own-past)
+
+  -- LAW: "In an own file, no page wholly past the size resolves to stored."
+  past-ends : endsBefore k m ≡ pastFormed (unpack t) f s
+  past-ends = test? (isOwn (unpack t .files f s .state)) past-own past-other
 
 -- ---- file f of set s, which is live
-module _ (t : List ℕ) (f s : ℕ) (digits parents stored unmapped : List ℕ) (lives : ℕ) (k : Numbered t f digits parents stored unmapped lives) where
+module _ (t : List ℕ) (f s : ℕ) (digits parents stored unmapped ends : List ℕ) (lives : ℕ) (k : Numbered t f digits parents stored unmapped ends lives) where
   -- LAW: is the file of set x live
   live-digit : (x : ℕ) → x < 8 → not (eqb (bitAnd lives (getD digits x 0)) 0) ≡ live (unpack t .files f x .state)
   unfolding placeDigit
@@ -156,12 +173,20 @@ module _ (t : List ℕ) (f s : ℕ) (digits parents stored unmapped : List ℕ) 
     above-mapped h = rw (← some-is, eq-eqb u 0 h, and-false (live (unpack t .files f s .state)))
 
     -- LAW: no page is unmapped
-    pub mapped-mask : u ≡ 0 → getD stored s 0 ≡ resolvedMask t f s
+    mapped-mask : u ≡ 0 → getD stored s 0 ≡ resolvedMask t f s
     mapped-mask h = k .masks .stored-are s ls ∙ resolved-own (unpack t .sets) (unpack t .files f) s (sym unmapped-is ∙ h)
 
-    pub mapped-decided : u ≡ 0 → (resolved resolved′ : List ℕ) (r : Bool) → (r ≡ pastFormed (unpack t) f s) × (resolved′ ≡ set resolved s (resolvedMask t f s))
-        → LinkDecided t f s resolved resolved′ r
-    mapped-decided h resolved resolved′ r e = record { decided = linked-by true r r (above-mapped h) (e .0) refl; kept = λ o. e .1 }
+    -- the pages m that resolve to stored are kept, and those past the size decide
+    by-mask : (m : ℕ) → m ≡ resolvedMask t f s → true ≡ aboveFormed (unpack t) f s → (resolved resolved′ : List ℕ) (r : Bool)
+        → (r ≡ endsBefore (getD ends s 0) m) × (resolved′ ≡ set resolved s m) → LinkDecided t f s resolved resolved′ r
+    by-mask m em a resolved resolved′ r e = record {
+      decided = linked-by true r r a (e .0 ∙ past-ends t f s (getD ends s 0) m (k .ends-are .ends-are s ls) em) refl;
+      kept = λ o. e .1 ∙ ap (set resolved s) em;
+    }
+
+    pub mapped-decided : u ≡ 0 → (resolved resolved′ : List ℕ) (r : Bool)
+        → (r ≡ endsBefore (getD ends s 0) (getD stored s 0)) × (resolved′ ≡ set resolved s (getD stored s 0)) → LinkDecided t f s resolved resolved′ r
+    mapped-decided h = by-mask (getD stored s 0) (mapped-mask h) (above-mapped h)
 
     -- LAW: some page is unmapped; x is the parent set
     module _ (n : u ≡ 0 → ⊥) (x : ℕ) (ep : x ≡ getD parents s 0) where
@@ -188,7 +213,7 @@ module _ (t : List ℕ) (f s : ℕ) (digits parents stored unmapped : List ℕ) 
         live-above : live (unpack t .files f x .state) ≡ true
         live-above = sym (live-digit x lx) ∙ ap not (ne-eqb (bitAnd lives (getD digits x 0)) 0 e)
 
-        pub above-mask : bitOr (getD stored s 0) (bitAnd u (getD resolved x 0)) ≡ resolvedMask t f s
+        above-mask : bitOr (getD stored s 0) (bitAnd u (getD resolved x 0)) ≡ resolvedMask t f s
         above-mask = same? (unpack t .sets s .level) 0
             (λ z. absurd (n (unmapped-is ∙ root-mapped t f s (k .alone s ls) lv (k .falling .one-root s ls (live-used t f s (k .alone s ls) lv) z))))
             (λ z.
@@ -200,9 +225,10 @@ module _ (t : List ℕ) (f s : ℕ) (digits parents stored unmapped : List ℕ) 
             ∙ ap (λ y. bitOr (pageMask isStored (unpack t .files f s .map)) (bitAnd (pageMask isUnmapped (unpack t .files f s .map)) y)) a
             ∙ resolved-above (unpack t .sets) (unpack t .files f) s n q (k .falling .falls s n ls q .1))
 
-        pub above-decided : (resolved′ : List ℕ) (r : Bool) → (r ≡ pastFormed (unpack t) f s) × (resolved′ ≡ set resolved s (resolvedMask t f s))
+        pub above-decided : (resolved′ : List ℕ) (r : Bool)
+            → (r ≡ endsBefore (getD ends s 0) (bitOr (getD stored s 0) (bitAnd u (getD resolved x 0)))) × (resolved′ ≡ set resolved s (bitOr (getD stored s 0) (bitAnd u (getD resolved x 0))))
             → LinkDecided t f s resolved resolved′ r
-        above-decided resolved′ r d = record { decided = linked-by true r r (sym live-above ∙ from-parent) (d .0) refl; kept = λ o. d .1 }
+        above-decided = by-mask (bitOr (getD stored s 0) (bitAnd u (getD resolved x 0))) above-mask (sym live-above ∙ from-parent) resolved
 
 -- ---- all sets
 -- the files of the sets whose digits are not left have been looked at
@@ -213,7 +239,7 @@ pub record Linking (t : List ℕ) (f lives : ℕ) (resolved : List ℕ) (left : 
   pub done : (s : ℕ) → s < 8 → live (unpack t .files f s .state) ≡ true → isOne (bit left (placeOf (unpack t .sets) s)) ≡ false
       → (fileLinked t f s ≡ true) × (getD resolved s 0 ≡ resolvedMask t f s)
 
-module _ (t : List ℕ) (f : ℕ) (digits parents stored unmapped : List ℕ) (lives : ℕ) (k : Numbered t f digits parents stored unmapped lives) where
+module _ (t : List ℕ) (f : ℕ) (digits parents stored unmapped ends : List ℕ) (lives : ℕ) (k : Numbered t f digits parents stored unmapped ends lives) where
   -- LAW: no file has been looked at
   pub linking-start : (resolved : List ℕ) → lives < 2 ^ 64 → length resolved ≡ 8 → Linking t f lives resolved lives
   linking-start resolved l len = record {

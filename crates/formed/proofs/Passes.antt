@@ -2,30 +2,33 @@
 use mathlib.Core.Bool.{_&&_, Bool, cond, false, not, true, true≢false}
 use mathlib.Core.List.{List}
 use mathlib.Core.Option.{Option, none, some}
-use mathlib.Core.Path.{ap, fun-ext, refl, subst, sym, _∙_, _≡_}
-use Prim.Native.Nat.{_+_, _/_, _<_, suc, zero, ℕ, _≤_}
+use mathlib.Core.Path.{ap, ap₂, fun-ext, refl, subst, sym, _∙_, _≡_}
+use Prim.Native.Nat.{_*_, _+_, _/_, _<_, suc, zero, ℕ, _≤_}
 use native.Mathlib.Omega.{arith}
-use lib.Bits.{bitOr}
+use lib.Bits.{bitAnd, bitOr, or-add-and, or-zero-r}
 use lib.ListN.{getD, length, length-set, set}
-use lib.Seq.{getD-set-other}
-use lib.Dec.{ltb}
-use borrow.Author.Tests.{ltb-false, ltb-true, not-false, not-true}
+use lib.Seq.{getD-set-other, set-getD}
+use lib.Dec.{eqb, ltb}
+use borrow.Author.Tests.{eq-eqb, ltb-false, ltb-true, ne-eqb, not-false, not-true}
 use Rattle.base.specs.Count.{all, all-more, all-none}
-use Rattle.base.specs.Logic.{same?, test?}
+use Rattle.base.specs.Logic.{and-false, same?, test?}
+use Rattle.packing.specs.Words.{low-eight, low-four}
+use Rattle.packing.specs.Words.{lowWord}
+use Rattle.packing.specs.Words.{getWord}
 use Rattle.entrycheck.proofs.Through.{through-next, through-refused}
 use Rattle.entrycheck.specs.declared.Masks.{Masks}
 use Rattle.entrycheck.specs.Seeing.{FileSeen, Sees, Pass, Seen, andThen, seeAll, seeFile, seeNumber, outcome, through, through-more, through-none}
 use Rattle.masks.specs.Pages.{pageMask}
-use Rattle.formed.specs.Files.{LivesTo, MasksTo, fileAlone, fileLinked, numberFormed, placeDigit, placeOf}
-use Rattle.formed.proofs.AloneRules.{state-is}
-use Rattle.formed.proofs.Blank.{blank-alone, blank-dead, blank-sets, blank-stored, blank-unmapped}
-use Rattle.formed.proofs.LinkedRules.{live-used}
-use Rattle.formed.proofs.Places.{lives-next, put-value, rest-next}
-use Rattle.formed.specs.Pass.{BlankFrom, EachIs, FilePassed, NumberPassed, onlyIf, passFile, passNumber, passSets}
+use Rattle.formed.specs.Files.{EndsTo, LivesTo, MasksTo, endOf, fileAlone, fileLinked, headFormed, numberFormed, placeDigit, placeOf}
+use Rattle.formed.proofs.AloneRules.{alone-head, head-virgin, head-zero, size-is, state-is}
+use Rattle.formed.proofs.Blank.{blank-alone, blank-dead, blank-end, blank-sets, blank-stored, blank-unmapped}
+use Rattle.formed.proofs.LinkedRules.{and-digit, live-used}
+use Rattle.formed.proofs.PlaceDigits.{digit-used, lives-next, put-value, rest-next}
+use Rattle.formed.specs.Pass.{BlankFrom, BlankPassed, EachIs, FilePassed, NumberPassed, onlyIf, passFile, passNumber, passSets}
 use Rattle.packing.specs.Bitmap.{bitAt, isOne}
-use Rattle.packing.specs.Bits.{bit, bit-none}
-use Rattle.rules.specs.State.{State, isStored, isUnmapped, live}
-use Rattle.tables.specs.Layout.{headWord, stateOf}
+use Rattle.packing.specs.Bits.{bit, bit-lt, bit-none}
+use Rattle.rules.specs.State.{State, isOwn, isStored, isUnmapped, live}
+use Rattle.tables.specs.Layout.{fileAt, headWord, readSize, stateOf}
 use Rattle.tables.specs.Packed.{unpack}
 
 -- ---- a pass that needs a test passed besides
@@ -49,57 +52,145 @@ module _ (b : Bool) (pass : Pass) (l l′ : List ℕ) (ok : Bool) (m : Sees pass
 
 -- ---- one file
 module _ (limit : ℕ) (t : List ℕ) (f s digit : ℕ) (seen seen′ : List ℕ) (m : Masks) (k : FileSeen limit t f s seen seen′ m)
-    (stored stored′ unmapped unmapped′ : List ℕ) (lives lives′ : ℕ) where
+    (stored stored′ unmapped unmapped′ ends ends′ : List ℕ) (lives lives′ : ℕ) where
   -- LAW: an entry does not pass
-  pub file-refused : not (m .ok) ≡ true → FilePassed limit t f s digit seen seen′ stored stored′ unmapped unmapped′ lives lives′ false
+  pub file-refused : not (m .ok) ≡ true → FilePassed limit t f s digit seen seen′ stored stored′ unmapped unmapped′ ends ends′ lives lives′ false
   unfolding passFile
   file-refused h = record {
     passes = only-refused (fileAlone t f s) (seeFile limit t f s) seen seen′ (m .ok) (k .passes) h;
     alone = λ q. absurd (true≢false (sym q));
     stored-is = λ q. absurd (true≢false (sym q));
     unmapped-is = λ q. absurd (true≢false (sym q));
+    ends-are = λ q. absurd (true≢false (sym q));
     lives-are = λ q. absurd (true≢false (sym q));
   }
 
   -- LAW: the entries pass, and the rules decide
   pub file-decided : (r : Bool) → not (m .ok) ≡ false → r ≡ fileAlone t f s → stored′ ≡ set stored s (m .stored) → unmapped′ ≡ set unmapped s (m .unmapped)
-      → lives′ ≡ bitOr lives (cond (live (unpack t .files f s .state)) digit 0) → FilePassed limit t f s digit seen seen′ stored stored′ unmapped unmapped′ lives lives′ r
+      → ends′ ≡ set ends s (endOf (unpack t .files f s .state) (unpack t .files f s .size))
+      → (r ≡ true → lives′ ≡ bitOr lives (cond (live (unpack t .files f s .state)) digit 0)) → FilePassed limit t f s digit seen seen′ stored stored′ unmapped unmapped′ ends ends′ lives lives′ r
   unfolding passFile
-  file-decided r h e a b c = record {
+  file-decided r h e a b d c = record {
     passes = only-decided (fileAlone t f s) (seeFile limit t f s) seen seen′ (m .ok) (k .passes) r h e;
     alone = λ q. sym e ∙ q;
     stored-is = λ q. a ∙ ap (set stored s) (k .stored-is (not-false (m .ok) h));
     unmapped-is = λ q. b ∙ ap (set unmapped s) (k .unmapped-is (not-false (m .ok) h));
-    lives-are = λ q. c;
+    ends-are = λ q. d;
+    lives-are = c;
   }
 
--- LAW: by the word w of the head and the mask u of the unmapped pages; x is the digit, if the file is live
-pub lives-by-head : (t : List ℕ) (f s digit lives w u x : ℕ) → f < 16 → s < 8 → w ≡ headWord t f s → u ≡ pageMask isUnmapped (unpack t .files f s .map)
-    → x ≡ cond (live (stateOf (w / 1073741824))) digit 0 → bitOr lives x ≡ bitOr lives (cond (live (unpack t .files f s .state)) digit 0)
-lives-by-head t f s digit lives w u x lf ls e d h = ap (bitOr lives) (h ∙ ap (λ (l : State). cond (live l) digit 0) (state-is t f s w u lf ls e d))
+-- by the word w of the head
+module _ (t : List ℕ) (f s w u : ℕ) (lf : f < 16) (ls : s < 8) (e : w ≡ headWord t f s) (d : u ≡ pageMask isUnmapped (unpack t .files f s .map)) where
+  -- LAW: x is the digit, if the file is live
+  pub lives-by-head : (digit lives x : ℕ) → x ≡ cond (live (stateOf (w / 1073741824))) digit 0 → bitOr lives x ≡ bitOr lives (cond (live (unpack t .files f s .state)) digit 0)
+  lives-by-head digit lives x h = ap (bitOr lives) (h ∙ ap (λ (l : State). cond (live l) digit 0) (state-is t f s w u lf ls e d))
+
+  -- LAW: x is the first page wholly past the size
+  pub ends-by-head : (ends : List ℕ) (x : ℕ) → x ≡ endOf (stateOf (w / 1073741824)) (readSize w)
+      → set ends s x ≡ set ends s (endOf (unpack t .files f s .state) (unpack t .files f s .size))
+  ends-by-head ends x h = ap (set ends s) (h ∙ ap₂ endOf (state-is t f s w u lf ls e d) (size-is t f s w u lf ls e d))
+
+-- ---- a file whose head is 0, or that of a virgin file of size 0; v is the first byte
+-- LAW: v by all its digits but one
+pub blank-head : (v : ℕ) → bitOr v 128 ≡ 128 → 0 < v → v ≡ 128
+blank-head v h p =
+    let a = or-add-and v 128 in
+    let b = and-digit v 7 in
+    let c = bit-lt v 7 in
+    omega arith
+
+-- the word of the head
+first-byte : (t : List ℕ) (at v : ℕ) → v ≡ lowWord 7 t at → (0 < v → v ≡ 128) → v * 16777216 ≡ getWord 3 t at
+unfolding getWord
+first-byte t at v e h =
+    let a = low-eight t at in
+    let b = low-four t at in
+    same? v 0 (λ z. omega arith) (λ z. let c : v ≡ 128 = h (omega arith) in omega arith)
+
+not-own : (v : ℕ) → (0 < v → v ≡ 128) → isOwn (stateOf (v * 16777216 / 1073741824)) ≡ false
+not-own v h = same? v 0
+    (λ z. ap (λ x. isOwn (stateOf (x * 16777216 / 1073741824))) z)
+    (λ z. ap (λ x. isOwn (stateOf (x * 16777216 / 1073741824))) (h (omega arith)))
+
+module _ (s digit v lives : ℕ) where
+  -- LAW: the file is absent
+  pub blank-absent : v ≡ 0 → BlankPassed s digit v lives lives true
+  blank-absent z = record {
+    decided = sym (eq-eqb 18446744073709551615 18446744073709551615 refl) ∙ head-zero (v * 16777216) 18446744073709551615 (not (eqb digit 0)) (eqb s 0) (ap (λ x. x * 16777216) z);
+    lives-are = λ o. sym (ap (λ x. bitOr lives (cond (live (stateOf (x * 16777216 / 1073741824))) digit 0)) z ∙ or-zero-r lives);
+  }
+
+  module _ (e : v ≡ 128) where
+    virgin-is : headFormed (v * 16777216) 18446744073709551615 (not (eqb digit 0)) (eqb s 0) ≡ (not (eqb digit 0) && not (eqb s 0))
+    virgin-is = ap (λ x. headFormed (x * 16777216) 18446744073709551615 (not (eqb digit 0)) (eqb s 0)) e ∙ head-virgin (not (eqb digit 0)) (eqb s 0)
+
+    -- LAW: it is virgin, in set 0
+    pub blank-root : s ≡ 0 → BlankPassed s digit v lives lives false
+    blank-root z = record {
+      decided = sym (virgin-is ∙ ap (λ b. not (eqb digit 0) && not b) (eq-eqb s 0 z) ∙ and-false (not (eqb digit 0)));
+      lives-are = λ o. absurd (true≢false (sym o));
+    }
+
+    -- LAW: it is virgin, in an unused set
+    pub blank-unused : digit ≡ 0 → BlankPassed s digit v lives lives false
+    blank-unused z = record {
+      decided = sym (virgin-is ∙ ap (λ b. not b && not (eqb s 0)) (eq-eqb digit 0 z));
+      lives-are = λ o. absurd (true≢false (sym o));
+    }
+
+    -- LAW: it is virgin, and passes
+    pub blank-virgin : (s ≡ 0 → ⊥) → (digit ≡ 0 → ⊥) → BlankPassed s digit v lives (bitOr lives digit) true
+    blank-virgin a b = record {
+      decided = sym (virgin-is ∙ ap₂ (λ x y. not x && not y) (ne-eqb digit 0 b) (ne-eqb s 0 a));
+      lives-are = λ o. sym (ap (λ x. bitOr lives (cond (live (stateOf (x * 16777216 / 1073741824))) digit 0)) e);
+    }
+
+-- LAW: its masks and its end are there
+module _ (limit : ℕ) (t : List ℕ) (f s digit : ℕ) (seen stored unmapped ends : List ℕ) (lives lives′ : ℕ) (r : Bool) where
+  pub file-blank : FileSeen limit t f s seen seen (record { ok = true; stored = 0; unmapped = 18446744073709551615 })
+      → getD stored s 0 ≡ 0 → getD unmapped s 0 ≡ 18446744073709551615 → getD ends s 0 ≡ 64 → f < 16 → s < 8 → digit ≡ placeDigit (unpack t .sets s) s
+      → (v : ℕ) → v ≡ lowWord 7 t (fileAt f s) → (0 < v → v ≡ 128) → BlankPassed s digit v lives lives′ r
+      → FilePassed limit t f s digit seen seen stored stored unmapped unmapped ends ends lives lives′ r
+  unfolding endOf
+  file-blank k a b c lf ls d v e h x =
+      let w : ℕ = v * 16777216 in
+      let ew : w ≡ headWord t f s = first-byte t (fileAt f s) v e h in
+      let l = state-is t f s w 18446744073709551615 lf ls ew (k .unmapped-is refl) in
+      file-decided limit t f s digit seen seen _ k stored stored unmapped unmapped ends ends lives lives′ r refl
+      (alone-head t f s w 18446744073709551615 lf ls ew (k .unmapped-is refl) (not (eqb digit 0)) r (digit-used (unpack t .sets s) s digit d) (x .decided))
+      (sym (set-getD stored s 0) ∙ ap (set stored s) a)
+      (sym (set-getD unmapped s 0) ∙ ap (set unmapped s) b)
+      (sym (set-getD ends s 0)
+      ∙ ap (set ends s) (c ∙ sym (ap (λ y. cond y ((unpack t .files f s .size + 511) / 512) 64) (ap isOwn (sym l) ∙ not-own v h))))
+      (λ o. x .lives-are o ∙ ap (λ (y : State). bitOr lives (cond (live y) digit 0)) l)
 
 -- ---- the files of a number
 -- the files of the sets before set s have passed
-pub record SetsPassed (limit : ℕ) (t : List ℕ) (f : ℕ) (seen₀ seen stored unmapped : List ℕ) (lives s : ℕ) : Type 0 where
+pub record SetsPassed (limit : ℕ) (t : List ℕ) (f : ℕ) (seen₀ seen stored unmapped ends : List ℕ) (lives s : ℕ) : Type 0 where
   pub passed : passSets limit t f s (bitAt seen₀ 0) ≡ some (bitAt seen 0)
   pub len : length seen ≡ 512
   pub masks : MasksTo (unpack t .files f) s stored unmapped
   -- the masks of the other sets are as they were
   pub rest-stored : (x : ℕ) → s ≤ x → x < 8 → getD stored x 0 ≡ 0
   pub rest-unmapped : (x : ℕ) → s ≤ x → x < 8 → getD unmapped x 0 ≡ 18446744073709551615
+  pub ends-are : EndsTo (unpack t .files f) s ends
+  pub rest-ends : (x : ℕ) → s ≤ x → x < 8 → getD ends x 0 ≡ 64
   pub alone : (x : ℕ) → x < s → fileAlone t f x ≡ true
   pub lives-are : LivesTo (unpack t .sets) (unpack t .files f) s lives
   pub rest-lives : (x : ℕ) → s ≤ x → x < 8 → isOne (bit lives (placeOf (unpack t .sets) x)) ≡ false
 
 module _ (limit : ℕ) (t : List ℕ) (f : ℕ) (seen₀ : List ℕ) where
-  pub sets-start : (stored unmapped : List ℕ) → length seen₀ ≡ 512 → EachIs stored 0 → EachIs unmapped 18446744073709551615 → (lives : ℕ) → lives ≡ 0 → SetsPassed limit t f seen₀ seen₀ stored unmapped lives 0
+  pub sets-start : (stored unmapped ends : List ℕ) → length seen₀ ≡ 512 → EachIs stored 0 → EachIs unmapped 18446744073709551615 → EachIs ends 64 → (lives : ℕ) → lives ≡ 0
+      → SetsPassed limit t f seen₀ seen₀ stored unmapped ends lives 0
   unfolding passSets
-  sets-start stored unmapped len a b lives e = record {
+  sets-start stored unmapped ends len a b c lives e = record {
     passed = through-none (λ s. passFile limit t f s) (bitAt seen₀ 0);
     len = len;
     masks = record { stored-len = a .0; unmapped-len = b .0; stored-are = λ s l. absurd (omega arith); unmapped-are = λ s l. absurd (omega arith) };
     rest-stored = λ x l m. a .1 x m;
     rest-unmapped = λ x l m. b .1 x m;
+    ends-are = record { len = c .0; ends-are = λ x l. absurd (omega arith) };
+    rest-ends = λ x l m. c .1 x m;
     alone = λ x l. absurd (omega arith);
     lives-are = record { live-at = λ x l. absurd (omega arith); only = λ j l h. absurd (true≢false (sym h ∙ none j)) };
     rest-lives = λ x l m. none (placeOf (unpack t .sets) x);
@@ -108,16 +199,17 @@ module _ (limit : ℕ) (t : List ℕ) (f : ℕ) (seen₀ : List ℕ) where
       none : (j : ℕ) → isOne (bit lives j) ≡ false
       none j = ap isOne (ap (λ x. bit x j) e ∙ bit-none j)
 
-  module _ (seen stored unmapped : List ℕ) (lives s : ℕ) (k : SetsPassed limit t f seen₀ seen stored unmapped lives s) (ls : s < 8) (digit : ℕ)
-      (seen′ stored′ unmapped′ : List ℕ) (lives′ : ℕ) (ok : Bool) (x : FilePassed limit t f s digit seen seen′ stored stored′ unmapped unmapped′ lives lives′ ok) where
+  module _ (seen stored unmapped ends : List ℕ) (lives s : ℕ) (k : SetsPassed limit t f seen₀ seen stored unmapped ends lives s) (ls : s < 8) (digit : ℕ)
+      (seen′ stored′ unmapped′ ends′ : List ℕ) (lives′ : ℕ) (ok : Bool) (x : FilePassed limit t f s digit seen seen′ stored stored′ unmapped unmapped′ ends ends′ lives lives′ ok) where
     -- LAW: a file that passes
-    pub sets-next : digit ≡ placeDigit (unpack t .sets s) s → not ok ≡ false → SetsPassed limit t f seen₀ seen′ stored′ unmapped′ lives′ (s + 1)
+    pub sets-next : digit ≡ placeDigit (unpack t .sets s) s → not ok ≡ false → SetsPassed limit t f seen₀ seen′ stored′ unmapped′ ends′ lives′ (s + 1)
     unfolding passSets
     sets-next d h =
         let o = not-false ok h in
         let a = x .stored-is o in
         let b = x .unmapped-is o in
         let c = x .lives-are o in
+        let g = x .ends-are o in
         let used = live-used t f s (x .alone o) in
         record {
           passed = through-next (λ s. passFile limit t f s) (bitAt seen₀ 0) s seen seen′ ok (k .passed) (x .passes) o;
@@ -132,13 +224,19 @@ module _ (limit : ℕ) (t : List ℕ) (f : ℕ) (seen₀ : List ℕ) where
           };
           rest-stored = λ y l m. ap (λ z. getD z y 0) a ∙ getD-set-other stored s y _ 0 (λ q. omega arith) ∙ k .rest-stored y (omega arith) m;
           rest-unmapped = λ y l m. ap (λ z. getD z y 0) b ∙ getD-set-other unmapped s y _ 0 (λ q. omega arith) ∙ k .rest-unmapped y (omega arith) m;
+          ends-are = record {
+            len = ap length g ∙ length-set ends s _ ∙ k .ends-are .len;
+            ends-are = λ y l. ap (λ z. getD z y 0) g
+                ∙ put-value ends s (endOf (unpack t .files f s .state) (unpack t .files f s .size)) (λ z. endOf (unpack t .files f z .state) (unpack t .files f z .size)) (k .ends-are .len) ls (k .ends-are .ends-are) refl y l;
+          };
+          rest-ends = λ y l m. ap (λ z. getD z y 0) g ∙ getD-set-other ends s y _ 0 (λ q. omega arith) ∙ k .rest-ends y (omega arith) m;
           alone = λ y l. same? y s (λ q. ap (fileAlone t f) q ∙ x .alone o) (λ q. k .alone y (omega arith));
           lives-are = subst (LivesTo (unpack t .sets) (unpack t .files f) (s + 1)) (sym c) (lives-next (unpack t .sets) (unpack t .files f) s lives digit ls d used (k .rest-lives) (k .lives-are));
           rest-lives = λ y l m. ap (λ z. isOne (bit z (placeOf (unpack t .sets) y))) c ∙ rest-next (unpack t .sets) (unpack t .files f) s lives digit ls d used (k .rest-lives) y l m;
         }
 
     -- LAW: a file that does not
-    pub sets-refused : not ok ≡ true → NumberPassed limit t f seen₀ seen′ stored′ unmapped′ lives′ false
+    pub sets-refused : not ok ≡ true → NumberPassed limit t f seen₀ seen′ stored′ unmapped′ ends′ lives′ false
     unfolding passSets
     sets-refused h = record {
       passes = record {
@@ -147,11 +245,12 @@ module _ (limit : ℕ) (t : List ℕ) (f : ℕ) (seen₀ : List ℕ) where
       };
       alone = λ q. absurd (true≢false (sym q));
       masks = λ q. absurd (true≢false (sym q));
+      ends-are = λ q. absurd (true≢false (sym q));
       lives-are = λ q. absurd (true≢false (sym q));
     }
 
   -- LAW: the sets before set n, and the others are blank
-  module _ (n : ℕ) (b : BlankFrom t n) (lf : f < 16) (seen stored unmapped : List ℕ) (lives : ℕ) (k : SetsPassed limit t f seen₀ seen stored unmapped lives n) where
+  module _ (n : ℕ) (b : BlankFrom t n) (lf : f < 16) (seen stored unmapped ends : List ℕ) (lives : ℕ) (k : SetsPassed limit t f seen₀ seen stored unmapped ends lives n) where
     all-masks : MasksTo (unpack t .files f) 8 stored unmapped
     all-masks = record {
       stored-len = k .masks .stored-len;
@@ -164,6 +263,14 @@ module _ (limit : ℕ) (t : List ℕ) (f : ℕ) (seen₀ : List ℕ) where
           (λ e. let m = ltb-false x n e in k .rest-unmapped x m l ∙ sym (blank-unmapped t n b f x lf m l));
     }
 
+    all-ends : EndsTo (unpack t .files f) 8 ends
+    all-ends = record {
+      len = k .ends-are .len;
+      ends-are = λ x l. test? (ltb x n)
+          (λ e. k .ends-are .ends-are x (ltb-true x n e))
+          (λ e. let m = ltb-false x n e in k .rest-ends x m l ∙ sym (blank-end t n b f x lf m l));
+    }
+
     all-lives : LivesTo (unpack t .sets) (unpack t .files f) 8 lives
     all-lives = record {
       live-at = λ x l. test? (ltb x n)
@@ -172,19 +279,20 @@ module _ (limit : ℕ) (t : List ℕ) (f : ℕ) (seen₀ : List ℕ) where
       only = k .lives-are .only;
     }
 
-    all-passed : NumberPassed limit t f seen₀ seen stored unmapped lives true
+    all-passed : NumberPassed limit t f seen₀ seen stored unmapped ends lives true
     all-passed = record {
       passes = record { sees = blank-sets t n b f lf limit 8 (bitAt seen₀ 0) (b .most) (omega arith) ∙ k .passed; len = k .len };
       alone = λ h x l. test? (ltb x n) (λ e. k .alone x (ltb-true x n e)) (λ e. blank-alone t n b f x lf (ltb-false x n e) l);
       masks = λ h. all-masks;
+      ends-are = λ h. all-ends;
       lives-are = λ h. all-lives;
     }
 
-  pub sets-done : (n s : ℕ) (seen stored unmapped : List ℕ) (lives : ℕ) → BlankFrom t n → f < 16 → SetsPassed limit t f seen₀ seen stored unmapped lives s → s ≡ n
-      → NumberPassed limit t f seen₀ seen stored unmapped lives true
-  sets-done n s seen stored unmapped lives b lf k e = all-passed n b lf seen stored unmapped lives (subst (λ x. SetsPassed limit t f seen₀ seen stored unmapped lives x) e k)
+  pub sets-done : (n s : ℕ) (seen stored unmapped ends : List ℕ) (lives : ℕ) → BlankFrom t n → f < 16 → SetsPassed limit t f seen₀ seen stored unmapped ends lives s → s ≡ n
+      → NumberPassed limit t f seen₀ seen stored unmapped ends lives true
+  sets-done n s seen stored unmapped ends lives b lf k e = all-passed n b lf seen stored unmapped ends lives (subst (λ x. SetsPassed limit t f seen₀ seen stored unmapped ends lives x) e k)
 
-module _ (limit : ℕ) (t : List ℕ) (f : ℕ) (seen seen′ stored unmapped : List ℕ) (lives : ℕ) (ok : Bool) (k : NumberPassed limit t f seen seen′ stored unmapped lives ok) where
+module _ (limit : ℕ) (t : List ℕ) (f : ℕ) (seen seen′ stored unmapped ends : List ℕ) (lives : ℕ) (ok : Bool) (k : NumberPassed limit t f seen seen′ stored unmapped ends lives ok) where
   -- LAW: a file of the number does not pass
   pub number-refused : not ok ≡ true → Sees (passNumber limit t f) seen seen′ false
   unfolding passNumber

@@ -24,8 +24,8 @@ use Rattle.rules.proofs.Formed.Tests.{all-4, and-4, and-5, files-at, files-of, 
 use Rattle.rules.specs.State.{SetRecord, isAbsent}
 use Rattle.rules.specs.WellFormed.{aboveFormed, allFiles, bitsFormed, filesFormed, headerFormed, pastFormed, rootFileFormed, sizeFormed, virginFormed, zeroFile}
 use Rattle.setcheck.proofs.WellFormedParts.{records-sets, well-formed-parts}
-use Rattle.setcheck.specs.Records.{fileRecordsFormed, headerZero, setRecordsFormed}
 use Rattle.tables.proofs.FormedStore.{header-in}
+use Rattle.setcheck.specs.Records.{fileRecordsFormed, headerZero, setRecordsFormed}
 use Rattle.tables.specs.Layout.{headWidths, headWord, tableBytes}
 use Rattle.tables.specs.Packed.{kindsFormed, unpack, wellFormed}
 

@@ -3,7 +3,7 @@ use mathlib.Core.Bool.{_&&_, Bool, cond, not, true, _||_}
 use mathlib.Core.List.{List}
 use mathlib.Core.Path.{_≡_}
 use Prim.Native.Nat.{_%_, _*_, _+_, _/_, _<_, _^_, suc, ℕ}
-use lib.Dec.{eqb, leb}
+use lib.Dec.{eqb, leb, ltb}
 use lib.ListN.{getD, length, set}
 use Rattle.base.specs.Count.{all}
 use Rattle.masks.specs.Pages.{pageMask}
@@ -11,7 +11,7 @@ use Rattle.packing.specs.Bitmap.{isOne}
 use Rattle.packing.specs.Bits.{bit}
 use Rattle.packing.specs.Fields.{getField}
 use Rattle.rules.specs.Reading.{resolve}
-use Rattle.rules.specs.State.{File, Files, SetRecord, State, isAbsent, isMarked, isStored, isUnmapped, isVirgin, largestSize, live, setCount, treeOf}
+use Rattle.rules.specs.State.{File, Files, SetRecord, State, isAbsent, isMarked, isOwn, isStored, isUnmapped, isVirgin, largestSize, live, setCount, treeOf}
 use Rattle.rules.specs.WellFormed.{aboveFormed, pastFormed, rootFileFormed, sizeFormed, virginFormed, zeroFile}
 use Rattle.tables.specs.Layout.{headWidths, headWord, readSize, stateOf}
 use Rattle.tables.specs.Packed.{unpack}
@@ -54,6 +54,19 @@ pub record MasksTo (files : Files ℕ) (n : ℕ) (stored unmapped : List ℕ) : 
   pub stored-are : (s : ℕ) → s < n → getD stored s 0 ≡ pageMask isStored (files s .map)
   pub unmapped-are : (s : ℕ) → s < n → getD unmapped s 0 ≡ pageMask isUnmapped (files s .map)
 
+-- the first page wholly past the size of an own file; 64 of any other
+unfoldable pub endOf : State → ℕ → ℕ
+endOf state size = cond (isOwn state) ((size + 511) / 512) 64
+
+-- that page of the files of the first n sets
+pub record EndsTo (files : Files ℕ) (n : ℕ) (ends : List ℕ) : Type 0 where
+  pub len : length ends ≡ setCount
+  pub ends-are : (s : ℕ) → s < n → getD ends s 0 ≡ endOf (files s .state) (files s .size)
+
+-- no page of the mask m is page k or a later one
+unfoldable pub endsBefore : ℕ → ℕ → Bool
+endsBefore k m = cond (ltb k 64) (eqb (m * 2 ^ k % 2 ^ 64) 0) true
+
 -- levels fall by one from a set to its parent, down to 0, which of the used sets only set 0 has
 pub record Falling (sets : ℕ → SetRecord) : Type 0 where
   pub falls : (s n : ℕ) → s < setCount → sets s .level ≡ suc n → (sets s .parent < setCount) × (sets (sets s .parent) .level ≡ n)
@@ -82,10 +95,11 @@ pub record LivesTo (sets : ℕ → SetRecord) (files : Files ℕ) (n lives : ℕ
   pub only : (k : ℕ) → k < 64 → isOne (bit lives k) ≡ true → k ≡ placeOf sets (k % setCount)
 
 -- what the rules on file f of several sets are decided by
-pub record Numbered (t : List ℕ) (f : ℕ) (digits parents stored unmapped : List ℕ) (lives : ℕ) : Type 0 where
+pub record Numbered (t : List ℕ) (f : ℕ) (digits parents stored unmapped ends : List ℕ) (lives : ℕ) : Type 0 where
   pub falling : Falling (unpack t .sets)
   pub places : Places (unpack t .sets) digits parents
   pub masks : MasksTo (unpack t .files f) setCount stored unmapped
+  pub ends-are : EndsTo (unpack t .files f) setCount ends
   pub lives-are : LivesTo (unpack t .sets) (unpack t .files f) setCount lives
   pub alone : (s : ℕ) → s < setCount → fileAlone t f s ≡ true
 

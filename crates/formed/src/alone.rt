@@ -37,7 +37,7 @@ fn state_formed(k: u32, n: u32, u: u64, root: bool) -> bool
 }
 
 // A file by the word w of its head and the mask u of its unmapped pages.
-fn head_formed(w: u32, u: u64, used: bool, root: bool) -> bool
+pub fn head_formed(w: u32, u: u64, used: bool, root: bool) -> bool
     ensures { λ r. ⌜ r ≡ headFormed w u used root ⌝ }
 {
     if w % 16384 != 0 {
@@ -55,14 +55,4 @@ fn head_formed(w: u32, u: u64, used: bool, root: bool) -> bool
         return false;
     }
     state_formed(k, n, u, root)
-}
-
-// The same. A head that is 0 is that of an absent file.
-pub fn file_alone(w: u32, u: u64, used: bool, root: bool) -> bool
-    ensures { λ r. ⌜ r ≡ headFormed w u used root ⌝ }
-{
-    if w == 0 {
-        return u == 0xFFFF_FFFF_FFFF_FFFF;
-    }
-    head_formed(w, u, used, root)
 }

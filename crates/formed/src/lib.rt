@@ -8,8 +8,10 @@ use setcheck::header::header_zero;
 use setcheck::tree::sets_formed;
 
 pub mod alone;
+pub mod file;
 pub mod linked;
 pub mod passing;
+pub mod places;
 
 // "Well formed means all of": tables t with a pages buffer of n bytes.
 pub fn well_formed(t: &[u8], n: usize) -> bool

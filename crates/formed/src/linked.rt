@@ -6,57 +6,23 @@ ghost use mathlib.Core.Path.{_≡_};
 ghost use Prim.Native.Nat.{ℕ, _<_, suc};
 ghost use lib.ListN.{getD, length, set};
 ghost use Rattle.base.specs.Count.{all};
-ghost use Rattle.rules.specs.State.{isOwn, live};
-ghost use Rattle.rules.specs.WellFormed.{pastFormed};
+ghost use Rattle.rules.specs.State.{live};
 ghost use Rattle.tables.specs.Layout.{tableBytes};
-ghost use Rattle.tables.specs.Meaning.{stateMeant};
 ghost use Rattle.tables.specs.Packed.{unpack};
-ghost use Rattle.formed.specs.Files.{LinkDecided, Numbered, fileLinked, resolvedMask};
-ghost use Rattle.formed.specs.Pass.{EachIs};
-use tables::files;
-use tables::files::State;
+ghost use Rattle.formed.specs.Files.{LinkDecided, Numbered, endsBefore, fileLinked, resolvedMask};
+use crate::places::masks_of;
 
-// A list of 8 masks that are all m.
-pub fn masks_of(m: u64) -> [u64; 8]
-    ensures { λ r. ⌜ EachIs r m ⌝ }
+// The file of set s, which is own or virgin: the pages m that resolve to stored in it are kept. "In an own file, no page
+// wholly past the size resolves to stored": such pages are those from k on.
+fn put_resolved(resolved: &mut [u64; 8], s: usize, k: usize, m: u64) -> bool
+    requires { ⌜ s < 8 ⌝ }
+    ensures { λ r. ⌜ (r ≡ endsBefore k m) × (now (resolved .exit) ≡ set (now (resolved .entry)) s m) ⌝ }
 {
-    [m; 8]
-}
-
-fn is_own(l: State) -> bool
-    ensures { λ r. ⌜ r ≡ isOwn (stateMeant l) ⌝ }
-{
-    match l {
-        State::Absent => false,
-        State::Own => true,
-        State::Virgin => false,
-        State::Marked => false,
-    }
-}
-
-// "In an own file, no page wholly past the size resolves to stored": such pages are those from k on. Those that resolve to
-// stored are m.
-fn file_past(t: &[u8], f: usize, s: usize, m: u64) -> bool
-    requires { ⌜ (length (now t) ≡ tableBytes) × (f < 16) × (s < 8) × (m ≡ resolvedMask (now t) f s) ⌝ }
-    ensures { λ r. ⌜ r ≡ pastFormed (unpack (now (t .entry))) f s ⌝ }
-{
-    if !is_own(files::state_at(t, f, s)) {
-        return true;
-    }
-    let k = (files::size_at(t, f, s) + 511) / 512;
+    resolved[s] = m;
     if k >= 64 {
         return true;
     }
     m << k == 0
-}
-
-// The pages m that resolve to stored in set s are kept.
-fn put_resolved(t: &[u8], resolved: &mut [u64; 8], f: usize, s: usize, m: u64) -> bool
-    requires { ⌜ (length (now t) ≡ tableBytes) × (f < 16) × (s < 8) × (m ≡ resolvedMask (now t) f s) ⌝ }
-    ensures { λ r. ⌜ (r ≡ pastFormed (unpack (now (t .entry))) f s) × (now (resolved .exit) ≡ set (now (resolved .entry)) s (resolvedMask (now (t .entry)) f s)) ⌝ }
-{
-    resolved[s] = m;
-    file_past(t, f, s, m)
 }
 
 // File f of set s, which is own or virgin. "An own or virgin file with an unmapped entry has an own or virgin file of its
@@ -68,17 +34,18 @@ fn link_file(
     parents: &[usize; 8],
     stored: &[u64; 8],
     unmapped: &[u64; 8],
+    ends: &[usize; 8],
     resolved: &mut [u64; 8],
     lives: u64,
     f: usize,
     s: usize,
 ) -> bool
-    requires { ⌜ (length (now t) ≡ tableBytes) × (f < 16) × (s < 8) × Numbered (now t) f (now digits) (now parents) (now stored) (now unmapped) lives × (live (unpack (now t) .files f s .state) ≡ true) × ((n : ℕ) → unpack (now t) .sets s .level ≡ suc n → live (unpack (now t) .files f (unpack (now t) .sets s .parent) .state) ≡ true → getD (now resolved) (unpack (now t) .sets s .parent) 0 ≡ resolvedMask (now t) f (unpack (now t) .sets s .parent)) ⌝ }
+    requires { ⌜ (length (now t) ≡ tableBytes) × (f < 16) × (s < 8) × Numbered (now t) f (now digits) (now parents) (now stored) (now unmapped) (now ends) lives × (live (unpack (now t) .files f s .state) ≡ true) × ((n : ℕ) → unpack (now t) .sets s .level ≡ suc n → live (unpack (now t) .files f (unpack (now t) .sets s .parent) .state) ≡ true → getD (now resolved) (unpack (now t) .sets s .parent) 0 ≡ resolvedMask (now t) f (unpack (now t) .sets s .parent)) ⌝ }
     ensures { λ r. ⌜ LinkDecided (now (t .entry)) f s (now (resolved .entry)) (now (resolved .exit)) r ⌝ }
 {
     let u = unmapped[s];
     if u == 0 {
-        return put_resolved(t, resolved, f, s, stored[s]);
+        return put_resolved(resolved, s, ends[s], stored[s]);
     }
     let x = parents[s];
     if x >= 8 {
@@ -88,7 +55,7 @@ fn link_file(
         return false;
     }
     let m = stored[s] | u & resolved[x];
-    put_resolved(t, resolved, f, s, m)
+    put_resolved(resolved, s, ends[s], m)
 }
 
 // Both rules for the files of number f.
@@ -98,10 +65,11 @@ pub fn files_linked(
     parents: &[usize; 8],
     stored: &[u64; 8],
     unmapped: &[u64; 8],
+    ends: &[usize; 8],
     lives: u64,
     f: usize,
 ) -> bool
-    requires { ⌜ (length (now t) ≡ tableBytes) × (f < 16) × Numbered (now t) f (now digits) (now parents) (now stored) (now unmapped) lives ⌝ }
+    requires { ⌜ (length (now t) ≡ tableBytes) × (f < 16) × Numbered (now t) f (now digits) (now parents) (now stored) (now unmapped) (now ends) lives ⌝ }
     ensures { λ r. ⌜ r ≡ all 8 (fileLinked (now (t .entry)) f) ⌝ }
 {
     let mut resolved = masks_of(0);
@@ -114,6 +82,7 @@ pub fn files_linked(
             parents,
             stored,
             unmapped,
+            ends,
             &mut resolved,
             lives,
             f,

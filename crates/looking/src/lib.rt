@@ -1,7 +1,7 @@
 // Reading a file: an accepted read. Its size by reading is `maps::reading::size_of`, the free blocks are
 // `tables::header::free_blocks`.
 ghost use mathlib.Core.Path.{_≡_};
-ghost use Prim.Native.Nat.{_+_, _%_, _≤_, _<_, min};
+ghost use Prim.Native.Nat.{_+_, _%_, _≤_, _<_};
 ghost use lib.ListN.{length};
 ghost use Rattle.rules.specs.Calls.{readCount};
 ghost use Rattle.tables.proofs.FormedStore.{FormedStore};

@@ -43,7 +43,8 @@ module _ (sets : ℕ → SetRecord) where
       let at-last : ℕ → ℕ → SetRecord = λ y. upd after y (withNextSibling (after y) c) in
       test? (ltb next setCount)
       (λ e. let l = ltb-true next setCount e in
-      ap (λ (xs : List ℕ). linkBehind c x xs after) (chain-more sets (suc n) next (omega arith) l) ∙ behind-last c after n next ∙ ap at-last (sym (last-next sets n x l)))
+      let m : suc n - 1 ≡ n = omega arith in
+      ap (λ (xs : List ℕ). linkBehind c x xs after) (chain-more sets (suc n) next (omega arith) l ∙ ap (λ k. next ∷ chain sets k (sets next .nextSibling)) m) ∙ behind-last c after n next ∙ ap at-last (sym (last-next sets n x l)))
       (λ e. let l = ltb-false next setCount e in
       ap (λ (xs : List ℕ). linkBehind c x xs after) (chain-past sets (suc n) next l) ∙ ap at-last (sym (last-here sets n x l)))
 

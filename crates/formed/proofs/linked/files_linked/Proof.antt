@@ -8,13 +8,13 @@ use Rattle.formed.proofs.linked.files_linked.Statement.{statement}
 use Rattle.formed.proofs.linked.files_linked.Tie as tie
 
 abbrev Inv-loop : tie.InvT-loop
-Inv-loop t digits parents stored unmapped lives f resolved₀ left₀ resolved left = Linking t f lives resolved left
+Inv-loop t digits parents stored unmapped ends lives f resolved₀ left₀ resolved left = Linking t f lives resolved left
 
 abbrev μ-loop : tie.MeasureT-loop
-μ-loop t digits parents stored unmapped lives f resolved₀ left₀ resolved left = left
+μ-loop t digits parents stored unmapped ends lives f resolved₀ left₀ resolved left = left
 
 loop-holds : tie.Need-loop-holds Inv-loop μ-loop
-loop-holds c = linking-start _ _ _ _ _ _ _ (c .before .before .pre .2) _ (omega arith) (c .masks-of .ensures .0)
+loop-holds c = linking-start _ _ _ _ _ _ _ _ (c .before .before .pre .2) _ (omega arith) (c .masks-of .ensures .0)
 
 link-file-requires : tie.Need-link-file-requires Inv-loop μ-loop
 link-file-requires c κs =
@@ -25,8 +25,8 @@ link-file-requires c κs =
       p .1,
       omega arith,
       p .2,
-      next-live _ _ _ _ _ _ _ (p .2) _ (l .loop .left) (l .loop .inv) (omega arith) (z .result) (z .ensures .0) (z .ensures .1),
-      next-above _ _ _ _ _ _ _ (p .2) _ (l .loop .left) (l .loop .inv) (omega arith) (z .result) (z .ensures .0) (z .ensures .1),
+      next-live _ _ _ _ _ _ _ _ (p .2) _ (l .loop .left) (l .loop .inv) (omega arith) (z .result) (z .ensures .0) (z .ensures .1),
+      next-above _ _ _ _ _ _ _ _ (p .2) _ (l .loop .left) (l .loop .inv) (omega arith) (z .result) (z .ensures .0) (z .ensures .1),
     )
 
 returns : tie.Need-returns Inv-loop μ-loop
@@ -35,7 +35,7 @@ returns c =
     let z = c .before .before .before .lowest in
     let l = c .before .before .before .before .before in
     let p = l .before .before .before .pre in
-    linking-refused _ _ _ _ _ _ _ (p .2) _ (l .loop .left) (l .loop .inv) (omega arith) (z .result) (z .ensures .0) (z .ensures .1) _ _ (g .ensures) (c .if1 .taken)
+    linking-refused _ _ _ _ _ _ _ _ (p .2) _ (l .loop .left) (l .loop .inv) (omega arith) (z .result) (z .ensures .0) (z .ensures .1) _ _ (g .ensures) (c .if1 .taken)
 
 loop-less : tie.Need-loop-less Inv-loop μ-loop
 loop-less c = let l = c .before .before .before .before .before .loop in lt-of-le-of-lt (and-le-r (l .left) (l .left - 1)) (omega arith)
@@ -46,10 +46,10 @@ loop-again c =
     let z = c .before .before .before .lowest in
     let l = c .before .before .before .before .before in
     let p = l .before .before .before .pre in
-    linking-next _ _ _ _ _ _ _ (p .2) _ (l .loop .left) (l .loop .inv) (omega arith) (z .result) (z .ensures .0) (z .ensures .1) _ _ (g .ensures) (c .if1 .left)
+    linking-next _ _ _ _ _ _ _ _ (p .2) _ (l .loop .left) (l .loop .inv) (omega arith) (z .result) (z .ensures .0) (z .ensures .1) _ _ (g .ensures) (c .if1 .left)
 
 returns-2 : tie.Need-returns-2 Inv-loop μ-loop
-returns-2 c = let l = c .before in linking-done _ _ _ _ _ _ _ (l .before .before .before .pre .2) _ (l .loop .left) (l .loop .inv) (omega arith)
+returns-2 c = let l = c .before in linking-done _ _ _ _ _ _ _ _ (l .before .before .before .pre .2) _ (l .loop .left) (l .loop .inv) (omega arith)
 
 pub files-linked-spec : {M : Type 1} → statement M
 files-linked-spec = tie.close (tie.spec Inv-loop μ-loop (λ c κs. tt) loop-holds (λ c κs. omega arith) link-file-requires returns (λ c. omega arith) loop-less loop-again returns-2)

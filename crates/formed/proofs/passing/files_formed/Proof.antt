@@ -22,7 +22,7 @@ put-places-requires : tie.Need-put-places-requires Inv-loop μ-loop
 put-places-requires c κs =
     let x = c .before .before in
     let u = x .before .before .before .before in
-    (u .before .before .before .pre .0, x .before .masks-of .ensures, x .no-parents .ensures, u .used-to .ensures .0, u .used-to .ensures .1)
+    (u .before .before .before .pre .0, x .before .masks-of .ensures, x .numbers-of .ensures .0, u .used-to .ensures .0, u .used-to .ensures .1)
 
 loop-holds : tie.Need-loop-holds Inv-loop μ-loop
 loop-holds c = (omega arith, files-start _ _ _ (c .no-bits .ensures .0) (c .no-bits .ensures .1))

@@ -2,7 +2,7 @@
 use mathlib.Core.Bool.{Bool, cond, false, not, true, true≢false, _||_}
 use mathlib.Core.List.{List}
 use mathlib.Core.Path.{ap, refl, subst, sym, _∙_, _≡_}
-use Prim.Native.Nat.{_%_, _*_, _+_, _<_, _^_, suc, zero, ℕ, _≤_}
+use Prim.Native.Nat.{_%_, _*_, _+_, _/_, _<_, _^_, suc, zero, ℕ, _≤_}
 use native.Mathlib.Omega.{arith}
 use lib.Bits.{bitOr}
 use lib.Dec.{eqb, ltb}
@@ -11,13 +11,14 @@ use lib.Pow.{pow-pos, shl-exact}
 use lib.Seq.{getD-set-other, getD-set-same}
 use borrow.Author.Tests.{ltb-false, ltb-true, ne-eqb, not-false, not-true}
 use Rattle.base.specs.Logic.{same?, test?}
+use Rattle.formed.proofs.AloneRules.{size-field}
 use Rattle.formed.proofs.Resolved.{digit-or}
-use Rattle.formed.specs.Files.{LivesTo, Places, placeDigit, placeOf}
+use Rattle.formed.specs.Files.{LivesTo, Places, endOf, placeDigit, placeOf}
 use Rattle.formed.specs.Pass.{EachIs, UnusedFrom}
 use Rattle.packing.specs.Bitmap.{isOne}
 use Rattle.packing.specs.Bits.{bit, bit-none, bit-pow-other, bit-pow-same}
-use Rattle.rules.specs.State.{Files, SetRecord, live, own, virgin}
-use Rattle.tables.specs.Layout.{stateOf}
+use Rattle.rules.specs.State.{Files, SetRecord, isOwn, live, own, virgin}
+use Rattle.tables.specs.Layout.{readSize, stateOf}
 
 -- LAW: a value of one set more
 pub put-value : (l : List ℕ) (s v : ℕ) (g : ℕ → ℕ) → length l ≡ 8 → s < 8 → ((x : ℕ) → x < s → getD l x 0 ≡ g x) → v ≡ g s
@@ -100,6 +101,22 @@ dead-state zero a b = refl
 dead-state (suc zero) a b = absurd (a refl)
 dead-state (suc (suc zero)) a b = absurd (b refl)
 dead-state (suc (suc (suc k))) a b = refl
+
+-- ---- the first page wholly past the size, by the word w of the head
+other-own : (k : ℕ) → (k ≡ 1 → ⊥) → isOwn (stateOf k) ≡ false
+other-own zero a = refl
+other-own (suc zero) a = absurd (a refl)
+other-own (suc (suc zero)) a = refl
+other-own (suc (suc (suc k))) a = refl
+
+module _ (w : ℕ) where
+  pub end-other : (w / 1073741824 ≡ 1 → ⊥) → 64 ≡ endOf (stateOf (w / 1073741824)) (readSize w)
+  unfolding endOf
+  end-other h = sym (ap (λ b. cond b ((readSize w + 511) / 512) 64) (other-own (w / 1073741824) h))
+
+  pub end-own : w / 1073741824 ≡ 1 → (w / 16384 % 65536 + 511) / 512 ≡ endOf (stateOf (w / 1073741824)) (readSize w)
+  unfolding endOf
+  end-own h = ap (λ n. (n + 511) / 512) (sym (size-field w)) ∙ sym (ap (λ k. cond (isOwn (stateOf k)) ((readSize w + 511) / 512) 64) h)
 
 -- ---- digits and parents of the sets
 -- of the sets before set s

@@ -1,12 +1,12 @@
--- `formed::passing::used_to` meets its contract. The loop's invariant: the sets from n on are unused. Assumes nothing.
+-- `formed::places::used_to` meets its contract. The loop's invariant: the sets from n on are unused. Assumes nothing.
 use Prim.Native.Nat.{_≤_}
 use native.Mathlib.Omega.{arith}
 use Rattle.formed.proofs.Blank.{unused-next}
 use Rattle.formed.specs.Pass.{UnusedFrom}
 use Rattle.tables.specs.Meaning.{setMeant}
 use Rattle.tables.specs.Packed.{unpack}
-use Rattle.formed.proofs.passing.used_to.Statement.{statement}
-use Rattle.formed.proofs.passing.used_to.Tie as tie
+use Rattle.formed.proofs.places.used_to.Statement.{statement}
+use Rattle.formed.proofs.places.used_to.Tie as tie
 
 abbrev Inv-loop : tie.InvT-loop
 Inv-loop t n₀ n = (n ≤ 8) × UnusedFrom (unpack t .sets) n

@@ -1,11 +1,11 @@
--- `formed::passing::put_places` meets its contract. The loop's invariant: the digits and the parents of the sets before set s are there. Assumes nothing.
+-- `formed::places::put_places` meets its contract. The loop's invariant: the digits and the parents of the sets before set s are there. Assumes nothing.
 use Prim.Native.Nat.{_-_, _≤_}
 use native.Mathlib.Omega.{arith}
 use Rattle.tables.specs.Meaning.{setMeant}
 use Rattle.tables.specs.Packed.{unpack}
-use Rattle.formed.proofs.Places.{PlacesTo, places-done, places-next, places-start}
-use Rattle.formed.proofs.passing.put_places.Statement.{statement}
-use Rattle.formed.proofs.passing.put_places.Tie as tie
+use Rattle.formed.proofs.PlaceDigits.{PlacesTo, places-done, places-next, places-start}
+use Rattle.formed.proofs.places.put_places.Statement.{statement}
+use Rattle.formed.proofs.places.put_places.Tie as tie
 
 abbrev Inv-loop : tie.InvT-loop
 Inv-loop t digits₀ parents₀ n s₀ digits parents s = (s ≤ n) × PlacesTo (unpack t .sets) digits parents s

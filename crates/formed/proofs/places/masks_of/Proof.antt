@@ -1,8 +1,8 @@
--- `formed::linked::masks_of` meets its contract. Assumes nothing.
+-- `formed::places::masks_of` meets its contract. Assumes nothing.
 use mathlib.Core.Path.{refl}
 use Rattle.formed.proofs.Blank.{eight-masks}
-use Rattle.formed.proofs.linked.masks_of.Statement.{statement}
-use Rattle.formed.proofs.linked.masks_of.Tie as tie
+use Rattle.formed.proofs.places.masks_of.Statement.{statement}
+use Rattle.formed.proofs.places.masks_of.Tie as tie
 
 returns : tie.Need-returns
 returns c = (refl, eight-masks _)

@@ -1,9 +1,9 @@
--- `formed::passing::digit_of` meets its contract. Assumes nothing.
+-- `formed::places::digit_of` meets its contract. Assumes nothing.
 use borrow.Author.Needs.{needs}
 use Rattle.tables.specs.Meaning.{setMeant}
-use Rattle.formed.proofs.Places.{digit-none, digit-shl}
-use Rattle.formed.proofs.passing.digit_of.Statement.{statement}
-use Rattle.formed.proofs.passing.digit_of.Tie as tie
+use Rattle.formed.proofs.PlaceDigits.{digit-none, digit-shl}
+use Rattle.formed.proofs.places.digit_of.Statement.{statement}
+use Rattle.formed.proofs.places.digit_of.Tie as tie
 
 returns : tie.Need-returns
 returns c = let a = c .before .before .args in digit-none (setMeant (a .r)) (a .s) (c .if1 .taken)
