@@ -103,7 +103,7 @@ fn are_zero(a: u32, b: u32, c: u32, d: u32, e: u32, f: u32) -> bool
 // A call, unless a field is nonzero that the op does not use.
 fn checked(unused_zero: bool, c: Asked) -> Decoded
     requires { ⌜ callFits c ⌝ }
-    ensures { λ r. ⌜ (requestMeant r ≡ cond unused-zero (ask (opOf c) (callMeant c)) bad) × requestFits r ⌝ }
+    ensures { λ r. ⌜ (requestMeant r ≡ cond «unused_zero» (ask (opOf c) (callMeant c)) bad) × requestFits r ⌝ }
 {
     if unused_zero {
         return Decoded::Call(c);
