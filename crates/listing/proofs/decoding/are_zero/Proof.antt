@@ -1,4 +1,5 @@
 -- `listing::decoding::are_zero` meets its contract. Assumes nothing.
+use mathlib.Core.Path.{sym}
 use borrow.Author.Tests.{eq-eqb, ne-eqb}
 use Rattle.base.specs.Logic.{and-true}
 use Rattle.listing.proofs.decoding.are_zero.Statement.{statement}

@@ -1,5 +1,5 @@
 -- `listing::sets::list_set` and `listing::sets::list_chain` meet their contracts: they call each other, and the count of unvisited sets falls. Assumes nothing.
-use Prim.Native.Nat.{ℕ, _+_, _-_, _*_}
+use Prim.Native.Nat.{ℕ, _<_, _+_, _-_, _*_}
 use native.Mathlib.Omega.{arith}
 use borrow.Author.Needs.{needs}
 use borrow.Fn.Kinds.{In}
