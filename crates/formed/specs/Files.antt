@@ -31,6 +31,10 @@ aloneFormed zeros state size every any used root =
 unfoldable pub headFormed : ℕ → ℕ → Bool → Bool → Bool
 headFormed w u used root = aloneFormed (getField headWidths w 2) (stateOf (w / 1073741824)) (readSize w) (eqb u 18446744073709551615) (not (eqb u 0)) used root
 
+-- the head whose first byte is the least significant of v
+unfoldable pub turned : ℕ → ℕ
+turned v = v % 256 * 16777216 + v / 256 % 256 * 65536 + v / 65536 % 256 * 256 + v / 16777216 % 256
+
 module _ (t : List ℕ) where
   -- the rules on file f of set s that concern no other file
   unfoldable pub fileAlone : ℕ → ℕ → Bool

@@ -5,9 +5,10 @@ ghost use Prim.Native.Nat.{_+_, _/_, _<_, _≤_};
 ghost use lib.ListN.{getD, length};
 ghost use Rattle.packing.specs.Zeros.{zeroBytes};
 ghost use Rattle.rules.specs.State.{live};
-ghost use Rattle.tables.specs.Layout.{readSize, stateOf, tableBytes};
+ghost use Rattle.tables.specs.Layout.{fileAt, readSize, stateOf, tableBytes};
 ghost use Rattle.tables.specs.Packed.{unpack};
-ghost use Rattle.formed.specs.Files.{endOf, placeDigit};
+ghost use Rattle.packing.specs.Words.{lowWord};
+ghost use Rattle.formed.specs.Files.{endOf, placeDigit, turned};
 ghost use Rattle.formed.specs.Pass.{BlankPassed, FilePassed};
 use crate::alone::head_formed;
 use packing::words;
@@ -55,8 +56,16 @@ fn pass_blank(lives: &mut u64, s: usize, digit: u64, v: u64) -> bool
     true
 }
 
-// File f of set s, which has the digit given: its entries, and the rules that concern no other file. Its masks are kept,
-// and whether it is own or virgin.
+// The head whose first byte is the least significant of v.
+fn head_of(v: u64) -> u32
+    ensures { λ r. ⌜ r ≡ turned v ⌝ }
+{
+    let x = (v % 4294967296) as u32;
+    x % 256 * 16777216 + x / 256 % 256 * 65536 + x / 65536 % 256 * 256 + x / 16777216
+}
+
+// File f of set s, which has the digit given and whose head is v, the first byte the least significant: its entries, and
+// the rules that concern no other file. Its masks are kept, and whether it is own or virgin.
 fn pass_entries(
     t: &[u8],
     seen: &mut [u8; 512],
@@ -68,15 +77,16 @@ fn pass_entries(
     s: usize,
     digit: u64,
     limit: usize,
+    v: u64,
 ) -> bool
-    requires { ⌜ (length (now t) ≡ tableBytes) × (length (now seen) ≡ 512) × (f < 16) × (s < 8) × (digit ≡ placeDigit (unpack (now t) .sets s) s) × (limit ≤ 4096) ⌝ }
+    requires { ⌜ (length (now t) ≡ tableBytes) × (length (now seen) ≡ 512) × (f < 16) × (s < 8) × (digit ≡ placeDigit (unpack (now t) .sets s) s) × (limit ≤ 4096) × (v ≡ lowWord 7 (now t) (fileAt f s)) ⌝ }
     ensures { λ r. ⌜ FilePassed limit (now (t .entry)) f s digit (now (seen .entry)) (now (seen .exit)) (now (stored .entry)) (now (stored .exit)) (now (unmapped .entry)) (now (unmapped .exit)) (now (ends .entry)) (now (ends .exit)) (now (lives .entry)) (now (lives .exit)) r ⌝ }
 {
     let m = entrycheck::file_entries(t, seen, f, s, limit);
     if !m.ok {
         return false;
     }
-    let w = words::read32(t, 540 + (s * 16 + f) * 132);
+    let w = head_of(v);
     stored[s] = m.stored;
     unmapped[s] = m.unmapped;
     ends[s] = end_of(w);
@@ -116,5 +126,17 @@ pub fn pass_file(
     if is_blank(t, 544 + (s * 16 + f) * 132, v) {
         return pass_blank(lives, s, digit, v);
     }
-    pass_entries(t, seen, stored, unmapped, ends, lives, f, s, digit, limit)
+    pass_entries(
+        t,
+        seen,
+        stored,
+        unmapped,
+        ends,
+        lives,
+        f,
+        s,
+        digit,
+        limit,
+        v,
+    )
 }
