@@ -21,7 +21,7 @@ module _ (t p : List ℕ) (formed : wellFormed t (length p) ≡ true) where
   pub formed-packed : PackedTables t
   formed-packed = store .packed
 
-  -- LAW: block count and next start make sense
+  -- LAW: B is 1 to 4,096, next start is below B
   pub formed-header : HeaderIn (unpack t)
   formed-header = store .header
 

@@ -3,6 +3,7 @@ pub mod Resolved
 pub mod Past
 pub mod LinkedRules
 pub mod Blank
+pub mod FileHead
 pub mod PlaceDigits
 pub mod Passes
 pub mod Whole

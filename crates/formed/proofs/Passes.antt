@@ -3,28 +3,29 @@ use mathlib.Core.Bool.{_&&_, Bool, cond, false, not, true, true≢false}
 use mathlib.Core.List.{List}
 use mathlib.Core.Option.{Option, none, some}
 use mathlib.Core.Path.{ap, ap₂, fun-ext, refl, subst, sym, _∙_, _≡_}
-use Prim.Native.Nat.{_%_, _*_, _+_, _/_, _<_, suc, zero, ℕ, _≤_}
+use Prim.Native.Nat.{_*_, _+_, _/_, _<_, suc, zero, ℕ, _≤_}
 use native.Mathlib.Omega.{arith}
-use lib.Bits.{bitAnd, bitOr, or-add-and, or-zero-r}
+use lib.Bits.{bitOr}
 use lib.ListN.{getD, length, length-set, set}
 use lib.Seq.{getD-set-other, set-getD}
 use lib.Dec.{eqb, ltb}
-use borrow.Author.Tests.{eq-eqb, ltb-false, ltb-true, ne-eqb, not-false, not-true}
+use borrow.Author.Tests.{ltb-false, ltb-true, not-false, not-true}
 use Rattle.base.specs.Count.{all, all-more, all-none}
-use Rattle.base.specs.Logic.{and-false, same?, test?}
-use Rattle.packing.specs.Words.{Bytes, getWord, low-eight, low-four, lowWord}
+use Rattle.base.specs.Logic.{same?, test?}
 use Rattle.entrycheck.proofs.Through.{through-next, through-refused}
 use Rattle.entrycheck.specs.declared.Masks.{Masks}
-use Rattle.entrycheck.specs.Seeing.{FileSeen, Pass, Seen, Sees, andThen, outcome, seeAll, seeFile, seeNumber, through, through-more, through-none}
+use Rattle.entrycheck.specs.Seeing.{FileSeen, Sees, Pass, Seen, andThen, seeAll, seeFile, seeNumber, outcome, through, through-more, through-none}
 use Rattle.masks.specs.Pages.{pageMask}
-use Rattle.formed.specs.Files.{EndsTo, LivesTo, MasksTo, endOf, fileAlone, fileLinked, headFormed, numberFormed, placeDigit, placeOf, turned}
-use Rattle.formed.proofs.AloneRules.{alone-head, head-virgin, head-zero, size-is, state-is}
+use Rattle.packing.specs.Words.{lowWord}
+use Rattle.formed.specs.Files.{EndsTo, LivesTo, MasksTo, endOf, fileAlone, fileLinked, numberFormed, placeDigit, placeOf}
+use Rattle.formed.proofs.AloneRules.{alone-head, size-is, state-is}
 use Rattle.formed.proofs.Blank.{blank-alone, blank-dead, blank-end, blank-sets, blank-stored, blank-unmapped}
-use Rattle.formed.proofs.LinkedRules.{and-digit, live-used}
+use Rattle.formed.proofs.FileHead.{first-byte, not-own}
+use Rattle.formed.proofs.LinkedRules.{live-used}
 use Rattle.formed.proofs.PlaceDigits.{digit-used, lives-next, put-value, rest-next}
 use Rattle.formed.specs.Pass.{BlankFrom, BlankPassed, EachIs, FilePassed, NumberPassed, onlyIf, passFile, passNumber, passSets}
 use Rattle.packing.specs.Bitmap.{bitAt, isOne}
-use Rattle.packing.specs.Bits.{bit, bit-lt, bit-none}
+use Rattle.packing.specs.Bits.{bit, bit-none}
 use Rattle.rules.specs.State.{State, isOwn, isStored, isUnmapped, live}
 use Rattle.tables.specs.Layout.{fileAt, headWord, readSize, stateOf}
 use Rattle.tables.specs.Packed.{unpack}
@@ -88,104 +89,7 @@ module _ (t : List ℕ) (f s w u : ℕ) (lf : f < 16) (ls : s < 8) (e : w ≡ he
       → set ends s x ≡ set ends s (endOf (unpack t .files f s .state) (unpack t .files f s .size))
   ends-by-head ends x h = ap (set ends s) (h ∙ ap₂ endOf (state-is t f s w u lf ls e d) (size-is t f s w u lf ls e d))
 
--- ---- a file whose head is 0, or that of a virgin file of size 0; v is the first byte
--- LAW: v by all its digits but one
-pub blank-head : (v : ℕ) → bitOr v 128 ≡ 128 → 0 < v → v ≡ 128
-blank-head v h p =
-    let a = or-add-and v 128 in
-    let b = and-digit v 7 in
-    let c = bit-lt v 7 in
-    omega arith
-
--- what is a multiple of 256 does not count
-low-byte : (q h : ℕ) → (q + h * 256) % 256 ≡ q % 256
-low-byte q h = omega arith
-
--- LAW: the bytes of the low half of v
-pub head-low : (v : ℕ) → v % 4294967296 % 256 * 16777216 + v % 4294967296 / 256 % 256 * 65536 + v % 4294967296 / 65536 % 256 * 256 + v % 4294967296 / 16777216 ≡ turned v
-unfolding turned
-head-low v =
-    let a : v % 4294967296 % 256 ≡ v % 256 = omega arith in
-    let e : v / 256 ≡ v % 4294967296 / 256 + v / 4294967296 * 65536 * 256 = omega arith in
-    let f : v / 65536 ≡ v % 4294967296 / 65536 + v / 4294967296 * 256 * 256 = omega arith in
-    let g : v / 16777216 ≡ v % 4294967296 / 16777216 + v / 4294967296 * 256 = omega arith in
-    let h : v % 4294967296 / 16777216 % 256 ≡ v % 4294967296 / 16777216 = omega arith in
-    let b = sym (ap (λ x. x % 256) e ∙ low-byte (v % 4294967296 / 256) (v / 4294967296 * 65536)) in
-    let c = sym (ap (λ x. x % 256) f ∙ low-byte (v % 4294967296 / 65536) (v / 4294967296 * 256)) in
-    let d = sym (ap (λ x. x % 256) g ∙ low-byte (v % 4294967296 / 16777216) (v / 4294967296) ∙ h) in
-    λ i. a i * 16777216 + b i * 65536 + c i * 256 + d i
-
-first : (v a x : ℕ) → a < 256 → v ≡ a + x * 256 → (v % 256 ≡ a) × (v / 256 ≡ x)
-first v a x l e = (omega arith, omega arith)
-
-turned-is : (v a b c d e : ℕ) → a < 256 → b < 256 → c < 256 → d < 256 → v ≡ a + (b + (c + (d + e * 256) * 256) * 256) * 256
-    → turned v ≡ a * 16777216 + b * 65536 + c * 256 + d
-unfolding turned
-turned-is v a b c d e la lb lc ld q =
-    let w = first v a (b + (c + (d + e * 256) * 256) * 256) la q in
-    let x = first (v / 256) b (c + (d + e * 256) * 256) lb (w .1) in
-    let y = first (v / 256 / 256) c (d + e * 256) lc (x .1) in
-    let z = first (v / 256 / 256 / 256) d e ld (y .1) in
-    let m : v / 65536 ≡ v / 256 / 256 = omega arith in
-    let n : v / 16777216 ≡ v / 256 / 256 / 256 = omega arith in
-    let k = ap (λ i. i % 256) m ∙ y .0 in
-    let l = ap (λ i. i % 256) n ∙ z .0 in
-    λ i. w .0 i * 16777216 + x .0 i * 65536 + k i * 256 + l i
-
--- LAW: a head is its bytes, the first the least significant
-pub head-turned : (t : List ℕ) (at v : ℕ) → Bytes t → v ≡ lowWord 7 t at → turned v ≡ getWord 3 t at
-unfolding getWord
-head-turned t at v bs e =
-    let h = e ∙ low-eight t at ∙ ap (λ x. x + lowWord 3 t (at + 4) * 4294967296) (low-four t at) in
-    turned-is v (getD t at 0) (getD t (at + 1) 0) (getD t (at + 2) 0) (getD t (at + 3) 0) (lowWord 3 t (at + 4)) (bs at) (bs (at + 1)) (bs (at + 2)) (bs (at + 3)) (omega arith)
-    ∙ omega arith
-
--- the word of the head
-first-byte : (t : List ℕ) (at v : ℕ) → v ≡ lowWord 7 t at → (0 < v → v ≡ 128) → v * 16777216 ≡ getWord 3 t at
-unfolding getWord
-first-byte t at v e h =
-    let a = low-eight t at in
-    let b = low-four t at in
-    same? v 0 (λ z. omega arith) (λ z. let c : v ≡ 128 = h (omega arith) in omega arith)
-
-not-own : (v : ℕ) → (0 < v → v ≡ 128) → isOwn (stateOf (v * 16777216 / 1073741824)) ≡ false
-not-own v h = same? v 0
-    (λ z. ap (λ x. isOwn (stateOf (x * 16777216 / 1073741824))) z)
-    (λ z. ap (λ x. isOwn (stateOf (x * 16777216 / 1073741824))) (h (omega arith)))
-
-module _ (s digit v lives : ℕ) where
-  -- LAW: the file is absent
-  pub blank-absent : v ≡ 0 → BlankPassed s digit v lives lives true
-  blank-absent z = record {
-    decided = sym (eq-eqb 18446744073709551615 18446744073709551615 refl) ∙ head-zero (v * 16777216) 18446744073709551615 (not (eqb digit 0)) (eqb s 0) (ap (λ x. x * 16777216) z);
-    lives-are = λ o. sym (ap (λ x. bitOr lives (cond (live (stateOf (x * 16777216 / 1073741824))) digit 0)) z ∙ or-zero-r lives);
-  }
-
-  module _ (e : v ≡ 128) where
-    virgin-is : headFormed (v * 16777216) 18446744073709551615 (not (eqb digit 0)) (eqb s 0) ≡ (not (eqb digit 0) && not (eqb s 0))
-    virgin-is = ap (λ x. headFormed (x * 16777216) 18446744073709551615 (not (eqb digit 0)) (eqb s 0)) e ∙ head-virgin (not (eqb digit 0)) (eqb s 0)
-
-    -- LAW: it is virgin, in set 0
-    pub blank-root : s ≡ 0 → BlankPassed s digit v lives lives false
-    blank-root z = record {
-      decided = sym (virgin-is ∙ ap (λ b. not (eqb digit 0) && not b) (eq-eqb s 0 z) ∙ and-false (not (eqb digit 0)));
-      lives-are = λ o. absurd (true≢false (sym o));
-    }
-
-    -- LAW: it is virgin, in an unused set
-    pub blank-unused : digit ≡ 0 → BlankPassed s digit v lives lives false
-    blank-unused z = record {
-      decided = sym (virgin-is ∙ ap (λ b. not b && not (eqb s 0)) (eq-eqb digit 0 z));
-      lives-are = λ o. absurd (true≢false (sym o));
-    }
-
-    -- LAW: it is virgin, and passes
-    pub blank-virgin : (s ≡ 0 → ⊥) → (digit ≡ 0 → ⊥) → BlankPassed s digit v lives (bitOr lives digit) true
-    blank-virgin a b = record {
-      decided = sym (virgin-is ∙ ap₂ (λ x y. not x && not y) (ne-eqb digit 0 b) (ne-eqb s 0 a));
-      lives-are = λ o. sym (ap (λ x. bitOr lives (cond (live (stateOf (x * 16777216 / 1073741824))) digit 0)) e);
-    }
-
+-- ---- an absent or virgin file
 -- LAW: its masks and its end are there
 module _ (limit : ℕ) (t : List ℕ) (f s digit : ℕ) (seen stored unmapped ends : List ℕ) (lives lives′ : ℕ) (r : Bool) where
   pub file-blank : FileSeen limit t f s seen seen (record { ok = true; stored = 0; unmapped = 18446744073709551615 })

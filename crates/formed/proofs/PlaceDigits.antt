@@ -17,7 +17,7 @@ use Rattle.formed.specs.Files.{LivesTo, Places, endOf, placeDigit, place
 use Rattle.formed.specs.Pass.{EachIs, UnusedFrom}
 use Rattle.packing.specs.Bitmap.{isOne}
 use Rattle.packing.specs.Bits.{bit, bit-none, bit-pow-other, bit-pow-same}
-use Rattle.rules.specs.State.{Files, SetRecord, isOwn, live, own, virgin}
+use Rattle.rules.specs.State.{Files, SetRecord, isOwn, live}
 use Rattle.tables.specs.Layout.{readSize, stateOf}
 
 -- LAW: a value of one set more

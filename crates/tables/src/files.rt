@@ -2,7 +2,7 @@
 ghost use mathlib.Core.Path.{_≡_};
 ghost use Prim.Native.Nat.{_<_};
 ghost use lib.ListN.{length};
-ghost use Rattle.rules.specs.State.{isAbsent, isMarked, isOwn, isVirgin, live};
+ghost use Rattle.rules.specs.State.{isAbsent, isMarked, isVirgin, live};
 ghost use Rattle.tables.specs.Layout.{tableBytes, stateOf, stateNumber};
 ghost use Rattle.tables.specs.Packed.{unpack};
 ghost use Rattle.tables.specs.Views.{PackedTables, Turns, putHeadIn};
@@ -93,17 +93,6 @@ pub fn is_absent(l: State) -> bool
     match l {
         State::Absent => true,
         State::Own => false,
-        State::Virgin => false,
-        State::Marked => false,
-    }
-}
-
-pub fn is_own(l: State) -> bool
-    ensures { λ r. ⌜ r ≡ isOwn (stateMeant l) ⌝ }
-{
-    match l {
-        State::Absent => false,
-        State::Own => true,
         State::Virgin => false,
         State::Marked => false,
     }

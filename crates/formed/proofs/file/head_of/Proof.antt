@@ -1,6 +1,6 @@
 -- `formed::file::head_of` meets its contract. Assumes nothing.
 use borrow.Author.Needs.{needs}
-use Rattle.formed.proofs.Passes.{head-low}
+use Rattle.formed.proofs.FileHead.{head-low}
 use Rattle.formed.proofs.file.head_of.Statement.{statement}
 use Rattle.formed.proofs.file.head_of.Tie as tie
 

@@ -2,7 +2,7 @@
 use mathlib.Core.Bool.{true≢false}
 use mathlib.Core.Path.{sym, _∙_}
 use borrow.Author.Needs.{needs}
-use Rattle.formed.proofs.Passes.{blank-head}
+use Rattle.formed.proofs.FileHead.{blank-head}
 use Rattle.formed.proofs.file.is_blank.Statement.{statement}
 use Rattle.formed.proofs.file.is_blank.Tie as tie
 

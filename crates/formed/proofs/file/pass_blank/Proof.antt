@@ -1,6 +1,6 @@
 -- `formed::file::pass_blank` meets its contract. Assumes nothing.
 use native.Mathlib.Omega.{arith}
-use Rattle.formed.proofs.Passes.{blank-absent, blank-root, blank-unused, blank-virgin}
+use Rattle.formed.proofs.FileHead.{blank-absent, blank-root, blank-unused, blank-virgin}
 use Rattle.formed.proofs.file.pass_blank.Statement.{statement}
 use Rattle.formed.proofs.file.pass_blank.Tie as tie
 

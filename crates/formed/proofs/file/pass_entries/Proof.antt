@@ -3,7 +3,8 @@ use mathlib.Core.Path.{refl, _∙_}
 use borrow.Author.Needs.{needs}
 use borrow.Author.Tests.{not-false}
 use Rattle.formed.proofs.AloneRules.{alone-head}
-use Rattle.formed.proofs.Passes.{ends-by-head, file-decided, file-refused, head-turned, lives-by-head}
+use Rattle.formed.proofs.FileHead.{head-turned}
+use Rattle.formed.proofs.Passes.{ends-by-head, file-decided, file-refused, lives-by-head}
 use Rattle.formed.proofs.PlaceDigits.{digit-used}
 use Rattle.formed.proofs.file.pass_entries.Statement.{statement}
 use Rattle.formed.proofs.file.pass_entries.Tie as tie
