@@ -15,7 +15,7 @@ use Rattle.copying.specs.Changes.{MarkedBy, markIf, markTo, marksDown, r
 use Rattle.copying.specs.Work.{Ready, Step, memoryOf}
 use Rattle.packing.specs.Bitmap.{isOne, one-digit}
 use Rattle.rules.proofs.Formed.Tests.{or-then}
-use Rattle.rules.proofs.Blocks.Tidy.{mark-map-same}
+use Rattle.rules.proofs.Steps.Reached.{mark-map-same}
 use Rattle.rules.specs.Reading.{dependent, dependsOn, reaches}
 use Rattle.rules.specs.Rules.{mark, markDown, markFile}
 use Rattle.rules.specs.State.{File, Files, SetRecord, Tables, Tree, live, marked, treeOf}

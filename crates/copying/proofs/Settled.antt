@@ -8,6 +8,7 @@ use Rattle.base.specs.Update.{upd, upd-keeps, upd-self}
 use Rattle.copying.proofs.Kept.{changed, sound-files}
 use Rattle.copying.specs.Changes.{settled}
 use Rattle.copying.specs.Work.{Alone, Ready, Step}
+use Rattle.rules.proofs.Steps.States.{virgin-is}
 use Rattle.rules.proofs.Storages.Sim.{settle-ent}
 use Rattle.rules.specs.Reading.{sizeByReading}
 use Rattle.rules.specs.Rules.{settle, settleAs, settleFile}
@@ -16,12 +17,6 @@ use Rattle.rules.specs.Storage.{real}
 use Rattle.tables.specs.Packed.{unpack}
 use Rattle.tables.specs.Views.{PackedTables, Turns, putFiles, putHead, putHeadIn}
 use Rattle.copying.specs.declared.giving.Counts.{Counts}
-
-is-virgin : (l : State) → isVirgin l ≡ true → l ≡ virgin
-is-virgin absent h = absurd (true≢false (sym h))
-is-virgin own h = absurd (true≢false (sym h))
-is-virgin virgin h = refl
-is-virgin marked h = absurd (true≢false (sym h))
 
 settle-still : (tree : Tree) (files : Files ℕ) (c : ℕ) → isVirgin (files c .state) ≡ false → settleFile tree c files ≡ files
 unfolding settleFile settleAs
@@ -35,7 +30,7 @@ settle-still tree files c h = go (files c .state) h
 
 settle-does : (tree : Tree) (files : Files ℕ) (c : ℕ) → isVirgin (files c .state) ≡ true → settleFile tree c files ≡ putHead files c own (sizeByReading tree files c)
 unfolding settleFile settleAs putHead
-settle-does tree files c h = rw (is-virgin (files c .state) h)
+settle-does tree files c h = rw (virgin-is (files c .state) h)
 
 -- LAW: as many files are live as before
 pub settle-live : (tree : Tree) (files : Files ℕ) (c s : ℕ) → live (settleFile tree c files s .state) ≡ live (files s .state)

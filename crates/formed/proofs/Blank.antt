@@ -18,9 +18,8 @@ use Rattle.formed.specs.Files.{endOf, fileAlone}
 use Rattle.formed.specs.Pass.{BlankFrom, UnusedFrom, onlyIf, passFile, passSets}
 use Rattle.packing.specs.Words.{Bytes}
 use Rattle.packing.specs.Zeros.{zero-at, zero-of, zeroBytes}
-use Rattle.rules.proofs.Formed.FilesFormed.{unmapped-is}
-use Rattle.rules.proofs.Formed.Shape.{absent-is}
 use Rattle.rules.proofs.Formed.Tests.{and-4, files-at, not-then, or-then, pages-at}
+use Rattle.rules.proofs.Steps.States.{absent-is, unmapped-is}
 use Rattle.rules.specs.State.{Entry, File, SetRecord, absentFile, isAbsent, isStored, isUnmapped, live, stored, unmapped}
 use Rattle.rules.specs.WellFormed.{allFiles, allPages, bitsFormed, filesFormed, zeroFile}
 use Rattle.setcheck.specs.Records.{fileRecordsFormed}

@@ -26,6 +26,7 @@ use Rattle.packing.specs.Bitmap.{isOne}
 use Rattle.packing.specs.Bits.{bit, bit-none, bit-suc, bit-zero}
 use Rattle.packing.specs.Fields.{getField}
 use Rattle.rules.proofs.Formed.Tests.{and-5, not-then, or-then}
+use Rattle.rules.proofs.Steps.States.{live-present}
 use Rattle.rules.specs.Reading.{dependent, resolve, someUnmapped}
 use Rattle.rules.specs.State.{File, State, absent, isAbsent, isMarked, isOwn, isStored, isUnmapped, isVirgin, live, marked, own, treeOf, virgin}
 use Rattle.rules.specs.WellFormed.{aboveFormed, allPages, pastFormed, rootFileFormed, sizeFormed, virginFormed, zeroFile}
@@ -58,12 +59,6 @@ and-digit n k =
     ap (bitAnd n) (e ∙ ap (λ j. 2 ^ j - 2 ^ k) (sym q)) ∙ and-high n 1 k
 
 -- ---- what the rules that concern no other file say of a live one
-absent-not : (l : State) → live l ≡ true → isAbsent l ≡ false
-absent-not absent h = absurd (true≢false (sym h))
-absent-not own h = refl
-absent-not virgin h = refl
-absent-not marked h = refl
-
 own-not : (l : State) → live l ≡ false → isOwn l ≡ false
 own-not absent h = refl
 own-not own h = h
@@ -84,13 +79,13 @@ module _ (t : List ℕ) (f s : ℕ) (h : fileAlone t f s ≡ true) (lv : live (u
   -- LAW: its set is used
   pub live-used : unpack t .sets s .used ≡ true
   live-used = test? (unpack t .sets s .used) (λ e. e)
-      (λ e. absurd (true≢false (sym (or-then (unpack t .sets s .used) (isAbsent (file .state)) (parts .2) e) ∙ absent-not (file .state) lv)))
+      (λ e. absurd (true≢false (sym (or-then (unpack t .sets s .used) (isAbsent (file .state)) (parts .2) e) ∙ live-present (file .state) lv)))
 
   -- LAW: in set 0, no page is unmapped
   root-mapped : s ≡ 0 → pageMask isUnmapped (file .map) ≡ 0
   root-mapped e =
       let r = not-then (eqb s 0) (rootFileFormed file) (and-right (virginFormed file) (not (eqb s 0) || rootFileFormed file) (parts .4)) (eq-eqb s 0 e) in
-      let q = or-then (isAbsent (file .state)) (not (isVirgin (file .state)) && not (isMarked (file .state)) && not (someUnmapped 64 (file .map))) r (absent-not (file .state) lv) in
+      let q = or-then (isAbsent (file .state)) (not (isVirgin (file .state)) && not (isMarked (file .state)) && not (someUnmapped 64 (file .map))) r (live-present (file .state) lv) in
       let n = and-right (not (isVirgin (file .state)) && not (isMarked (file .state))) (not (someUnmapped 64 (file .map))) q in
       eqb-true (pageMask isUnmapped (file .map)) 0 (not-false (eqb (pageMask isUnmapped (file .map)) 0) (mask-some (file .map) ∙ not-true (someUnmapped 64 (file .map)) n))
 

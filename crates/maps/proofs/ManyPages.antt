@@ -15,7 +15,8 @@ use Rattle.masks.proofs.MaskPages.{and-pages, lowest-gone, lowest-others, lowes
 use Rattle.masks.proofs.PageMasks.{mask-page}
 use Rattle.masks.specs.Pages.{IsRange, pageMask, pages}
 use Rattle.packing.specs.Bitmap.{number-lt}
-use Rattle.rules.specs.State.{Entry, Tables, hole, isUnmapped, stored, unmapped}
+use Rattle.rules.proofs.Steps.States.{unmapped-is}
+use Rattle.rules.specs.State.{Entry, Tables, hole, isUnmapped, unmapped}
 use Rattle.tables.proofs.KeptEntries.{all-holes}
 use Rattle.tables.specs.Views.{allHoles, entriesOf}
 use Rattle.maps.proofs.Steps.{resolve-above, resolve-here, resolve-level, resolve-low}
@@ -87,11 +88,6 @@ mapped-kept m u map l l′ e k = record {
     u-page p h = ap (λ x. pages x p) e ∙ mask-page isUnmapped map p h
 
 -- ---- the way up
-
-unmapped-is : (e : Entry ℕ) → isUnmapped e ≡ true → e ≡ unmapped
-unmapped-is unmapped h = refl
-unmapped-is hole h = absurd (true≢false (sym h))
-unmapped-is (stored b) h = absurd (true≢false (sym h))
 
 module _ (tb : Tables) (f s level m : ℕ) (l l′ : List ℕ) (rest looks : ℕ) (h : MappedKept m (tb .files f s .map) l l′ rest) (n : looks ≡ count 64 (pages m)) where
   abbrev map : ℕ → Entry ℕ

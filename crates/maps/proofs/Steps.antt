@@ -9,6 +9,7 @@ use lib.Dec.{eqb}
 use borrow.Author.Tests.{eq-eqb, ne-eqb}
 use Rattle.base.specs.Logic.{test?}
 use Rattle.maps.specs.Upward.{looksFrom, resolveFrom, sizeFrom}
+use Rattle.rules.proofs.Steps.States.{virgin-is}
 use Rattle.rules.specs.Reading.{dependent, dependsOn, needs, reaches, resolve, shownEntry, shownSize, sizeByReading, someUnmapped, walk}
 use Rattle.rules.specs.State.{Entry, File, Files, State, Tables, absent, hole, isUnmapped, isVirgin, live, marked, own, pageCount, stored, treeOf, unmapped, virgin}
 
@@ -79,12 +80,6 @@ module _ (tb : Tables) (f p s : ℕ) where
 pub size-level : (tb : Tables) (f s n : ℕ) → n ≡ tb .sets s .level → sizeFrom tb f s n ≡ sizeByReading (treeOf (tb .sets)) (tb .files f) s
 unfolding sizeFrom sizeByReading
 size-level tb f s n e = ap (λ m. walk (λ x. tb .sets x .parent) (λ (x : File ℕ). shownSize (x .state) (x .size)) 0 m (tb .files f) s) e
-
-virgin-is : (l : State) → isVirgin l ≡ true → l ≡ virgin
-virgin-is absent h = absurd (true≢false (sym h))
-virgin-is own h = absurd (true≢false (sym h))
-virgin-is virgin h = refl
-virgin-is marked h = absurd (true≢false (sym h))
 
 module _ (tb : Tables) (f s : ℕ) where
   size-shown : (l : State) (n : ℕ) → tb .files f s .state ≡ l → isVirgin l ≡ false → sizeFrom tb f s n ≡ tb .files f s .size

@@ -1,5 +1,7 @@
 -- What single steps of the rules do to the files of one number.
+pub mod States
 pub mod Walk
+pub mod Reached
 pub mod OneStep
 pub mod StepFour
 pub mod WriterSteps

@@ -14,7 +14,8 @@ use borrow.Author.Tests.{leb-false, leb-true, lt-ltb, ltb-false, ltb-true}
 use Rattle.base.specs.Logic.{and-left, and-right, same?, test?}
 use Rattle.base.specs.Update.{upd, upd-other, upd-same}
 use Rattle.rules.proofs.Agreement.Change.{Changed}
-use Rattle.rules.proofs.Steps.OneStep.{Alive, live-present}
+use Rattle.rules.proofs.Steps.OneStep.{Alive}
+use Rattle.rules.proofs.Steps.States.{live-present}
 use Rattle.rules.proofs.Steps.WriterSteps.{NoDup, bytes, mem?}
 use Rattle.rules.specs.Plain.{isNone, overwrite}
 use Rattle.rules.specs.Reading.{resolve, sizeByReading}

@@ -17,7 +17,8 @@ use Rattle.rules.proofs.Agreement.Agree.{Agree, agree-write, touched-on
 use Rattle.rules.proofs.Agreement.Change.{Changed, changed}
 use Rattle.rules.proofs.Agreement.Delete.{agree-gone, deleted}
 use Rattle.rules.proofs.Storages.Model.{model}
-use Rattle.rules.proofs.Steps.OneStep.{FilesOk, TreeOk, live-present}
+use Rattle.rules.proofs.Steps.OneStep.{FilesOk, TreeOk}
+use Rattle.rules.proofs.Steps.States.{live-present}
 use Rattle.rules.proofs.Agreement.Remove.{remove-agree}
 use Rattle.rules.proofs.Agreement.CreateMake.{create-agree, make-agree}
 use Rattle.rules.proofs.Agreement.Truncate.{agree-cut, agree-more, agree-same, dropped-in, kept-in, kept-once}

@@ -7,9 +7,10 @@ use Prim.Native.Nat.{_<_, ℕ}
 use Rattle.base.specs.Logic.{same?}
 use Rattle.base.specs.Update.{upd, upd-other, upd-same}
 use Rattle.rules.proofs.Storages.Model.{model}
-use Rattle.rules.proofs.Steps.OneStep.{Alive, FilesOk, TreeOk, cut-page, cut-size, keep-refl, live-present, putEntry-ent, putEntry-other, putEntry-page, putEntry-size, putEntry-state, resolve-same}
+use Rattle.rules.proofs.Steps.OneStep.{Alive, FilesOk, TreeOk, cut-page, cut-size, keep-refl, putEntry-ent, putEntry-other, putEntry-page, putEntry-size, putEntry-state, resolve-same}
+use Rattle.rules.proofs.Steps.States.{alive-own, live-present}
 use Rattle.rules.proofs.Steps.StepFour.{Given, Going, each-all, each-inv, giveAll-done, giveAll-going, given-refl}
-use Rattle.rules.proofs.Steps.WriterSteps.{Entered, Held, NoDup, Settled, alive-own, bytes, enter-all, laid, mem?, reserve-files, reserve-held, resolve-here, settle-no-virgin, settle-each, size-here}
+use Rattle.rules.proofs.Steps.WriterSteps.{Entered, Held, NoDup, Settled, bytes, enter-all, laid, mem?, reserve-files, reserve-held, resolve-here, settle-no-virgin, settle-each, size-here}
 use Rattle.rules.specs.Reading.{needs, resolve, sizeByReading}
 use Rattle.rules.specs.Rules.{Work, change, dropPage, each, enter, giveAll, putEntry, reserve, resize, settle}
 use Rattle.rules.specs.State.{File, Files, Tree, hole, isAbsent, live, own, stored, unmapped, virgin}

@@ -12,7 +12,8 @@ use borrow.Author.Tests.{lt-ltb}
 use Rattle.base.specs.Logic.{same?}
 use Rattle.base.specs.Update.{upd, upd-other, upd-same}
 use Rattle.rules.proofs.Agreement.Agree.{Agree, agree-one}
-use Rattle.rules.proofs.Steps.OneStep.{Alive, FilesOk, TreeOk, live-present, resolve-up, shown-none, shownSize-none, size-up}
+use Rattle.rules.proofs.Steps.OneStep.{Alive, FilesOk, TreeOk, resolve-up, shown-none, shownSize-none, size-up}
+use Rattle.rules.proofs.Steps.States.{live-present}
 use Rattle.rules.proofs.Steps.Walk.{walk-move}
 use Rattle.rules.proofs.Steps.WriterSteps.{bytes, resolve-here, size-here}
 use Rattle.rules.specs.Calls.{newFile}

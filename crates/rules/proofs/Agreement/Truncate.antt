@@ -14,7 +14,8 @@ use Rattle.base.specs.Logic.{same?, test?}
 use Rattle.base.specs.Update.{upd}
 use Rattle.rules.proofs.Agreement.Agree.{Agree, agree-one, at-add, from-high, from-low, from-mem}
 use Rattle.rules.proofs.Agreement.Change.{Changed}
-use Rattle.rules.proofs.Steps.OneStep.{Alive, live-present}
+use Rattle.rules.proofs.Steps.OneStep.{Alive}
+use Rattle.rules.proofs.Steps.States.{live-present}
 use Rattle.rules.proofs.Steps.WriterSteps.{NoDup, bytes, mem?}
 use Rattle.rules.specs.Plain.{cutOrFill}
 use Rattle.rules.specs.Reading.{resolve}

@@ -11,11 +11,13 @@ use Rattle.base.specs.Update.{upd, upd-keeps, upd-other, upd-same}
 use Rattle.rules.proofs.Blocks.GoodWork.{Good, PagesIn, ShortPage, Used, at, good-alike, good-more, not-stored, overlay-short, put-in, putEntry-named, putEntry-still, slot, upd-named, zero-short}
 use Rattle.rules.proofs.Storages.MapBlocks.{mapEntry}
 use Rattle.rules.proofs.Storages.Model.{model}
-use Rattle.rules.proofs.Steps.OneStep.{live-present, putEntry-ent, putEntry-other, putEntry-page, putEntry-state}
+use Rattle.rules.proofs.Steps.OneStep.{putEntry-ent, putEntry-other, putEntry-page, putEntry-state}
+use Rattle.rules.proofs.Steps.Reached.{mark-map-same, mark-presence}
+use Rattle.rules.proofs.Steps.States.{live-present}
 use Rattle.rules.proofs.Storages.Sim.{Demands, Sim, Translation, settle-ent}
 use Rattle.rules.proofs.Steps.StepFour.{needs-alive, needs-unmapped}
 use Rattle.rules.proofs.Blocks.TakeBlock.{take-below, take-bits, take-blocks, take-count, take-next, take-pages, take-unused}
-use Rattle.rules.proofs.Blocks.Tidy.{Tidy, mark-presence, mark-map-same, resolve-named, settle-presence, tidy-fewer, tidy-put}
+use Rattle.rules.proofs.Blocks.Tidy.{Tidy, resolve-named, settle-presence, tidy-fewer, tidy-put}
 use Rattle.rules.proofs.Agreement.Truncate.{apart}
 use Rattle.rules.specs.Reading.{needs, resolve}
 use Rattle.rules.specs.Rules.{Work, copy, dropPage, enterAs, freeEntry, mark, putEntry, reserve, reserveAs, resize, settle, takeOwn, withFiles}

@@ -12,9 +12,10 @@ use Rattle.base.specs.Update.{upd, upd-other, upd-same}
 use Rattle.rules.proofs.Blocks.GoodWork.{Good, PagesIn, Place, Used, at, slot}
 use Rattle.rules.proofs.Steps.OneStep.{TreeOk}
 use Rattle.rules.proofs.Steps.Pending.{Finished}
+use Rattle.rules.proofs.Steps.States.{stored-is}
 use Rattle.rules.specs.Calls.{Store, begin, finish, treeIn}
 use Rattle.rules.specs.Rules.{Work}
-use Rattle.rules.specs.State.{Entry, Files, Tree, hole, isAbsent, isStored, stored, unmapped}
+use Rattle.rules.specs.State.{Entry, Files, Tree, isAbsent, isStored, stored, unmapped}
 use Rattle.rules.specs.Storage.{real}
 
 -- an entry that names block b
@@ -64,11 +65,6 @@ pub record Outer (r : Store real) (f : ℕ) (b : ℕ) : Type 0 where
   pub page : ℕ
   pub other : f ≡ file → ⊥
   pub names : r .files file set .map page ≡ stored b
-
-stored-is : {K : Type 0} (e : Entry K) → isStored e ≡ true → (b : K) × (e ≡ stored b)
-stored-is unmapped h = absurd (true≢false (sym h))
-stored-is hole h = absurd (true≢false (sym h))
-stored-is (stored b) h = (b, refl)
 
 pub none-stored : (b : ℕ) → _≡_ {A = Entry ℕ} unmapped (stored b) → ⊥
 none-stored b e = let z : _≡_ {A = ℕ} 0 1 = cc in omega arith

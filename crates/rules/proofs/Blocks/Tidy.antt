@@ -1,18 +1,16 @@
 -- Where entries name blocks: at pages below 64 only, and outside the set worked on in present files only, which stand in used sets.
 -- Each step of the rules keeps that. Assumes nothing.
-use mathlib.Core.Bool.{Bool, cond, false, true}
+use mathlib.Core.Bool.{false, true}
 use mathlib.Core.Logic.{inl, inr, _⊎_, ⊎-elim}
 use mathlib.Core.Path.{_≡_, ap, refl, subst, sym, _∙_}
 use Prim.Native.Nat.{_<_, suc, zero, ℕ}
 use native.Mathlib.Omega.{arith}
-use lib.Dec.{eqb}
-use borrow.Author.Tests.{eqb-true}
-use Rattle.base.specs.Logic.{and-left, pick, same?, test?}
+use Rattle.base.specs.Logic.{pick, same?}
 use Rattle.base.specs.Update.{upd-keeps}
-use Rattle.rules.proofs.Steps.OneStep.{live-present, putEntry-other, putEntry-page, putEntry-state}
-use Rattle.rules.specs.Reading.{dependent, dependsOn, reaches, resolve, shownEntry, walk}
-use Rattle.rules.specs.Rules.{markDown, markFile, putEntry, settleAs, settleFile}
-use Rattle.rules.specs.State.{Entry, File, Files, State, Tree, absent, hole, isAbsent, live, marked, own, stored, unmapped, virgin}
+use Rattle.rules.proofs.Steps.OneStep.{putEntry-other, putEntry-page, putEntry-state}
+use Rattle.rules.specs.Reading.{resolve, shownEntry, walk}
+use Rattle.rules.specs.Rules.{putEntry, settleAs, settleFile}
+use Rattle.rules.specs.State.{Entry, File, Files, State, Tree, absent, hole, isAbsent, marked, own, stored, unmapped, virgin}
 
 module _ {K : Type 0} where
   -- the files of one number, in a call on the file of set s
@@ -59,28 +57,6 @@ module _ {K : Type 0} where
       go own e = refl
       go marked e = refl
       go virgin e = upd-keeps (λ (y : File K). isAbsent (y .state)) files c _ (sym (ap isAbsent e)) x
-
-  reached-live : (t : Tree) (files : Files K) (c : ℕ) → live (files c .state) ≡ true → (n x : ℕ) → dependsOn t files c n x ≡ true → live (files x .state) ≡ true
-  unfolding dependsOn dependent
-  reached-live t files c al zero x h = subst (λ y. live (files y .state) ≡ true) (eqb-true c x h) al
-  reached-live t files c al (suc n) x h =
-      test? (eqb c x) (λ e. subst (λ y. live (files y .state) ≡ true) (eqb-true c x e) al)
-      (λ e. and-left (live (files x .state)) _ (and-left _ _ (rw e at h)))
-
-  pub mark-map-same : (t : Tree) (files : Files K) (c x p : ℕ) → markDown t files c x .map p ≡ files x .map p
-  unfolding markDown markFile
-  mark-map-same t files c x p = go (reaches t files c x) (files x)
-    where
-      go : (y : Bool) (f : File K) → cond y (markFile f) f .map p ≡ f .map p
-      go true f = refl
-      go false f = refl
-
-  pub mark-presence : (t : Tree) (files : Files K) (c : ℕ) → live (files c .state) ≡ true → (x : ℕ) → isAbsent (markDown t files c x .state) ≡ isAbsent (files x .state)
-  unfolding markDown markFile reaches
-  mark-presence t files c al x =
-      test? (dependsOn t files c (t .level x) x)
-      (λ e. rw e (sym (live-present (files x .state) (reached-live t files c al (t .level x) x e))))
-      (λ e. rw e)
 
   -- a page that resolves to stored is stored in some set's map
   walk-named : (parent : ℕ → ℕ) (files : Files K) (p : ℕ) (b : K) (n s : ℕ) → walk parent (λ (x : File K). shownEntry (x .map p)) hole n files s ≡ stored b → (x : ℕ) × (files x .map p ≡ stored b)

@@ -1,6 +1,6 @@
 -- The tests of well formed tables on files say what FilesFormed says, in both directions; with those on sets, what setsFormed says. Assumes nothing.
 use mathlib.Core.Bool.{_&&_, false, not, true, true≢false, _||_}
-use mathlib.Core.Logic.{inl, inr, _⊎_, ⊎-elim}
+use mathlib.Core.Logic.{⊎-elim}
 use mathlib.Core.Path.{ap, fun-ext, refl, subst, sym, _∙_, _≡_}
 use Prim.Native.Nat.{_*_, _<_, suc, zero, ℕ, _≤_}
 use native.Mathlib.Omega.{arith}
@@ -9,14 +9,16 @@ use borrow.Author.Tests.{eq-eqb, eqb-true, le-leb, le-ltb, leb-true, ltb-false, 
 use Rattle.base.specs.Count.{all, all-at, all-of}
 use Rattle.base.specs.Logic.{and-both, and-left, and-right, test?}
 use Rattle.rules.proofs.Formed.FilesOfSets.{format-formed}
-use Rattle.rules.proofs.Steps.OneStep.{Alive, FilesOk, live-present, resolve-up, size-up}
+use Rattle.rules.proofs.Steps.OneStep.{Alive, FilesOk, resolve-up, size-up}
+use Rattle.rules.proofs.Steps.Reached.{some-unmapped, unmapped-some}
+use Rattle.rules.proofs.Steps.States.{absent-is, live-present, other-own, own-is, own-or-virgin, unmapped-is, virgin-is}
 use Rattle.rules.proofs.Tree.SetsFormed.{sets-formed, tree-formed, zero-sets-formed}
 use Rattle.rules.proofs.Tree.SetsOk.{SetsOk, set-listed}
-use Rattle.rules.proofs.Formed.Shape.{FileFits, FilesFormed, Shape, absent-is, fits-absent, some-unmapped, unmapped-there}
+use Rattle.rules.proofs.Formed.Shape.{FileFits, FilesFormed, Shape, fits-absent}
 use Rattle.rules.proofs.Formed.Tests.{all-3, all-4, and-3, and-4, files-at, files-of, not-of, not-then, or-of, or-then, pages-at, pages-of}
 use Rattle.rules.proofs.Steps.WriterSteps.{size-here}
 use Rattle.rules.specs.Reading.{dependent, resolve, sizeByReading, someUnmapped}
-use Rattle.rules.specs.State.{Entry, File, Files, State, Tables, Tree, absent, absentFile, hole, isAbsent, isMarked, isOwn, isStored, isUnmapped, isVirgin, live, marked, own, stored, treeOf, unmapped, unusedSet, virgin}
+use Rattle.rules.specs.State.{File, Files, Tables, Tree, absentFile, isAbsent, isMarked, isOwn, isStored, isUnmapped, isVirgin, live, own, treeOf, unmapped, unusedSet, virgin}
 use Rattle.rules.specs.WellFormed.{aboveFormed, allFiles, allPages, allSets, filesFormed, pastFormed, rootFileFormed, setsFormed, sizeFormed, treeFormed, virginFormed, zeroFile, zeroSet, zerosFormed}
 
 -- what lies out of range in the tables: unused sets, absent files, unmapped entries
@@ -25,36 +27,6 @@ pub record Ranged (tb : Tables) : Type 0 where
   pub no-numbers : (f s : ℕ) → 16 ≤ f → tb .files f s ≡ absentFile
   pub no-files : (f s : ℕ) → 8 ≤ s → tb .files f s ≡ absentFile
   pub no-pages : (f s p : ℕ) → 64 ≤ p → tb .files f s .map p ≡ unmapped
-
-pub unmapped-is : (e : Entry ℕ) → isUnmapped e ≡ true → e ≡ unmapped
-unmapped-is unmapped h = refl
-unmapped-is hole h = absurd (true≢false (sym h))
-unmapped-is (stored b) h = absurd (true≢false (sym h))
-
-virgin-is : (l : State) → isVirgin l ≡ true → l ≡ virgin
-virgin-is absent h = absurd (true≢false (sym h))
-virgin-is own h = absurd (true≢false (sym h))
-virgin-is virgin h = refl
-virgin-is marked h = absurd (true≢false (sym h))
-
-own-is : (l : State) → isOwn l ≡ true → l ≡ own
-own-is absent h = absurd (true≢false (sym h))
-own-is own h = refl
-own-is virgin h = absurd (true≢false (sym h))
-own-is marked h = absurd (true≢false (sym h))
-
-own-or-virgin : (l : State) → live l ≡ true → (l ≡ own) ⊎ (l ≡ virgin)
-own-or-virgin absent h = absurd (true≢false (sym h))
-own-or-virgin own h = inl refl
-own-or-virgin virgin h = inr refl
-own-or-virgin marked h = absurd (true≢false (sym h))
-
--- neither absent, virgin nor marked
-other-own : (l : State) → isAbsent l ≡ false → not (isVirgin l) ≡ true → not (isMarked l) ≡ true → l ≡ own
-other-own absent a v m = absurd (true≢false a)
-other-own own a v m = refl
-other-own virgin a v m = absurd (true≢false (sym v))
-other-own marked a v m = absurd (true≢false (sym m))
 
 -- size 0 and only unmapped entries
 zero-size : (x : File ℕ) → zeroFile x ≡ true → x .size ≡ 0
@@ -106,7 +78,7 @@ module _ (tb : Tables) (r : Ranged tb) (so : SetsOk (tb .sets)) (absents : allFi
     root-is-own a = let q = root-parts a in other-own (files 0 .state) a (q .0) (q .1)
 
     root-is-full : isAbsent (files 0 .state) ≡ false → (p : ℕ) → p < 64 → files 0 .map p ≡ unmapped → ⊥
-    root-is-full a p l u = true≢false (sym (unmapped-there (files 0 .map) p 64 l u) ∙ not-true (someUnmapped 64 (files 0 .map)) (root-parts a .2))
+    root-is-full a p l u = true≢false (sym (unmapped-some (files 0 .map) p 64 l u) ∙ not-true (someUnmapped 64 (files 0 .map)) (root-parts a .2))
 
     absent-blank : (s : ℕ) → s < 8 → isAbsent (files s .state) ≡ true → files s ≡ absentFile
     absent-blank s l a =
@@ -136,7 +108,7 @@ module _ (tb : Tables) (r : Ranged tb) (so : SetsOk (tb .sets)) (absents : allFi
     unfolding dependent
     ok-at = record {
       closed = λ s p l h u.
-          not-then (dependent (files s)) (live (files (tb .sets s .parent) .state)) (files-at (aboveFormed tb) (parts .2) f s f16 (alive-below s h)) (rw h (unmapped-there (files s .map) p 64 l u));
+          not-then (dependent (files s)) (live (files (tb .sets s .parent) .state)) (files-at (aboveFormed tb) (parts .2) f s f16 (alive-below s h)) (rw h (unmapped-some (files s .map) p 64 l u));
       listed = λ s p l h u.
           let a = live-present (files s .state) h in
           set-listed (tb .sets) so s (test? (tb .sets s .used) (λ e. e) (λ e. absurd (true≢false (sym (shape-at s .unused e) ∙ a)))) (λ z. shape-at s .root-full z a p l u);

@@ -8,13 +8,14 @@ use borrow.Author.Tests.{le-ltb, lt-ltb}
 use Rattle.base.specs.Logic.{same?}
 use Rattle.base.specs.Update.{upd, upd-other, upd-same}
 use Rattle.rules.proofs.Tree.MakeSet.{make-same}
-use Rattle.rules.proofs.Steps.OneStep.{Alive, TreeOk, live-present, resolve-up, size-up}
+use Rattle.rules.proofs.Steps.OneStep.{Alive, TreeOk, resolve-up, size-up}
+use Rattle.rules.proofs.Steps.States.{absent-is, live-present}
 use Rattle.rules.proofs.Formed.Past.{past-one}
 use Rattle.rules.proofs.Agreement.Remove.{remove-tree}
 use Rattle.rules.proofs.Tree.RemoveSet.{remove-same}
 use Rattle.rules.proofs.Agreement.CreateMake.{away-page, away-size, make-tree}
 use Rattle.rules.proofs.Tree.SetsOk.{SetsOk}
-use Rattle.rules.proofs.Formed.Shape.{FileFits, FilesFormed, absent-is, fits-absent}
+use Rattle.rules.proofs.Formed.Shape.{FileFits, FilesFormed, fits-absent}
 use Rattle.rules.proofs.Steps.WriterSteps.{resolve-here}
 use Rattle.rules.specs.Calls.{newFile}
 use Rattle.rules.specs.Reading.{resolve, sizeByReading}

@@ -14,7 +14,8 @@ use Rattle.rules.proofs.Agreement.Agree.{from-high, from-mem, touched-o
 use Rattle.rules.proofs.Agreement.Change.{Changed, changed}
 use Rattle.rules.proofs.Agreement.Delete.{deleted}
 use Rattle.rules.proofs.Storages.Model.{model}
-use Rattle.rules.proofs.Steps.OneStep.{Alive, TreeOk, live-present}
+use Rattle.rules.proofs.Steps.OneStep.{Alive, TreeOk}
+use Rattle.rules.proofs.Steps.States.{live-present}
 use Rattle.rules.proofs.Formed.Shape.{FilesFormed, Fit, fit-change, shape-delete, size-most}
 use Rattle.rules.proofs.Agreement.Truncate.{dropped-in, kept-in, kept-once}
 use Rattle.rules.proofs.Steps.WriterSteps.{NoDup, mem?}

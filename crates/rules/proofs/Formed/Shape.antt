@@ -1,29 +1,24 @@
 -- The rules on files as propositions, for the files of one number, over any storage.
 -- Every step of a write, a truncate and a delete keeps those of them that look at one file at a time. Assumes nothing.
-use mathlib.Core.Bool.{Bool, false, true, true≢false, _||_}
+use mathlib.Core.Bool.{Bool, false, true, true≢false}
 use mathlib.Core.List.{List, List·Memᴰ, _∷_}
-use mathlib.Core.Logic.{inl, inr, _⊎_, ⊎-elim}
+use mathlib.Core.Logic.{⊎-elim}
 use mathlib.Core.Option.{Option, none, some}
 use mathlib.Core.Path.{ap, refl, subst, sym, _∙_, _≡_}
 use Prim.Native.Nat.{_*_, _<_, suc, zero, ℕ, _≤_}
 use native.Mathlib.Omega.{arith}
 use lib.Dec.{eqb}
-use borrow.Author.Tests.{eqb-true}
-use Rattle.base.specs.Logic.{and-left, and-right, or-right, pick, same?, test?}
+use Rattle.base.specs.Logic.{and-right, pick, same?, test?}
 use Rattle.base.specs.Update.{upd, upd-keeps, upd-other, upd-same}
 use Rattle.rules.proofs.Agreement.Agree.{from-high}
-use Rattle.rules.proofs.Steps.OneStep.{Alive, FilesOk, live-present}
+use Rattle.rules.proofs.Steps.OneStep.{Alive, FilesOk}
+use Rattle.rules.proofs.Steps.Reached.{reached-by, reached-live, some-unmapped}
+use Rattle.rules.proofs.Steps.States.{live-present}
 use Rattle.rules.proofs.Steps.StepFour.{each-inv, needs-alive, needs-unmapped}
-use Rattle.rules.specs.Reading.{dependent, dependsOn, needs, reaches, resolve, shownSize, sizeByReading, someUnmapped, walk}
+use Rattle.rules.specs.Reading.{dependent, needs, reaches, resolve, shownSize, sizeByReading, walk}
 use Rattle.rules.specs.Rules.{Work, change, copy, deleteAs, deleteFile, dropPage, each, enter, enterAs, eraseFile, from, give, giveAll, mark, markDown, markFile, pageOf, putEntry, reserve, reserveAs, resize, settle, settleAs, settleFile, supply, takeOwn}
 use Rattle.rules.specs.State.{Entry, File, Files, State, Tree, absent, absentFile, hole, isAbsent, isStored, isUnmapped, live, marked, own, stored, unmapped, virgin}
 use Rattle.rules.specs.Storage.{Storage}
-
-pub absent-is : (l : State) → isAbsent l ≡ true → l ≡ absent
-absent-is absent h = refl
-absent-is own h = cc
-absent-is virgin h = cc
-absent-is marked h = cc
 
 -- what a walk gives has what everything shown has
 walk-has : {X Y : Type 0} (parent : ℕ → ℕ) (look : X → Option Y) (d : Y) (P : Y → Type 0) (files : ℕ → X) → P d → ((x : ℕ) (v : Y) → look (files x) ≡ some v → P v) →
@@ -75,22 +70,6 @@ module _ {K : Type 0} where
       shown-is own n v e = cc
       shown-is virgin n v e = cc
       shown-is marked n v e = cc
-
-  -- an unmapped entry among the first n
-  pub some-unmapped : (m : ℕ → Entry K) (n : ℕ) → someUnmapped n m ≡ true → (p : ℕ) × (p < n) × (m p ≡ unmapped)
-  unfolding someUnmapped
-  some-unmapped m zero h = absurd (true≢false (sym h))
-  some-unmapped m (suc n) h = go (m n) refl h (some-unmapped m n)
-    where
-      go : (e : Entry K) → m n ≡ e → (isUnmapped e || someUnmapped n m) ≡ true → (someUnmapped n m ≡ true → (p : ℕ) × (p < n) × (m p ≡ unmapped)) → (p : ℕ) × (p < suc n) × (m p ≡ unmapped)
-      go unmapped q h r = (n, omega arith, q)
-      go hole q h r = let z = r h in (z .0, (let l = z .1 in omega arith), z .2)
-      go (stored b) q h r = let z = r h in (z .0, (let l = z .1 in omega arith), z .2)
-
-  pub unmapped-there : (m : ℕ → Entry K) (p n : ℕ) → p < n → m p ≡ unmapped → someUnmapped n m ≡ true
-  unfolding someUnmapped
-  unmapped-there m p zero l u = absurd (omega arith)
-  unmapped-there m p (suc n) l u = same? p n (λ e. rw (← e, u)) (λ d. or-right (isUnmapped (m n)) _ (unmapped-there m p n (omega arith) u))
 
   -- ONE FILE IS CHANGED
   pub fits-absent : (t : Tree) (s : ℕ) → FileFits t s absentFile
@@ -161,29 +140,20 @@ module _ {K : Type 0} where
 
     -- marks: only live files, never that of the root
     module _ (c : ℕ) (al : Alive files c) (c0 : c ≡ 0 → ⊥) where
-      reach : (n x : ℕ) → dependsOn t files c n x ≡ true → (c ≡ x) ⊎ (dependent (files x) ≡ true)
-      unfolding dependsOn
-      reach zero x h = inl (eqb-true c x h)
-      reach (suc n) x h = test? (eqb c x) (λ e. inl (eqb-true c x e)) (λ e. inr (and-left (dependent (files x)) _ (rw e at h)))
-
-      reach-live : (x : ℕ) → reaches t files c x ≡ true → Alive files x
-      unfolding reaches dependent
-      reach-live x h = ⊎-elim (λ e. subst (Alive files) e al) (λ d. and-left (live (files x .state)) _ d) (reach (t .level x) x h)
-
       reach-root : (x : ℕ) → reaches t files c x ≡ true → x ≡ 0 → ⊥
       unfolding reaches dependent
       reach-root x h z =
           ⊎-elim (λ e. c0 (e ∙ z))
           (λ d. let u = some-unmapped (files x .map) 64 (and-right (live (files x .state)) _ d) in
-          f .shape x .root-full z (live-present (files x .state) (reach-live x h)) (u .0) (u .1) (u .2))
-          (reach (t .level x) x h)
+          f .shape x .root-full z (live-present (files x .state) (reached-live t files c al x h)) (u .0) (u .1) (u .2))
+          (reached-by t files c (t .level x) x h)
 
       fit-mark : Fit t s (markDown t files c)
       unfolding markDown markFile
       fit-mark = record {
         shape = λ x. test? (reaches t files c x)
             (λ e. rw e
-            (fits-present t x (files x) _ (f .shape x) (live-present (files x .state) (reach-live x e)) refl (λ p l. refl) (λ p u. u) (f .shape x .most) (λ v. cc) (λ z. absurd (reach-root x e z))))
+            (fits-present t x (files x) _ (f .shape x) (live-present (files x .state) (reached-live t files c al x e)) refl (λ p l. refl) (λ p u. u) (f .shape x .most) (λ v. cc) (λ z. absurd (reach-root x e z))))
             (λ e. rw e (f .shape x));
         here = test? (reaches t files c s) (λ e. rw e) (λ e. rw e (f .here));
       }

@@ -1,19 +1,20 @@
 -- When one child's turn of step 4 marks a file: on the tally, in document 01's words. Assumes nothing.
-use mathlib.Core.Bool.{_&&_, Bool, false, true, true≢false, _||_}
+use mathlib.Core.Bool.{_&&_, Bool, false, true, _||_}
 use mathlib.Core.List.{List·Memᴰ}
 use mathlib.Core.Logic.{inl, inr, _↔_, _⊎_, ⊎-elim}
 use mathlib.Core.Path.{refl, subst, sym, _∙_, _≡_}
 use Prim.Native.Nat.{_<_, suc, zero, ℕ, _≤_}
-use native.Mathlib.Omega.{arith}
 use lib.Dec.{eqb}
 use borrow.Author.Tests.{eqb-true}
-use Rattle.base.specs.Logic.{and-both, and-left, and-right, or-false, or-right, same?, test?}
+use Rattle.base.specs.Logic.{and-both, and-left, and-right, or-false, or-right, test?}
 use Rattle.base.specs.Update.{upd, upd-keeps}
 use Rattle.rules.proofs.Steps.OneStep.{TreeOk}
-use Rattle.rules.proofs.Tally.TallyReach.{any-some, depends-above, marked-reaches, one-up, self-up}
-use Rattle.rules.specs.Reading.{dependsOn, reaches}
+use Rattle.rules.proofs.Steps.Reached.{reaches-self, some-unmapped, unmapped-some}
+use Rattle.rules.proofs.Steps.States.{unmapped-is}
+use Rattle.rules.proofs.Tally.TallyReach.{any-some, depends-above, marked-reaches, one-up}
+use Rattle.rules.specs.Reading.{dependent, dependsOn, reaches}
 use Rattle.rules.specs.State.{Tree, hole, isMarked, isStored, isUnmapped, live, pageCount, setCount, stored, unmapped}
-use Rattle.rules.specs.Tally.{Kind, TallyFile, TallyFiles, Turn, anyUnmapped, childPage, childTurn, dependsAbove, kindAt, markedWith, neededCopy, reachedDown, tallyKind, tallyMark}
+use Rattle.rules.specs.Tally.{Kind, TallyFile, TallyFiles, Turn, childPage, childTurn, dependsAbove, kindAt, markedWith, neededCopy, reachedDown, tallyKind, tallyMark}
 
 -- "Marking a file marks every own or virgin file of its number in a child set that has any unmapped page, and so on down":
 -- the file of set y is marked with that of set c
@@ -21,40 +22,23 @@ pub data MarkedDown (t : Tree) (fs : TallyFiles) (y : ℕ) : ℕ → Type 0 wher
   mark-itself : {c : ℕ} → c ≡ y → MarkedDown t fs y c
   mark-below : {c : ℕ} (d p : ℕ) → List·Memᴰ d (t .children c) → live (fs d .state) ≡ true → p < pageCount → fs d .map p ≡ unmapped → MarkedDown t fs y d → MarkedDown t fs y c
 
-is-unmapped : (k : Kind) → isUnmapped k ≡ true → k ≡ unmapped
-is-unmapped unmapped h = refl
-is-unmapped hole h = cc
-is-unmapped (stored b) h = cc
-
-any-page : (t : Tree) (n : ℕ) (m : ℕ → Kind) → anyUnmapped t n m ≡ true → (p : ℕ) × (p < n) × (m p ≡ unmapped)
-unfolding anyUnmapped
-any-page t zero m h = absurd (true≢false (sym h))
-any-page t (suc n) m h =
-    test? (isUnmapped (m n)) (λ e. (n, omega arith, is-unmapped (m n) e))
-    (λ e. let r = any-page t n m (rw e at h) in (r .0, omega (arith, r .1), r .2))
-
-page-any : (t : Tree) (n : ℕ) (m : ℕ → Kind) (p : ℕ) → p < n → m p ≡ unmapped → anyUnmapped t n m ≡ true
-unfolding anyUnmapped
-page-any t zero m p l e = absurd (omega arith)
-page-any t (suc n) m p l e = same? p n (λ q. rw (← q) (rw e refl)) (λ q. or-right (isUnmapped (m n)) _ (page-any t n m p (omega arith) e))
-
 module _ (t : Tree) (fs : TallyFiles) where
   with-down : (n c y : ℕ) → reachedDown t fs n c y ≡ true → MarkedDown t fs y c
-  unfolding reachedDown dependsAbove
+  unfolding reachedDown dependent
   with-down zero c y h = mark-itself (eqb-true c y h)
   with-down (suc n) c y h =
       test? (eqb c y) (λ e. mark-itself (eqb-true c y e))
       (λ e. let g = any-some (t .children c) _ (rw e at h) in
-      let a = and-left (dependsAbove t (fs (g .0))) _ (g .2) in
-      let q = any-page t pageCount (fs (g .0) .map) (and-right (live (fs (g .0) .state)) _ a) in
+      let a = sym (depends-above t fs (fs (g .0))) ∙ and-left (dependsAbove t (fs (g .0))) _ (g .2) in
+      let q = some-unmapped (fs (g .0) .map) pageCount (and-right (live (fs (g .0) .state)) _ a) in
       mark-below (g .0) (q .0) (g .1) (and-left _ _ a) (q .1) (q .2) (with-down n (g .0) y (and-right (dependsAbove t (fs (g .0))) _ (g .2))))
 
   module _ (ok : TreeOk t) (shallow : (x : ℕ) → t .level x ≤ setCount) where
     down-reaches : (c y : ℕ) → MarkedDown t fs y c → reaches t fs c y ≡ true
-    unfolding reaches dependsAbove
-    down-reaches c y (mark-itself e) = subst (λ z. dependsOn t fs c (t .level z) z ≡ true) e (self-up t ok fs (t .level c) c)
+    unfolding reaches dependent
+    down-reaches c y (mark-itself e) = subst (λ z. dependsOn t fs c (t .level z) z ≡ true) e (reaches-self t fs c (t .level c))
     down-reaches c y (mark-below d p m a l u r) =
-        one-up t ok fs c d m (sym (depends-above t fs (fs d)) ∙ and-both _ _ a (page-any t pageCount (fs d .map) p l u)) (t .level y) y refl (down-reaches d y r)
+        one-up t ok fs c d m (and-both _ _ a (unmapped-some (fs d .map) p pageCount l u)) (t .level y) y refl (down-reaches d y r)
 
     -- the test of the tally says so exactly
     pub marked-down : (c y : ℕ) → (markedWith t fs c y ≡ true) ↔ MarkedDown t fs y c
@@ -94,7 +78,7 @@ module _ (t : Tree) (s p c : ℕ) (x : Turn) where
       let h₂ : need ≡ true = and-left need kind h₁ in
       record {
         present = and-left _ (isUnmapped (x .files c .map p)) h₂;
-        needed = is-unmapped (x .files c .map p) (and-right (live (x .files c .state)) _ h₂);
+        needed = unmapped-is (x .files c .map p) (and-right (live (x .files c .state)) _ h₂);
         copied = is-stored (kindAt t (x .files) s p) (and-right need kind h₁);
         none = eqb-true (x .free) 0 (and-right (need && kind) (eqb (x .free) 0) h);
       }

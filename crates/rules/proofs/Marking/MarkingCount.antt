@@ -14,9 +14,10 @@ use Rattle.rules.proofs.Marking.Marking.{MarkedDown, finds-none, findsN
 use Rattle.rules.proofs.Marking.MarkingCalls.{last-marks, settle-marks, truncate-cases, turnsStart}
 use Rattle.rules.proofs.Marking.MarkingRun.{run-marks}
 use Rattle.rules.proofs.Steps.OneStep.{TreeOk}
+use Rattle.rules.proofs.Steps.States.{live-unmarked}
 use Rattle.rules.proofs.Tally.TallyWriter.{turns-inv}
 use Rattle.rules.specs.Numbers.{delete, truncate, write}
-use Rattle.rules.specs.State.{State, Tree, absent, hole, isMarked, isStored, isUnmapped, live, marked, own, setCount, stored, unmapped, virgin}
+use Rattle.rules.specs.State.{Tree, hole, isMarked, isStored, isUnmapped, live, setCount, stored, unmapped}
 use Rattle.rules.specs.Tally.{Kind, Tally, TallyFile, TallyFiles, Turn, childPage, childTurn, kindAt, markedWith, neededCopy, tallyCall, tallyCut, tallyDelete, tallyGive, tallyGrow, tallyLeaves, tallySize, tallyTold, tallyTurns, tallyWrite, truncateTouches, writeTouches}
 
 -- numbers that pass one test or another, none both; and those that pass the one and not the other
@@ -37,12 +38,6 @@ count-new (suc n) f g h =
 count-if : (n : ℕ) (b : Bool) (f : ℕ → Bool) → count n (λ y. b && f y) ≡ cond b (count n f) 0
 count-if n true f = refl
 count-if n false f = count-none n _ (λ x l. refl)
-
-live-unmarked : (l : State) → live l ≡ true → isMarked l ≡ true → ⊥
-live-unmarked absent h k = true≢false (sym h)
-live-unmarked own h k = true≢false (sym k)
-live-unmarked virgin h k = true≢false (sym k)
-live-unmarked marked h k = true≢false (sym h)
 
 -- who is marked with an own or virgin file is own or virgin
 live-down : (t : Tree) (fs : TallyFiles) (c y : ℕ) → live (fs c .state) ≡ true → MarkedDown t fs y c → live (fs y .state) ≡ true
@@ -71,9 +66,9 @@ module _ (t : Tree) (ok : TreeOk t) (shallow : (x : ℕ) → t .level x ≤ setC
   turn-counts p c x =
       count-same setCount _ _ (λ y l. turn-test t s p c x y)
       ∙ count-or setCount (λ y. isMarked (x .files y .state)) (λ y. findsNone t s p c x && markedWith t (x .files) c y)
-      (λ y a b. live-unmarked (x .files y .state)
+      (λ y a b. true≢false (sym a ∙ live-unmarked (x .files y .state)
       (live-down t (x .files) c y (finds-none t s p c x (and-left _ (markedWith t (x .files) c y) b) .present)
-      (marked-down t (x .files) ok shallow c y .0 (and-right (findsNone t s p c x) _ b))) a)
+      (marked-down t (x .files) ok shallow c y .0 (and-right (findsNone t s p c x) _ b)))))
       ∙ ap (λ n. markedSets (x .files) + n) (count-if setCount (findsNone t s p c x) (markedWith t (x .files) c))
 
   run-counts : (touches : ℕ → Bool) (x : Turn) → tallyGive t s touches x .marks + markedSets (x .files) ≡ x .marks + markedSets (tallyGive t s touches x .files)

@@ -10,7 +10,8 @@ use Rattle.base.specs.Update.{upd, upd-other, upd-same}
 use Rattle.rules.proofs.Marking.MarkingCalls.{settle-marks, truncate-cases, turnsStart}
 use Rattle.rules.proofs.Marking.MarkingRun.{run-marks}
 use Rattle.rules.proofs.Steps.OneStep.{TreeOk}
-use Rattle.rules.proofs.Whole.Accepted.{live-unmarked, passed-create, passed-truncate, passed-write}
+use Rattle.rules.proofs.Steps.States.{live-unmarked}
+use Rattle.rules.proofs.Whole.Accepted.{passed-create, passed-truncate, passed-write}
 use Rattle.rules.specs.Numbers.{Call, create, delete, format, make, numberOf, read, remove, tellFree, tellSize, truncate, write}
 use Rattle.rules.specs.Plain.{Plain}
 use Rattle.rules.specs.State.{State, absent, isAbsent, isMarked, marked, own, setCount, virgin}

@@ -1,18 +1,18 @@
 -- What one step does to the files of one number: who stays alive, what they read, and their sizes. Assumes nothing.
-use mathlib.Core.Bool.{Bool, cond, false, true, true≢false}
+use mathlib.Core.Bool.{false, true, true≢false}
 use mathlib.Core.List.{List·Memᴰ}
 use mathlib.Core.Option.{none, some}
 use mathlib.Core.Path.{_≡_, ap, refl, subst, sym, _∙_}
 use Prim.Native.Nat.{_<_, suc, zero, ℕ}
 use native.Mathlib.Omega.{arith}
-use lib.Dec.{eqb, lit<}
-use borrow.Author.Tests.{eqb-true}
-use Rattle.base.specs.Logic.{and-left, or-right, or-right-false, pick, same?, test?}
+use lib.Dec.{lit<}
+use Rattle.base.specs.Logic.{pick, same?}
 use Rattle.base.specs.Update.{upd, upd-keeps, upd-other, upd-same}
+use Rattle.rules.proofs.Steps.Reached.{mark-map-same, mark-missed, mark-presence, mark-same, marked-by, reaches-up, unmapped-some}
 use Rattle.rules.proofs.Steps.Walk.{walk-fill, walk-frame}
-use Rattle.rules.specs.Reading.{dependent, dependsOn, needs, reaches, resolve, shownEntry, shownSize, sizeByReading, someUnmapped, walk}
-use Rattle.rules.specs.Rules.{markDown, markFile, putEntry}
-use Rattle.rules.specs.State.{Entry, File, Files, State, Tree, absent, hole, isAbsent, isUnmapped, live, marked, own, stored, unmapped, virgin}
+use Rattle.rules.specs.Reading.{dependent, needs, reaches, resolve, shownEntry, shownSize, sizeByReading, walk}
+use Rattle.rules.specs.Rules.{markDown, putEntry}
+use Rattle.rules.specs.State.{Entry, File, Files, State, Tree, absent, hole, isAbsent, live, marked, own, stored, unmapped, virgin}
 
 -- the tree's links
 pub record TreeOk (t : Tree) : Type 0 where
@@ -28,12 +28,6 @@ shownSize-none absent n h = cc
 shownSize-none own n h = cc
 shownSize-none virgin n h = refl
 shownSize-none marked n h = cc
-
-pub live-present : (l : State) → live l ≡ true → isAbsent l ≡ false
-live-present absent h = cc
-live-present own h = refl
-live-present virgin h = refl
-live-present marked h = refl
 
 module _ {K : Type 0} where
   abbrev pub Alive : Files K → ℕ → Type 0
@@ -215,77 +209,37 @@ module _ {K : Type 0} where
             let z : _≡_ {A = ℕ} 0 1 = cc in omega arith
 
   -- MARK: a file and all that read through it. Whoever is not marked reads what it read.
-  unmapped-some : (e : ℕ → Entry K) (p n : ℕ) → p < n → e p ≡ unmapped → someUnmapped n e ≡ true
-  unfolding someUnmapped
-  unmapped-some e p zero l u = absurd (omega arith)
-  unmapped-some e p (suc n) l u =
-      same? p n (λ q. rw (← q) (rw u refl)) (λ q. or-right (isUnmapped (e n)) _ (unmapped-some e p n (omega arith) u))
-
   module _ (t : Tree) (ok : TreeOk t) (files : Files K) (k : FilesOk t files) (c : ℕ) where
-    reaches-up : (s : ℕ) → t .level s ≡ suc (t .level (t .parent s)) → dependent (files s) ≡ true → reaches t files c s ≡ false → reaches t files c (t .parent s) ≡ false
-    unfolding reaches dependsOn
-    reaches-up s e r h = let f = or-right-false (eqb c s) _ (rw e at h) in rw r at f
-
-    pub marked-by : (s : ℕ) (b : Bool) → reaches t files c s ≡ b → markDown t files c s ≡ cond b (markFile (files s)) (files s)
-    unfolding markDown
-    marked-by s b h = rw h
-
-    mark-ent : (s : ℕ) → markDown t files c s .map ≡ files s .map
-    unfolding markFile
-    mark-ent s = test? (reaches t files c s) (λ e. ap (λ (x : File K). x .map) (marked-by s true e)) (λ e. ap (λ (x : File K). x .map) (marked-by s false e))
-
-    mark-missed : (s : ℕ) → Alive (markDown t files c) s → reaches t files c s ≡ false
-    unfolding markFile
-    mark-missed s a = test? (reaches t files c s) (λ e. let z : markDown t files c s .state ≡ marked = ap (λ (x : File K). x .state) (marked-by s true e) in cc) (λ e. e)
-
-    pub mark-same : (s : ℕ) → Alive (markDown t files c) s → markDown t files c s ≡ files s
-    mark-same s a = marked-by s false (mark-missed s a)
+    mark-alive : (s : ℕ) → Alive (markDown t files c) s → Alive files s
+    mark-alive s a = ap (λ (x : File K). live (x .state)) (sym (mark-same t files c s a)) ∙ a
 
     mark-up : (s p : ℕ) → p < 64 → Alive (markDown t files c) s → files s .map p ≡ unmapped → Alive (markDown t files c) (t .parent s)
     unfolding dependent
     mark-up s p l a u =
-        let a₀ : Alive files s = ap (λ (x : File K). live (x .state)) (sym (mark-same s a)) ∙ a in
+        let a₀ : Alive files s = mark-alive s a in
         let r : dependent (files s) ≡ true = rw a₀ (unmapped-some (files s .map) p 64 l u) in
-        let m : reaches t files c (t .parent s) ≡ false = reaches-up s (ok .kid-lvl (t .parent s) s (k .listed s p l a₀ u)) r (mark-missed s a) in
-        ap (λ (x : File K). live (x .state)) (marked-by (t .parent s) false m) ∙ k .closed s p l a₀ u
-
-    -- what is marked was alive
-    reaches-live : (n s : ℕ) → Alive files c → dependsOn t files c n s ≡ true → Alive files s
-    unfolding dependsOn dependent
-    reaches-live zero s al h = subst (Alive files) (eqb-true c s h) al
-    reaches-live (suc n) s al h =
-        test? (eqb c s) (λ e. subst (Alive files) (eqb-true c s e) al)
-        (λ e. and-left (live (files s .state)) _ (and-left _ _ (rw e at h)))
-
-    mark-presence : Alive files c → (s : ℕ) → isAbsent (markDown t files c s .state) ≡ isAbsent (files s .state)
-    unfolding markFile reaches
-    mark-presence al s =
-        test? (reaches t files c s)
-        (λ e. ap (λ (x : File K). isAbsent (x .state)) (marked-by s true e) ∙ sym (live-present (files s .state) (reaches-live (t .level s) s al e)))
-        (λ e. ap (λ (x : File K). isAbsent (x .state)) (marked-by s false e))
-
-    mark-alive : (s : ℕ) → Alive (markDown t files c) s → Alive files s
-    mark-alive s a = ap (λ (x : File K). live (x .state)) (sym (mark-same s a)) ∙ a
+        let m : reaches t files c (t .parent s) ≡ false = reaches-up t files c s (ok .kid-lvl (t .parent s) s (k .listed s p l a₀ u)) r (mark-missed t files c s a) in
+        ap (λ (x : File K). live (x .state)) (marked-by t files c (t .parent s) false m) ∙ k .closed s p l a₀ u
 
     pub mark-keep : Alive files c → Keep t files (markDown t files c)
     unfolding resolve sizeByReading
     mark-keep al = record {
       alive = mark-alive;
-      presence = mark-presence al;
+      presence = mark-presence t files c al;
       page = λ s p l a.
           walk-frame (t .parent) (λ (x : File K). shownEntry (x .map p)) hole files (markDown t files c) (Alive (markDown t files c))
-          (λ s _. ap (λ (x : ℕ → Entry K). shownEntry (x p)) (mark-ent s)) (λ s a n. mark-up s p l a (shown-none _ n)) (t .level s) s a;
+          (λ s _. ap shownEntry (mark-map-same t files c s p)) (λ s a n. mark-up s p l a (shown-none _ n)) (t .level s) s a;
       size = λ s a.
           walk-frame (t .parent) (λ (x : File K). shownSize (x .state) (x .size)) 0 files (markDown t files c) (Alive (markDown t files c))
-          (λ s a. ap (λ (x : File K). shownSize (x .state) (x .size)) (mark-same s a)) (λ s a n. mark-up s 0 (lit< tt) a (k .bare s 0 (lit< tt) (shownSize-none _ _ n))) (t .level s) s a;
+          (λ s a. ap (λ (x : File K). shownSize (x .state) (x .size)) (mark-same t files c s a)) (λ s a n. mark-up s 0 (lit< tt) a (k .bare s 0 (lit< tt) (shownSize-none _ _ n))) (t .level s) s a;
     }
 
     pub mark-ok : FilesOk t (markDown t files c)
     mark-ok = record {
-      closed = λ s p l a u. mark-up s p l a (ap (λ (x : ℕ → Entry K). x p) (sym (mark-ent s)) ∙ u);
-      listed = λ s p l a u. k .listed s p l (mark-alive s a) (ap (λ (x : ℕ → Entry K). x p) (sym (mark-ent s)) ∙ u);
+      closed = λ s p l a u. mark-up s p l a (sym (mark-map-same t files c s p) ∙ u);
+      listed = λ s p l a u. k .listed s p l (mark-alive s a) (sym (mark-map-same t files c s p) ∙ u);
       bare = λ s p l v.
-          let e : markDown t files c s ≡ files s = mark-same s (ap live v) in
+          let e : markDown t files c s ≡ files s = mark-same t files c s (ap live v) in
           ap (λ (x : File K). x .map p) e ∙ k .bare s p l (ap (λ (x : File K). x .state) (sym e) ∙ v);
     }
 

@@ -6,10 +6,12 @@ use mathlib.Core.Path.{_≡_, ap, refl, subst, subst₂, sym, _∙_}
 use Prim.Native.Nat.{_<_, suc, zero, ℕ}
 use native.Mathlib.Omega.{arith}
 use lib.Dec.{eqb}
-use borrow.Author.Tests.{eq-eqb, ne-eqb}
-use Rattle.base.specs.Logic.{and-false, and-left, same?, test?}
+use borrow.Author.Tests.{ne-eqb}
+use Rattle.base.specs.Logic.{and-false, and-left, and-right, same?, test?}
 use Rattle.rules.proofs.Storages.Model.{model}
-use Rattle.rules.proofs.Steps.OneStep.{Alive, FilesOk, Keep, TreeOk, fill-keep, fill-ok, keep-refl, keep-trans, mark-keep, mark-ok, mark-same, marked-by, putEntry-ent, putEntry-other, putEntry-page, putEntry-state, resolve-shown}
+use Rattle.rules.proofs.Steps.OneStep.{Alive, FilesOk, Keep, TreeOk, fill-keep, fill-ok, keep-refl, keep-trans, mark-keep, mark-ok, putEntry-ent, putEntry-other, putEntry-page, putEntry-state, resolve-shown}
+use Rattle.rules.proofs.Steps.Reached.{mark-same, marked-by, reaches-self}
+use Rattle.rules.proofs.Steps.States.{unmapped-is}
 use Rattle.rules.specs.Reading.{dependent, dependsOn, needs, reaches, resolve, shownEntry}
 use Rattle.rules.specs.Rules.{Work, copy, each, give, giveAll, mark, markDown, markFile, putEntry, supply}
 use Rattle.rules.specs.State.{Entry, File, Files, Tree, hole, isUnmapped, live, stored, unmapped, virgin}
@@ -80,13 +82,7 @@ module _ {K : Type 0} where
 
   pub needs-unmapped : (files : Files K) (c p : ℕ) → needs files c p ≡ true → files c .map p ≡ unmapped
   unfolding needs
-  needs-unmapped files c p h = go (live (files c .state)) (files c .map p) h
-    where
-      go : (b : Bool) (e : Entry K) → (b && isUnmapped e) ≡ true → e ≡ unmapped
-      go false e h = cc
-      go true unmapped h = refl
-      go true hole h = cc
-      go true (stored b) h = cc
+  needs-unmapped files c p h = unmapped-is (files c .map p) (and-right (live (files c .state)) _ h)
 
   module _ (t : Tree) (ok : TreeOk t) (s : ℕ) (files : Files K) (k : FilesOk t files) (c : ℕ) (kid : List·Memᴰ c (t .children s)) where
     differ : c ≡ s → ⊥
@@ -125,18 +121,13 @@ module _ {K : Type 0} where
     low (suc n) x e l =
         rw (ne-eqb c x (λ q. let e′ : t .level c ≡ t .level x = ap (t .level) q in omega arith), low n (t .parent x) (ok .lower x n e) (omega arith)) (and-false (dependent (files x)))
 
-    reaches-self : (n : ℕ) → dependsOn t files c n c ≡ true
-    unfolding dependsOn
-    reaches-self zero = eq-eqb c c refl
-    reaches-self (suc n) = rw (eq-eqb c c refl)
-
     missed : reaches t files c s ≡ false
     unfolding reaches
     missed = low (t .level s) s refl (omega (arith, ok .kid-lvl s c kid))
 
     dead : (x : ℕ) → reaches t files c x ≡ true → live (markDown t files c x .state) ≡ false
     unfolding markFile
-    dead x e = ap (λ (x : File K). live (x .state)) (marked-by t ok files k c x true e)
+    dead x e = ap (λ (x : File K). live (x .state)) (marked-by t files c x true e)
 
     mark-given : Alive files c → Given t s files (markDown t files c)
     mark-given al = record {
@@ -144,14 +135,14 @@ module _ {K : Type 0} where
       keep = mark-keep t ok files k c al;
       less = λ c′ p′ h. test? (reaches t files c c′)
           (λ e. needs-dead (markDown t files c) c′ p′ (dead c′ e))
-          (λ e. let m : markDown t files c c′ ≡ files c′ = marked-by t ok files k c c′ false e in needs-same files (markDown t files c) c′ p′ (ap (λ (x : File K). x .state) m) (ap (λ (x : File K). x .map p′) m) h);
-      self = marked-by t ok files k c s false (missed);
-      no-new-virgin = λ c′ h. ap (λ (x : File K). x .state) (sym (mark-same t ok files k c c′ (ap live h))) ∙ h;
+          (λ e. let m : markDown t files c c′ ≡ files c′ = marked-by t files c c′ false e in needs-same files (markDown t files c) c′ p′ (ap (λ (x : File K). x .state) m) (ap (λ (x : File K). x .map p′) m) h);
+      self = marked-by t files c s false (missed);
+      no-new-virgin = λ c′ h. ap (λ (x : File K). x .state) (sym (mark-same t files c c′ (ap live h))) ∙ h;
     }
 
     mark-done : (p : ℕ) → needs (markDown t files c) c p ≡ false
     unfolding reaches
-    mark-done p = needs-dead (markDown t files c) c p (dead c (reaches-self (t .level c)))
+    mark-done p = needs-dead (markDown t files c) c p (dead c (reaches-self t files c (t .level c)))
 
 -- one turn of step 4 over the model
 module _ (t : Tree) (ok : TreeOk t) (s : ℕ) where

@@ -17,12 +17,6 @@ use Rattle.rules.specs.Rules.{Work, each, enter, enterAs, pageOf, putEnt
 use Rattle.rules.specs.State.{Entry, File, Files, State, Tree, absent, hole, isStored, live, marked, own, stored, unmapped, virgin}
 use Rattle.rules.specs.Storage.{PageData}
 
-pub alive-own : (l : State) → live l ≡ true → (l ≡ virgin → ⊥) → l ≡ own
-alive-own absent h k = cc
-alive-own own h k = refl
-alive-own virgin h k = absurd (k refl)
-alive-own marked h k = cc
-
 module _ {X Y : Type 0} (parent : ℕ → ℕ) (look : X → Option Y) (d : Y) where
   walk-here : (n : ℕ) (files : ℕ → X) (s : ℕ) (v : Y) → look (files s) ≡ some v → walk parent look d n files s ≡ v
   unfolding walk

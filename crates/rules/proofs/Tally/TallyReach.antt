@@ -10,6 +10,7 @@ use borrow.Author.Tests.{eq-eqb, eqb-true}
 use Rattle.base.specs.Count.{count, count-same}
 use Rattle.base.specs.Logic.{and-both, and-left, and-right, or-right, pick, same-test, test?}
 use Rattle.rules.proofs.Steps.OneStep.{FilesOk, TreeOk}
+use Rattle.rules.proofs.Steps.Reached.{reaches-self}
 use Rattle.rules.specs.Reading.{dependent, dependsOn, reaches, resolve, shownEntry, shownSize, sizeByReading, someUnmapped, walk}
 use Rattle.rules.specs.Rules.{markDown, markFile}
 use Rattle.rules.specs.State.{Files, State, Tree, absent, hole, isVirgin, live, marked, own, setCount, stored, unmapped, virgin}
@@ -88,11 +89,6 @@ any-some (y ∷ ys) f h =
 
 module _ (t : Tree) (ok : TreeOk t) (fs : TallyFiles) where
   -- UP: who depends on a child that depends on the file above it depends on that
-  pub self-up : (n c : ℕ) → dependsOn t fs c n c ≡ true
-  unfolding dependsOn
-  self-up zero c = eq-eqb c c refl
-  self-up (suc n) c = rw (eq-eqb c c refl)
-
   pub one-up : (c d : ℕ) → List·Memᴰ d (t .children c) → dependent (fs d) ≡ true → (n x : ℕ) → t .level x ≡ n → dependsOn t fs d n x ≡ true → dependsOn t fs c n x ≡ true
   unfolding dependsOn
   one-up c d m r zero x e h =
@@ -102,16 +98,16 @@ module _ (t : Tree) (ok : TreeOk t) (fs : TallyFiles) where
       or-right (eqb c x) _
       (test? (eqb d x)
       (λ q. subst (λ y. (dependent (fs y) && dependsOn t fs c n (t .parent y)) ≡ true) (eqb-true d x q)
-      (rw (r, ok .kid-par c d m) (self-up n c)))
+      (rw (r, ok .kid-par c d m) (reaches-self t fs c n)))
       (λ q. let h′ : (dependent (fs x) && dependsOn t fs d n (t .parent x)) ≡ true = rw q at h in
       and-both (dependent (fs x)) _ (and-left _ _ h′) (one-up c d m r n (t .parent x) (ok .lower x n e) (and-right (dependent (fs x)) _ h′))))
 
   down-up : (n c x : ℕ) → reachedDown t fs n c x ≡ true → reaches t fs c x ≡ true
   unfolding reachedDown reaches
-  down-up zero c x h = subst (λ y. dependsOn t fs c (t .level y) y ≡ true) (eqb-true c x h) (self-up (t .level c) c)
+  down-up zero c x h = subst (λ y. dependsOn t fs c (t .level y) y ≡ true) (eqb-true c x h) (reaches-self t fs c (t .level c))
   down-up (suc n) c x h =
       test? (eqb c x)
-      (λ q. subst (λ y. dependsOn t fs c (t .level y) y ≡ true) (eqb-true c x q) (self-up (t .level c) c))
+      (λ q. subst (λ y. dependsOn t fs c (t .level y) y ≡ true) (eqb-true c x q) (reaches-self t fs c (t .level c)))
       (λ q. let r = any-some (t .children c) _ (rw q at h) in
       one-up c (r .0) (r .1) (sym (depends-above t fs (fs (r .0))) ∙ and-left _ _ (r .2)) (t .level x) x refl
       (down-up n (r .0) x (and-right (dependsAbove t (fs (r .0))) _ (r .2))))

@@ -8,9 +8,9 @@ use lib.Dec.{ltb}
 use lib.ListN.{length}
 use borrow.Author.Tests.{eqb-false, le-ltb, leb-false, lt-ltb, ltb-false, ltb-true, not-false}
 use Rattle.base.specs.Logic.{and-left, and-right, or-left-false, or-right-false}
-use Rattle.rules.proofs.Steps.OneStep.{live-present}
+use Rattle.rules.proofs.Steps.States.{live-of, live-present, live-unmarked}
 use Rattle.rules.specs.Numbers.{View, conditions, create, delete, endOver, fileAbsent, fileMarked, isNil, lowest, make, needOver, noSuchFile, noSuchSet, notFormed, numberOf, read, readOnly, remove, tellSize, truncate, write}
-use Rattle.rules.specs.State.{State, absent, isAbsent, isMarked, live, marked, own, virgin}
+use Rattle.rules.specs.State.{isAbsent, live}
 
 -- the first condition does not apply, nor does one of the others
 pass : (b : Bool) (n : ℕ) (xs : List (Bool × ℕ)) → lowest ((b, suc n) ∷ xs) ≡ 0 → (b ≡ false) × (lowest xs ≡ 0)
@@ -30,18 +30,6 @@ used-set v s h =
 
 below : (n k : ℕ) → not (ltb n k) ≡ false → n < k
 below n k h = ltb-true n k (not-false _ h)
-
-pub live-of : (l : State) → isAbsent l ≡ false → isMarked l ≡ false → live l ≡ true
-live-of absent h k = absurd (true≢false h)
-live-of own h k = refl
-live-of virgin h k = refl
-live-of marked h k = absurd (true≢false k)
-
-pub live-unmarked : (l : State) → live l ≡ true → isMarked l ≡ false
-live-unmarked absent h = refl
-live-unmarked own h = refl
-live-unmarked virgin h = refl
-live-unmarked marked h = absurd (true≢false (sym h))
 
 module _ (v : View) where
   -- a file that is looked at: present and not marked

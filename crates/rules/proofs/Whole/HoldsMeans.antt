@@ -8,13 +8,13 @@ use native.Mathlib.Omega.{arith}
 use lib.ListN.{drop, getD, length, length-drop, length-take, take}
 use lib.Seq.{getD-drop, getD-take, take-at}
 use Rattle.base.specs.Tabulate.{length-tab, tab, tab-of}
-use Rattle.rules.proofs.Whole.Accepted.{live-of, passed-read, passed-size}
+use Rattle.rules.proofs.Whole.Accepted.{passed-read, passed-size}
 use Rattle.rules.proofs.Agreement.AgreeCalls.{has-list}
 use Rattle.rules.proofs.Storages.CountCalls.{forget, modelOf}
 use Rattle.rules.proofs.Whole.Holds.{Holds, answer-step}
 use Rattle.rules.proofs.Storages.MapBlocks.{mapEntry, resolve-map, size-map}
-use Rattle.rules.proofs.Steps.OneStep.{live-present}
 use Rattle.rules.proofs.Formed.Shape.{size-most}
+use Rattle.rules.proofs.Steps.States.{live-of, live-present}
 use Rattle.rules.proofs.Steps.WriterSteps.{bytes}
 use Rattle.rules.specs.Agreement.{AgreesPlain, AgreesTally, bothAnswer, bothGive, bufferAfter, bufferOf, front, frontOf, kindOf, plainBytes, plainFirst, storeGive}
 use Rattle.rules.specs.Calls.{Store, accepted, blankMemory, byteByReading, readCount, readInto, resultOf, step, treeIn, viewOf, worked}
