@@ -9,7 +9,7 @@ use native.Mathlib.Nat.{zero-add}
 use native.Mathlib.Omega.{arith}
 use borrow.Author.Tests.{eq-eqb, eqb-true}
 use Rattle.base.specs.Count.{all, all-at, all-of, count, sum}
-use Rattle.base.specs.Logic.{and-both, and-left, and-right, digit, test?}
+use Rattle.base.specs.Logic.{and-both, and-left, and-right, digit, same-test}
 use Rattle.entrycheck.proofs.Counts.{Counts, digit-most, digit-same, entry-counts, through-counts}
 use Rattle.entrycheck.specs.Seeing.{Seen, entriesFormed, formedBy, seeAll, seeEntry, seeFile, seeNumber, noneSeen, same-bits-at, same-bits-of, sameBits}
 use Rattle.rules.proofs.Blocks.Sums.{count-sum, sum-same, sum-zero}
@@ -30,9 +30,6 @@ pub sum-swap : (a b : ℕ) (g : ℕ → ℕ → ℕ) → sum a (λ i. sum b (λ 
 unfolding sum
 sum-swap zero b g = sym (sum-zero b (λ j. 0) (λ j l. refl))
 sum-swap (suc a) b g = omega (arith, sum-swap a b g, sum-add b (λ j. g a j) (λ j. sum a (λ i. g i j)))
-
-both-ways : (a b : Bool) → (a ≡ true → b ≡ true) → (b ≡ true → a ≡ true) → a ≡ b
-both-ways a b to from = test? a (λ e. e ∙ sym (to e)) (λ e. test? b (λ d. absurd (true≢false (sym (from d) ∙ e))) (λ d. e ∙ sym d))
 
 module _ (t : List ℕ) where
   -- does the entry name the block, as a number; is it formed, with a block below the limit
@@ -113,7 +110,7 @@ module _ (t : List ℕ) where
   pub entries-formed : unpack t .blocks ≤ 4096 → entriesFormed t ≡ (kindsFormed t && bitsFormed (unpack t))
   unfolding entriesFormed
   entries-formed most =
-      both-ways (entriesFormed t) (kindsFormed t && bitsFormed (unpack t)) (go (seeAll limit t noneSeen) refl)
+      same-test (entriesFormed t) (kindsFormed t && bitsFormed (unpack t)) (go (seeAll limit t noneSeen) refl)
       (λ h. let r = from-rules most (and-left (kindsFormed t) _ h) (and-right (kindsFormed t) _ h) in ap (formedBy t) (r .1 .0) ∙ r .1 .1)
     where
       go : (o : Option Seen) → seeAll limit t noneSeen ≡ o → formedBy t o ≡ true → (kindsFormed t && bitsFormed (unpack t)) ≡ true

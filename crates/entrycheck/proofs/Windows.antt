@@ -7,11 +7,11 @@ use native.Mathlib.Nat.{div-le-self, zero-add}
 use native.Mathlib.Omega.{arith}
 use lib.Bits.{and-lt, bitAnd, bitOr, or-lt}
 use lib.Dec.{ltb}
-use lib.ListN.{getD, length, length-set, set}
+use lib.ListN.{getD, length, set}
 use lib.Seq.{getD-set-other, getD-set-same}
 use borrow.Author.Tests.{lt-ltb, ltb-true}
 use Rattle.base.specs.Count.{all, all-at, all-of}
-use Rattle.base.specs.Logic.{digit, same?}
+use Rattle.base.specs.Logic.{and-false, digit, or-false, same?}
 use Rattle.entrycheck.proofs.Counts.{counts-none, counts-some}
 use Rattle.entrycheck.proofs.Runs.{in-run, inRun, not-in-run, run-counts, run-sum, run?, runPass}
 use Rattle.entrycheck.specs.Seeing.{Sees}
@@ -22,13 +22,9 @@ use Rattle.packing.specs.Words.{Bytes, get-lt, get-put-same, getWord, length-pu
 
 -- ---- binary digits
 
-or-false : (a : Bool) → (a || false) ≡ a
-or-false true = refl
-or-false false = refl
-
-and-true : (a b : Bool) → (a && b) ≡ false → b ≡ true → a ≡ false
-and-true true b h k = absurd (true≢false (sym k ∙ h))
-and-true false b h k = refl
+and-left-false : (a b : Bool) → (a && b) ≡ false → b ≡ true → a ≡ false
+and-left-false true b h k = absurd (true≢false (sym k ∙ h))
+and-left-false false b h k = refl
 
 -- LAW: a block is the limit or more
 pub run-limit : (limit b n : ℕ) (l : List ℕ) → length l ≡ 512 → 0 < n → limit < b + n → Sees (runPass limit b n) l l false
@@ -59,18 +55,14 @@ module _ (m : ℕ) (l : List ℕ) (bs : Bytes l) (i y s n : ℕ) (fit : s + n �
       let j = c - 8 * i in
       let q : 8 * i + j ≡ c = omega arith in
       let b = sym (both j (omega arith)) ∙ ap (λ z. isOne (bit z (8 * suc m - 1 - j))) e ∙ ap isOne (bit-none (8 * suc m - 1 - j)) in
-      ap (bitAt l 0) (sym q) ∙ and-true (bitAt l 0 (8 * i + j)) (inRun s n j) b (in-run s n j (omega arith) (omega arith))
+      ap (bitAt l 0) (sym q) ∙ and-left-false (bitAt l 0 (8 * i + j)) (inRun s n j) b (in-run s n j (omega arith) (omega arith))
 
   -- LAW: where none is, no digit is common
   apart : bitAnd x y < 2 ^ (8 * suc m) → ((c : ℕ) → 8 * i + s ≤ c → c < 8 * i + s + n → bitAt l 0 c ≡ false) → bitAnd x y ≡ 0
   apart lt h =
       zero-digits (8 * suc m) (bitAnd x y) lt (λ j k. both j k ∙ run? s n j
       (λ a b. ap (λ z. z && inRun s n j) (h (8 * i + j) (omega arith) (omega arith)))
-      (λ o. ap (λ z. bitAt l 0 (8 * i + j) && z) (not-in-run s n j o) ∙ and-off (bitAt l 0 (8 * i + j))))
-    where
-      and-off : (a : Bool) → (a && false) ≡ false
-      and-off true = refl
-      and-off false = refl
+      (λ o. ap (λ z. bitAt l 0 (8 * i + j) && z) (not-in-run s n j o) ∙ and-false (bitAt l 0 (8 * i + j))))
 
   -- the digits of y are set
   abbrev l′ : List ℕ

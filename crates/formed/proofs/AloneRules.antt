@@ -6,7 +6,7 @@ use Prim.Native.Nat.{_%_, _/_, _<_, suc, zero, ℕ}
 use native.Mathlib.Omega.{arith}
 use lib.Dec.{eqb}
 use borrow.Author.Tests.{eq-eqb, le-leb, lt-leb, ne-eqb, not-false, not-true}
-use Rattle.base.specs.Logic.{and-false}
+use Rattle.base.specs.Logic.{and-false, and-true}
 use Rattle.masks.proofs.PageMasks.{mask-all, mask-some}
 use Rattle.masks.specs.Pages.{pageMask}
 use Rattle.formed.specs.Files.{aloneFormed, fileAlone, headFormed, stateFormed}
@@ -24,10 +24,6 @@ zero-size n u h = rw (ne-eqb n 0 h)
 
 pub zero-map : (n u : ℕ) → n ≡ 0 → eqb u 18446744073709551615 ≡ (eqb n 0 && eqb u 18446744073709551615)
 zero-map n u h = rw (eq-eqb n 0 h)
-
-and-true : (b : Bool) → (b && true) ≡ b
-and-true true = refl
-and-true false = refl
 
 not-not : (b : Bool) → not (not b) ≡ b
 not-not true = refl

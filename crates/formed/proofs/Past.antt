@@ -8,15 +8,9 @@ use lib.Dec.{eqb, ltb}
 use lib.Pow.{pow-pos}
 use borrow.Author.Tests.{eq-eqb, eqb-true, le-ltb, lt-ltb, ltb-false, ltb-true, not-true}
 use Rattle.base.specs.Count.{all, all-at, all-of}
-use Rattle.base.specs.Logic.{test?}
+use Rattle.base.specs.Logic.{same-test, test?}
 use Rattle.packing.specs.Bitmap.{isOne, number, number-digits, number-of}
 use Rattle.packing.specs.Bits.{bit, bit-mod, bit-none, bit-shl}
-
--- two tests that pass together are the same
-pub same-test : (a b : Bool) → (a ≡ true → b ≡ true) → (b ≡ true → a ≡ true) → a ≡ b
-same-test true b h k = sym (h refl)
-same-test false true h k = k refl
-same-test false false h k = refl
 
 -- a number of 64 digits that are all 0
 none-set : (x : ℕ) → x < 18446744073709551616 → ((j : ℕ) → j < 64 → bit x (63 - j) ≡ 0) → x ≡ 0

@@ -1,5 +1,5 @@
 -- The sets in an order where parents go first: the digits of the sets, those of the sets with a live file, and the parents. Assumes nothing.
-use mathlib.Core.Bool.{Bool, cond, false, not, true, true≢false, _||_}
+use mathlib.Core.Bool.{cond, false, not, true, true≢false, _||_}
 use mathlib.Core.List.{List}
 use mathlib.Core.Path.{ap, refl, subst, sym, _∙_, _≡_}
 use Prim.Native.Nat.{_%_, _*_, _+_, _/_, _<_, _^_, suc, zero, ℕ, _≤_}
@@ -10,7 +10,7 @@ use lib.ListN.{getD, length, length-set, set}
 use lib.Pow.{pow-pos, shl-exact}
 use lib.Seq.{getD-set-other, getD-set-same}
 use borrow.Author.Tests.{ltb-false, ltb-true, ne-eqb, not-false, not-true}
-use Rattle.base.specs.Logic.{same?, test?}
+use Rattle.base.specs.Logic.{or-false, same?, test?}
 use Rattle.formed.proofs.AloneRules.{size-field}
 use Rattle.formed.proofs.Resolved.{digit-or}
 use Rattle.formed.specs.Files.{LivesTo, Places, endOf, placeDigit, placeOf}
@@ -48,10 +48,6 @@ digit-used r s digit e = test? (r .used)
     (λ u. ap (λ x. not (eqb x 0)) (e ∙ ap (λ b. cond b (2 ^ (r .level * 8 + s)) 0) u) ∙ ap not (ne-eqb (2 ^ (r .level * 8 + s)) 0 (λ q. omega (arith, pow-pos (r .level * 8 + s)))) ∙ sym u)
     (λ u. ap (λ x. not (eqb x 0)) (e ∙ ap (λ b. cond b (2 ^ (r .level * 8 + s)) 0) u) ∙ sym u)
 
-or-none : (a : Bool) → (a || false) ≡ a
-or-none true = refl
-or-none false = refl
-
 -- one set more
 module _ (sets : ℕ → SetRecord) (files : Files ℕ) (s lives digit : ℕ) (ls : s < 8) (d : digit ≡ placeDigit (sets s) s)
     (used : live (files s .state) ≡ true → sets s .used ≡ true) (rest : (x : ℕ) → s ≤ x → x < 8 → isOne (bit lives (placeOf sets x)) ≡ false) where
@@ -78,7 +74,7 @@ module _ (sets : ℕ → SetRecord) (files : Files ℕ) (s lives digit : ℕ) (l
   at-other : (x : ℕ) → x < 8 → (x ≡ s → ⊥) → isOne (bit (bitOr lives added) (placeOf sets x)) ≡ isOne (bit lives (placeOf sets x))
   at-other x l n =
       digit-or lives added (placeOf sets x) ∙ ap (λ b. isOne (bit lives (placeOf sets x)) || b) (added-other (placeOf sets x) (λ e. n (omega arith)))
-      ∙ or-none (isOne (bit lives (placeOf sets x)))
+      ∙ or-false (isOne (bit lives (placeOf sets x)))
 
   -- LAW: its digit is there, if its file is live
   pub lives-next : LivesTo sets files s lives → LivesTo sets files (s + 1) (bitOr lives added)
@@ -89,7 +85,7 @@ module _ (sets : ℕ → SetRecord) (files : Files ℕ) (s lives digit : ℕ) (l
         (λ q. at-other x (omega arith) q ∙ k .live-at x (omega arith));
     only = λ j l h. same? j (placeOf sets s)
         (λ q. let e : j % 8 ≡ s = omega arith in q ∙ ap (placeOf sets) (sym e))
-        (λ q. k .only j l (sym (digit-or lives added j ∙ ap (λ b. isOne (bit lives j) || b) (added-other j q) ∙ or-none (isOne (bit lives j))) ∙ h));
+        (λ q. k .only j l (sym (digit-or lives added j ∙ ap (λ b. isOne (bit lives j) || b) (added-other j q) ∙ or-false (isOne (bit lives j))) ∙ h));
   }
 
   pub rest-next : (x : ℕ) → s + 1 ≤ x → x < 8 → isOne (bit (bitOr lives added) (placeOf sets x)) ≡ false

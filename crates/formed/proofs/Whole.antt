@@ -9,12 +9,11 @@ use lib.Dec.{eqb}
 use lib.ListN.{length}
 use borrow.Author.Tests.{eq-eqb, eqb-true, ne-eqb, not-false, not-true}
 use Rattle.base.specs.Count.{all, all-at, all-of}
-use Rattle.base.specs.Logic.{and-both, and-false, and-left, and-right, same?}
+use Rattle.base.specs.Logic.{and-both, and-false, and-left, and-right, same-test, same?}
 use Rattle.entrycheck.proofs.EntriesFormed.{entries-formed}
 use Rattle.entrycheck.proofs.Through.{through-next, through-refused}
 use Rattle.entrycheck.specs.Seeing.{Sees, Seen, entriesFormed, formedBy, seeAll, noneSeen, sameBits, through, through-none}
 use Rattle.formed.proofs.Passes.{numbers-are}
-use Rattle.formed.proofs.Past.{same-test}
 use Rattle.formed.specs.Files.{Falling, fileAlone, fileLinked, numberFormed}
 use Rattle.formed.specs.Pass.{onlyIf, passNumber}
 use Rattle.packing.specs.Bitmap.{bitAt}

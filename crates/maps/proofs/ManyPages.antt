@@ -1,5 +1,5 @@
 -- Many pages resolved at once: one entry more is kept, those that a map does not leave unmapped, and the way up. Assumes nothing.
-use mathlib.Core.Bool.{_&&_, Bool, cond, false, not, true, true≢false}
+use mathlib.Core.Bool.{_&&_, cond, false, not, true, true≢false}
 use mathlib.Core.List.{List}
 use mathlib.Core.Path.{ap, ap₂, refl, subst, sym, _∙_, _≡_}
 use Prim.Native.Nat.{_*_, _+_, _-_, _<_, _^_, ℕ, _≤_}
@@ -9,7 +9,7 @@ use lib.Bits.{bitAnd}
 use lib.Count.{trailingZeros}
 use lib.ListN.{length}
 use Rattle.base.specs.Count.{count, count-fewer, count-le}
-use Rattle.base.specs.Logic.{and-left, same?, test?}
+use Rattle.base.specs.Logic.{and-false, and-left, and-true, same?, test?}
 use Rattle.base.specs.Update.{upd, upd-other, upd-same}
 use Rattle.masks.proofs.MaskPages.{and-pages, lowest-gone, lowest-others, lowest-page, no-pages, not-pages, range-count}
 use Rattle.masks.proofs.PageMasks.{mask-page}
@@ -60,17 +60,9 @@ module _ (m : ℕ) (map : ℕ → Entry ℕ) (l₀ l : List ℕ) (left : ℕ) (i
 pub mapped-none : (m : ℕ) (map : ℕ → Entry ℕ) (l : List ℕ) → length l ≡ 64 → ((p : ℕ) → map p ≡ unmapped) → MappedKept m map l l m
 mapped-none m map l h u = record {
   len = h;
-  entries = λ p q. sym (ap (λ b. cond b (map p) (entriesOf l p)) (ap (λ e. pages m p && not (isUnmapped e)) (u p) ∙ off (pages m p)));
-  rest-is = λ p q. sym (ap (λ e. pages m p && isUnmapped e) (u p) ∙ on (pages m p));
+  entries = λ p q. sym (ap (λ b. cond b (map p) (entriesOf l p)) (ap (λ e. pages m p && not (isUnmapped e)) (u p) ∙ and-false (pages m p)));
+  rest-is = λ p q. sym (ap (λ e. pages m p && isUnmapped e) (u p) ∙ and-true (pages m p));
 }
-  where
-    off : (b : Bool) → (b && false) ≡ false
-    off true = refl
-    off false = refl
-
-    on : (b : Bool) → (b && true) ≡ b
-    on true = refl
-    on false = refl
 
 -- LAW: by the mask of the unmapped pages
 pub mapped-kept : (m u : ℕ) (map : ℕ → Entry ℕ) (l l′ : List ℕ) → u ≡ pageMask isUnmapped map → EntriesKept (bitAnd m ((2 ^ 64 - 1) - u)) map l l′
