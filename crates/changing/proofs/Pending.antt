@@ -11,10 +11,10 @@ use borrow.Author.Tests.{le-leb, le-ltb, leb-true, lt-ltb, ltb-false, ltb-true}
 use Rattle.base.specs.Count.{count}
 use Rattle.base.specs.Logic.{and-left, and-right, test?}
 use Rattle.base.specs.Update.{upd, upd-all, upd-same, upd-self, upd-upd}
-use Rattle.changing.specs.Pending.{Carried, PendingIn, Reserved, Reserves, StepAt, TakenFor, bytesOf, entersAs, oneTaken}
+use Rattle.changing.specs.Pending.{Carried, PendingIn, Reserved, Reserves, StepAt, TakenFor, bytesOf, entersAs}
 use Rattle.copying.proofs.Chains.{pages-more, pages-out, upPages}
 use Rattle.copying.proofs.Kept.{entered-block, sound-took, stored-is, took-own, took-same}
-use Rattle.copying.specs.Work.{Ready, Rest, Sound, Step, memoryOf, rest, work}
+use Rattle.copying.specs.Work.{Ready, Rest, Sound, Step, oneTaken, rest, work}
 use Rattle.copying.specs.declared.giving.Counts.{Counts}
 use Rattle.rules.specs.Reading.{resolve}
 use Rattle.rules.specs.Rules.{Work, countIn, enter, enterAs, from, ownNeed, pageOf, reserve, reserveAs, takeOwn}
@@ -22,7 +22,7 @@ use Rattle.rules.specs.State.{Entry, Files, SetRecord, Tables, Tree, hole, isSt
 use Rattle.rules.specs.Storage.{Memory, PageData, overlay, real}
 use Rattle.tables.specs.Calls.{pagesOf}
 use Rattle.tables.specs.Packed.{unpack}
-use Rattle.tables.specs.Views.{PackedTables, Took, Turns, pendingOf, putEntryIn}
+use Rattle.tables.specs.Views.{PackedTables, Took, Turns, memoryOf, pendingOf, putEntryIn}
 
 blocks-of : (t t′ : List ℕ) (f : ℕ) → rest (unpack t′) f ≡ rest (unpack t) f → unpack t′ .blocks ≡ unpack t .blocks
 blocks-of t t′ f e = ap (λ (r : Rest). r .blocks) e

@@ -14,7 +14,7 @@ use Rattle.copying.proofs.Begin.{formed-header, formed-named}
 use Rattle.copying.proofs.Kept.{changed-does}
 use Rattle.copying.proofs.Settled.{settled-sets, settled-step}
 use Rattle.copying.specs.Changes.{settled}
-use Rattle.copying.specs.Work.{Alone, Ready, Rest, Step, memoryOf, rest, settleChildren, work, workOf}
+use Rattle.copying.specs.Work.{Alone, Ready, Rest, Step, rest, settleChildren, work, workOf}
 use Rattle.copying.specs.declared.giving.Counts.{Counts}
 use Rattle.rules.proofs.Blocks.GoodWork.{not-stored}
 use Rattle.rules.proofs.Storages.Sim.{settle-ent}
@@ -26,7 +26,7 @@ use Rattle.setchanges.specs.Changes.{erasedIn, freedIn}
 use Rattle.tables.proofs.Pending.{none-length, none-pending}
 use Rattle.tables.specs.Calls.{pagesOf}
 use Rattle.tables.specs.Packed.{unpack, wellFormed}
-use Rattle.tables.specs.Views.{Turns, nonePending, pendingOf}
+use Rattle.tables.specs.Views.{Turns, memoryOf, nonePending, pendingOf}
 
 -- ---- one after another
 

@@ -2,7 +2,7 @@
 use mathlib.Core.Bool.{cond, not}
 use mathlib.Core.List.{List}
 use mathlib.Core.Path.{_≡_}
-use Prim.Native.Nat.{_+_, _-_, _<_, ℕ}
+use Prim.Native.Nat.{_+_, _<_, ℕ}
 use lib.ListN.{length}
 use Rattle.base.specs.Update.{upd}
 use Rattle.rules.specs.Rules.{Work, enterAs, pageOf, reserve}
@@ -11,17 +11,13 @@ use Rattle.rules.specs.Storage.{PageData, overlay, real}
 use Rattle.tables.specs.Calls.{pagesOf}
 use Rattle.tables.specs.Packed.{unpack}
 use Rattle.tables.specs.Views.{PackedTables, Took, pendingOf}
-use Rattle.copying.specs.Work.{Ready, Sound, rest, work}
+use Rattle.copying.specs.Work.{Ready, Sound, oneTaken, rest, work}
 use Rattle.copying.specs.declared.giving.Counts.{Counts}
 
 -- every block pending is one of the first n
 pub record PendingIn (l : List ℕ) (n : ℕ) : Type 0 where
   pub len : length l ≡ 64
   pub below : (p b : ℕ) → pendingOf l p ≡ stored b → b < n
-
--- the counts after a block is taken
-abbrev pub oneTaken : Counts → Counts
-oneTaken k = record { taken = k .taken + 1; copies = k .copies; marks = k .marks; left = k .left - 1 }
 
 -- a block is taken and pending for page p
 pub record TakenFor (t t′ l l′ : List ℕ) (p : ℕ) (k k′ : Counts) : Type 0 where

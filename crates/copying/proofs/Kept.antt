@@ -12,14 +12,14 @@ use Rattle.base.specs.Count.{count, count-fewer, count-less}
 use Rattle.base.specs.Logic.{pick, same?}
 use Rattle.base.specs.Search.{firstFree}
 use Rattle.base.specs.Update.{upd, upd-all, upd-keeps, upd-other, upd-same, upd-upd}
-use Rattle.copying.specs.Work.{Does, Ready, Rest, Sound, Step, memoryOf, onFiles, rest, work, workOf}
+use Rattle.copying.specs.Work.{Does, Ready, Rest, Sound, Step, onFiles, oneTaken, rest, work, workOf}
 use Rattle.rules.proofs.Steps.OneStep.{putEntry-state}
 use Rattle.rules.specs.Rules.{Work, copy, enterAs, putEntry, takeOwn}
 use Rattle.rules.specs.State.{Entry, File, Files, State, Tables, Tree, absentFile, live, stored, treeOf}
 use Rattle.rules.specs.Storage.{PageData, real, takeBlock}
 use Rattle.tables.specs.Calls.{pagesOf}
 use Rattle.tables.specs.Packed.{unpack}
-use Rattle.tables.specs.Views.{PackedTables, Took, Turns, putBitIn, putEntryIn, putFiles, putHead, putHeadIn, putNextIn, took}
+use Rattle.tables.specs.Views.{PackedTables, Took, Turns, memoryOf, putBitIn, putEntryIn, putFiles, putHead, putHeadIn, putNextIn, took}
 use Rattle.copying.specs.declared.giving.Counts.{Counts}
 
 -- ---- the files of number f are put
@@ -217,10 +217,6 @@ module _ {t t₁ t₂ : List ℕ} (p p₁ : List ℕ) (f c q b d : ℕ) (k : Cou
       (copy real (treeOf (unpack t .sets)) b c q) copy-does
 
 -- ---- a block taken for a page of the writer
-
--- the counts after it
-abbrev pub oneTaken : Counts → Counts
-oneTaken k = record { taken = k .taken + 1; copies = k .copies; marks = k .marks; left = k .left - 1 }
 
 module _ {t t₁ : List ℕ} (f d : ℕ) (k : Counts) (tk : Took t t₁ d) where
   -- LAW: the rest is as it was

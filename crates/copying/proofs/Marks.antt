@@ -12,7 +12,7 @@ use Rattle.base.specs.Logic.{and-left, digit, same?, test?}
 use Rattle.base.specs.Update.{upd, upd-is, upd-same, upd-self, upd-upd}
 use Rattle.copying.proofs.Kept.{changed, sound-files}
 use Rattle.copying.specs.Changes.{MarkedBy, markIf, markTo, marksDown, reached}
-use Rattle.copying.specs.Work.{Ready, Step, memoryOf}
+use Rattle.copying.specs.Work.{Ready, Step}
 use Rattle.packing.specs.Bitmap.{isOne, one-digit}
 use Rattle.rules.proofs.Formed.Tests.{or-then}
 use Rattle.rules.proofs.Steps.Reached.{mark-map-same}
@@ -23,7 +23,7 @@ use Rattle.rules.specs.Storage.{real}
 use Rattle.tables.proofs.ReadParts.{set-default}
 use Rattle.tables.specs.Calls.{pagesOf}
 use Rattle.tables.specs.Packed.{unpack}
-use Rattle.tables.specs.Views.{PackedTables, Turns, putFiles, putHead, putHeadIn}
+use Rattle.tables.specs.Views.{PackedTables, Turns, memoryOf, putFiles, putHead, putHeadIn}
 use Rattle.copying.specs.declared.giving.Counts.{Counts}
 
 -- ---- the files of the first n sets, marked where g says so

@@ -2,7 +2,7 @@
 use mathlib.Core.Bool.{cond, not}
 use mathlib.Core.List.{List}
 use mathlib.Core.Path.{_≡_}
-use Prim.Native.Nat.{_*_, _+_, _<_, ℕ, _≤_}
+use Prim.Native.Nat.{_*_, _+_, _-_, _<_, ℕ, _≤_}
 use lib.ListN.{length}
 use Rattle.base.specs.Count.{count}
 use Rattle.base.specs.Update.{upd}
@@ -13,12 +13,8 @@ use Rattle.rules.specs.State.{Entry, Files, SetRecord, Tables, Tree, absentFile
 use Rattle.rules.specs.Storage.{Memory, PageData, real}
 use Rattle.tables.specs.Calls.{pagesOf}
 use Rattle.tables.specs.Packed.{unpack}
-use Rattle.tables.specs.Views.{HeaderIn, PackedTables}
+use Rattle.tables.specs.Views.{HeaderIn, PackedTables, memoryOf}
 use Rattle.copying.specs.declared.giving.Counts.{Counts}
-
--- the memory of tables and pages
-abbrev pub memoryOf : Tables → (ℕ → PageData) → Memory
-memoryOf tb pg = record { blocks = tb .blocks; next = tb .next; bits = tb .bits; pages = pg }
 
 -- the work on files x of one number, with the blocks pending h
 abbrev pub workOf : Memory → Files ℕ → (ℕ → Entry ℕ) → Counts → Work real
@@ -27,6 +23,10 @@ workOf m x h k = record { memory = m; files = x; pending = h; taken = k .taken; 
 -- the work on the files of number f
 abbrev pub work : Tables → (ℕ → PageData) → ℕ → (ℕ → Entry ℕ) → Counts → Work real
 work tb pg f h k = workOf (memoryOf tb pg) (tb .files f) h k
+
+-- the counts after a block is taken
+abbrev pub oneTaken : Counts → Counts
+oneTaken k = record { taken = k .taken + 1; copies = k .copies; marks = k .marks; left = k .left - 1 }
 
 -- what no step on the files of number f changes: the block count, the sets, the files of other numbers
 pub record Rest : Type 0 where

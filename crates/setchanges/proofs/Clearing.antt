@@ -16,10 +16,10 @@ use Rattle.rules.specs.State.{Files, Tables, absentFile, fileCount}
 use Rattle.rules.specs.Storage.{Memory, PageData, real}
 use Rattle.setchanges.proofs.ChildFiles.{past-last}
 use Rattle.setchanges.proofs.Freeing.{each-through, free-map-bits, freedBits, memoryWith}
-use Rattle.setchanges.specs.Changes.{erasedIn, BlocksIn, clearedIn, freedIn, memoryOf, noPages, withBits}
+use Rattle.setchanges.specs.Changes.{erasedIn, BlocksIn, clearedIn, freedIn, noPages, withBits}
 use Rattle.tables.proofs.Operations.{turns-as, turns-more, turns-start, turns-then}
 use Rattle.tables.specs.Packed.{unpack}
-use Rattle.tables.specs.Views.{PackedTables, Turns, putFiles}
+use Rattle.tables.specs.Views.{PackedTables, Turns, memoryOf, putFiles}
 
 -- the first n files of set c are absent, their blocks are free
 unfoldable pub clearedTo : ℕ → ℕ → Tables → Tables

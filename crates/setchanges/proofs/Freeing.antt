@@ -12,11 +12,11 @@ use Rattle.rules.proofs.Tally.TallyLoops.{from-last, from-none}
 use Rattle.rules.specs.Rules.{each, freeEntry, freeMap, from}
 use Rattle.rules.specs.State.{Entry, Files, Tables, hole, largestBlocks, pageCount, stored, unmapped}
 use Rattle.rules.specs.Storage.{Memory, PageData, real}
-use Rattle.setchanges.specs.Changes.{BlocksIn, blockIn, freedEntryIn, freedIn, memoryOf, noPages, withBits}
+use Rattle.setchanges.specs.Changes.{BlocksIn, blockIn, freedEntryIn, freedIn, noPages, withBits}
 use Rattle.tables.proofs.Operations.{turns-as, turns-more, turns-start}
 use Rattle.tables.proofs.ZeroFiles.{map-zero}
 use Rattle.tables.specs.Packed.{unpack}
-use Rattle.tables.specs.Views.{PackedTables, Turns, putBitIn}
+use Rattle.tables.specs.Views.{PackedTables, Turns, memoryOf, putBitIn}
 
 -- the block of an entry is free again, on the bits
 abbrev pub freeBit : Entry ℕ → (ℕ → Bool) → ℕ → Bool

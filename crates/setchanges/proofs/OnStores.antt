@@ -11,10 +11,10 @@ use Rattle.rules.specs.State.{Tables, absentFile, fileCount}
 use Rattle.rules.specs.Storage.{Memory, PageData, real}
 use Rattle.setchanges.proofs.Clearing.{clear-bits}
 use Rattle.setchanges.proofs.Freeing.{memoryWith}
-use Rattle.setchanges.specs.Changes.{createdIn, madeIn, memoryOf, noPages, removedIn}
+use Rattle.setchanges.specs.Changes.{createdIn, madeIn, noPages, removedIn}
 use Rattle.tables.specs.Calls.{pagesOf, storeOf}
 use Rattle.tables.specs.Packed.{unpack}
-use Rattle.tables.specs.Views.{putFiles}
+use Rattle.tables.specs.Views.{memoryOf, putFiles}
 
 -- the store of tables and pages
 abbrev pub storeWith : Tables → (ℕ → PageData) → Store real

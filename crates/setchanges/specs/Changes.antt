@@ -9,12 +9,8 @@ use Rattle.rules.specs.Calls.{newFile}
 use Rattle.rules.specs.Rules.{each, freeMap, from, holes}
 use Rattle.rules.specs.Sets.{appendSet, childFile, unlinkSet, withFirstChild, withNextSibling}
 use Rattle.rules.specs.State.{Entry, SetRecord, Tables, absentFile, fileCount, hole, largestBlocks, noSet, setCount, stored, unmapped}
-use Rattle.rules.specs.Storage.{Memory, PageData, real}
-use Rattle.tables.specs.Views.{putBitIn, putFiles, putSetIn}
-
--- the memory of the tables, with such pages
-abbrev pub memoryOf : Tables → (ℕ → PageData) → Memory
-memoryOf tb pages = record { blocks = tb .blocks; next = tb .next; bits = tb .bits; pages = pages }
+use Rattle.rules.specs.Storage.{PageData, real}
+use Rattle.tables.specs.Views.{memoryOf, putBitIn, putFiles, putSetIn}
 
 -- freeing blocks does not look at the pages
 abbrev pub noPages : ℕ → PageData

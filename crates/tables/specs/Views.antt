@@ -11,6 +11,7 @@ use Rattle.base.specs.Update.{upd}
 use Rattle.packing.specs.Fields.{getField}
 use Rattle.rules.specs.Rules.{putEntry}
 use Rattle.rules.specs.State.{Entry, Files, SetRecord, State, Tables, fileCount, largestBlocks, pageCount, setCount, stored, unmapped}
+use Rattle.rules.specs.Storage.{Memory, PageData}
 use Rattle.tables.specs.Layout.{entryWord, headWidths, headWord, headerWidths, headerWord, readEntry, setWidths, setWord, tableBytes}
 use Rattle.tables.specs.Packed.{entryFormed, unpack}
 
@@ -21,6 +22,10 @@ pub record PackedTables (t : List ℕ) : Type 0 where
   pub set-ok : (s : ℕ) → s < setCount → getField setWidths (setWord t s) 6 ≡ 0
   pub head-ok : (f s : ℕ) → f < fileCount → s < setCount → getField headWidths (headWord t f s) 2 ≡ 0
   pub entry-ok : (f s p : ℕ) → f < fileCount → s < setCount → p < pageCount → entryFormed t (entryWord t f s p) ≡ true
+
+-- the memory of tables and pages
+abbrev pub memoryOf : Tables → (ℕ → PageData) → Memory
+memoryOf tb pages = record { blocks = tb .blocks; next = tb .next; bits = tb .bits; pages = pages }
 
 -- the files of number f
 unfoldable pub putFiles : ℕ → Files ℕ → Tables → Tables
