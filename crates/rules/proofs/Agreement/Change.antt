@@ -9,8 +9,8 @@ use Rattle.base.specs.Update.{upd, upd-other, upd-same}
 use Rattle.rules.proofs.Storages.Model.{model}
 use Rattle.rules.proofs.Steps.OneStep.{Alive, FilesOk, TreeOk, cut-page, cut-size, keep-refl, putEntry-ent, putEntry-other, putEntry-page, putEntry-size, putEntry-state, resolve-same}
 use Rattle.rules.proofs.Steps.States.{alive-own, live-present}
-use Rattle.rules.proofs.Steps.StepFour.{Given, Going, each-all, each-inv, giveAll-done, giveAll-going, given-refl}
-use Rattle.rules.proofs.Steps.WriterSteps.{Entered, Held, NoDup, Settled, bytes, enter-all, laid, mem?, reserve-files, reserve-held, resolve-here, settle-no-virgin, settle-each, size-here}
+use Rattle.rules.proofs.Steps.StepFour.{ChildServed, Going, each-all, each-inv, giveAll-done, giveAll-going, served-refl}
+use Rattle.rules.proofs.Steps.WriterSteps.{Entered, IsPending, NoDup, Settled, bytes, enter-all, laid, mem?, reserve-files, reserve-pending, resolve-here, settle-no-virgin, settle-each, size-here}
 use Rattle.rules.specs.Reading.{needs, resolve, sizeByReading}
 use Rattle.rules.specs.Rules.{Work, change, dropPage, each, enter, giveAll, putEntry, reserve, resize, settle}
 use Rattle.rules.specs.State.{File, Files, Tree, hole, isAbsent, live, own, stored, unmapped, virgin}
@@ -51,7 +51,7 @@ pub record Changed (t : Tree) (s : ℕ) (rs ds : List ℕ) (lay : ℕ → PageDa
 module _ (t : Tree) (ok : TreeOk t) (s : ℕ) (ps rs ds : List ℕ) (in-r : (p : ℕ) → List·Memᴰ p rs → List·Memᴰ p ps) (in-d : (p : ℕ) → List·Memᴰ p ds → List·Memᴰ p ps)
     (lay : ℕ → PageData → PageData) (sz : ℕ → ℕ) (a b₁ b₃ b₄ b₅ : Files PageData)
     (al : Alive a s) (r₁ : Settled t a b₁) (no-virgin : (c : ℕ) → List·Memᴰ c (s ∷ t .children s) → b₁ c .state ≡ virgin → ⊥)
-    (r₃ : Given t s b₁ b₃) (idle : (p : ℕ) → List·Memᴰ p ps → (c : ℕ) → List·Memᴰ c (t .children s) → needs b₃ c p ≡ false) (r₄ : Entered t s lay rs b₃ b₄) (r₅ : Dropped t s ds b₄ b₅) where
+    (r₃ : ChildServed t s b₁ b₃) (idle : (p : ℕ) → List·Memᴰ p ps → (c : ℕ) → List·Memᴰ c (t .children s) → needs b₃ c p ≡ false) (r₄ : Entered t s lay rs b₃ b₄) (r₅ : Dropped t s ds b₄ b₅) where
   last : Files PageData
   last = upd b₅ s (record { state = own; size = sz (b₅ s .size); map = b₅ s .map })
 
@@ -140,7 +140,7 @@ module _ (t : Tree) (ok : TreeOk t) (s : ℕ) (ps rs ds : List ℕ) (in-r : (p :
       let r₁ : Settled t (w .files) (w₂ .files) = rw e₂ (settle-each t ok w (s ∷ t .children s) i) in
       let no-virgin : (c : ℕ) → List·Memᴰ c (s ∷ t .children s) → w₂ .files c .state ≡ virgin → ⊥ = rw e₂ (settle-no-virgin t ok w (s ∷ t .children s) i) in
       let no-virgin′ : (c : ℕ) → List·Memᴰ c (t .children s) → w₂ .files c .state ≡ virgin → ⊥ = λ c m. no-virgin c (List·Memᴰ·tail m) in
-      let g : Going t ok s w₂ w₂ = record { given = given-refl (r₁ .ok′); pending = refl } in
+      let g : Going t ok s w₂ w₂ = record { served = served-refl (r₁ .ok′); pending = refl } in
       let g₃ : Going t ok s w₂ w₃ = giveAll-going t ok s w₂ no-virgin′ ps g in
-      let pending : (p : ℕ) → List·Memᴰ p rs → Held (w₃ .pending p) = λ p m. rw (g₃ .pending) (reserve-held t s rs w₁ p m) in
-      assembled t ok s ps rs ds in-r in-d lay sz (w .files) (w₂ .files) (w₃ .files) (w₄ .files) (w₅ .files) a r₁ no-virgin (g₃ .given) (giveAll-done t ok s w₂ no-virgin′ ps g) (enter-all t s lay rs nd w₃ pending) (drop-all t s ds w₄)
+      let pending : (p : ℕ) → List·Memᴰ p rs → IsPending (w₃ .pending p) = λ p m. rw (g₃ .pending) (reserve-pending t s rs w₁ p m) in
+      assembled t ok s ps rs ds in-r in-d lay sz (w .files) (w₂ .files) (w₃ .files) (w₄ .files) (w₅ .files) a r₁ no-virgin (g₃ .served) (giveAll-done t ok s w₂ no-virgin′ ps g) (enter-all t s lay rs nd w₃ pending) (drop-all t s ds w₄)

@@ -10,7 +10,7 @@ use Rattle.rules.proofs.Agreement.Agree.{Agree, agree-one, from-mem}
 use Rattle.rules.proofs.Storages.Model.{model}
 use Rattle.rules.proofs.Steps.OneStep.{Alive, FilesOk, TreeOk, cut-page, cut-size, keep-refl, needs-yes}
 use Rattle.rules.proofs.Agreement.CreateMake.{away-page, away-size}
-use Rattle.rules.proofs.Steps.StepFour.{Given, Going, giveAll-done, giveAll-going, given-refl}
+use Rattle.rules.proofs.Steps.StepFour.{ChildServed, Going, giveAll-done, giveAll-going, served-refl}
 use Rattle.rules.proofs.Steps.WriterSteps.{Settled, settle-no-virgin, settle-each}
 use Rattle.rules.specs.Reading.{needs, resolve, sizeByReading}
 use Rattle.rules.specs.Rules.{Work, deleteAs, deleteFile, each, eraseFile, from, giveAll, settle}
@@ -71,7 +71,7 @@ module _ (t : Tree) (ok : TreeOk t) (s : ℕ) (a b : Files PageData) (empty : b 
     }
 
   -- a live file: the children have been given what they need
-  module _ (b₁ b₃ : Files PageData) (r₁ : Settled t a b₁) (no-virgin : (c : ℕ) → List·Memᴰ c (t .children s) → b₁ c .state ≡ virgin → ⊥) (r₃ : Given t s b₁ b₃)
+  module _ (b₁ b₃ : Files PageData) (r₁ : Settled t a b₁) (no-virgin : (c : ℕ) → List·Memᴰ c (t .children s) → b₁ c .state ≡ virgin → ⊥) (r₃ : ChildServed t s b₁ b₃)
       (idle : (p : ℕ) → p < 64 → (c : ℕ) → List·Memᴰ c (t .children s) → needs b₃ c p ≡ false) (others : (x : ℕ) → (s ≡ x → ⊥) → b x ≡ b₃ x) where
     was₃ : (x : ℕ) → (s ≡ x → ⊥) → Alive b x → Alive b₃ x
     was₃ x n al = ap (λ (f : File PageData). live (f .state)) (sym (others x n)) ∙ al
@@ -106,8 +106,8 @@ module _ (t : Tree) (ok : TreeOk t) (s : ℕ) (w : Work model) (k : FilesOk t (w
       let w₂ : Work model = giveAll model t s (from 0 64) w₁ in
       let r₁ : Settled t (w .files) (w₁ .files) = settle-each t ok w (t .children s) i in
       let no-virgin : (c : ℕ) → List·Memᴰ c (t .children s) → w₁ .files c .state ≡ virgin → ⊥ = settle-no-virgin t ok w (t .children s) i in
-      let g : Going t ok s w₁ w₁ = record { given = given-refl (r₁ .ok′); pending = refl } in
-      gone-live t ok s (w .files) (eraseFile model t s w₂ .files) (erase-empty t s w₂) (w₁ .files) (w₂ .files) r₁ no-virgin (giveAll-going t ok s w₁ no-virgin (from 0 64) g .given)
+      let g : Going t ok s w₁ w₁ = record { served = served-refl (r₁ .ok′); pending = refl } in
+      gone-live t ok s (w .files) (eraseFile model t s w₂ .files) (erase-empty t s w₂) (w₁ .files) (w₂ .files) r₁ no-virgin (giveAll-going t ok s w₁ no-virgin (from 0 64) g .served)
       (λ p l. giveAll-done t ok s w₁ no-virgin (from 0 64) g p (from-mem 0 64 p (omega arith) l)) (erase-others t s w₂)
 
   pub deleted : Gone t s (w .files) (deleteFile model t s w .files)

@@ -76,10 +76,10 @@ at w false x p = w .files x .map p
 at w true x p = w .pending p
 
 pub record Place (w : Work real) (b : ℕ) : Type 0 where
-  pub held : Bool
+  pub pending : Bool
   pub set : ℕ
   pub page : ℕ
-  pub names : at w held set page ≡ stored b
+  pub names : at w pending set page ≡ stored b
 
 -- Outer are the blocks of the files of other numbers, m₀ is the memory at the start; a pending block is for set s.
 module _ (t : Tree) (s : ℕ) (m₀ : Memory) (Outer : ℕ → Type 0) where
@@ -114,7 +114,7 @@ module _ (t : Tree) (s : ℕ) (m₀ : Memory) (Outer : ℕ → Type 0) where
     apart = λ h h′ x x′ p p′ b a a′. g .apart h h′ x x′ p p′ b (f h x p b a) (f h′ x′ p′ b a′);
     one = λ h h′ x x′ p b b′ a a′. g .one h h′ x x′ p b b′ (f h x p b a) (f h′ x′ p b′ a′);
     only = λ b o. ⊎-elim inl
-        (λ l. inr (record { held = l .held; set = l .set; page = l .page; names = f′ (l .held) (l .set) (l .page) b (l .names) }))
+        (λ l. inr (record { pending = l .pending; set = l .set; page = l .page; names = f′ (l .pending) (l .set) (l .page) b (l .names) }))
         (g .only b (ap (λ (m : Memory). m .bits b) (sym e) ∙ o));
     outer = λ b o. rw e (g .outer b o);
     outer-not = λ b o h x p a. g .outer-not b o h x p (f h x p b a);
@@ -163,7 +163,7 @@ module _ (t : Tree) (s : ℕ) (m₀ : Memory) (Outer : ℕ → Type 0) where
         (k .named h x p b a);
     only = λ b o.
         ⊎-elim
-        (λ o. ⊎-elim inl (λ l. inr (record { held = l .held; set = l .set; page = l .page; names = k .still (l .held) (l .set) (l .page) b (l .names) })) (g .only b o))
+        (λ o. ⊎-elim inl (λ l. inr (record { pending = l .pending; set = l .set; page = l .page; names = k .still (l .pending) (l .set) (l .page) b (l .names) })) (g .only b o))
         (λ e. inr (subst (Place w′) (sym e) (k .there)))
         (k .bits b o);
     outer = λ b o. k .old b (g .outer b o);

@@ -133,7 +133,7 @@ module _ (t : Tree) (s : ℕ) (m₀ : Memory) (Outer : ℕ → Type 0) where
       bits = was-used;
       named = named;
       still = still;
-      there = record { held = true; set = s; page = p; names = upd-same (w .pending) p (stored b₂) };
+      there = record { pending = true; set = s; page = p; names = upd-same (w .pending) p (stored b₂) };
       sole = λ h x q a. absurd (not-used (g .used h x q b₂ a));
       alone = alone;
       inner = λ o. not-used (g .outer b₂ o);
@@ -165,7 +165,7 @@ module _ (t : Tree) (s : ℕ) (m₀ : Memory) (Outer : ℕ → Type 0) where
       bits = was-used;
       named = named;
       still = still;
-      there = record { held = false; set = c; page = p; names = putEntry-ent (w .files) c p (stored b₂) };
+      there = record { pending = false; set = c; page = p; names = putEntry-ent (w .files) c p (stored b₂) };
       sole = λ h x q a. absurd (not-used (g .used h x q b₂ a));
       alone = alone;
       inner = λ o. not-used (g .outer b₂ o);
@@ -204,7 +204,7 @@ module _ (t : Tree) (s : ℕ) (m₀ : Memory) (Outer : ℕ → Type 0) where
         bits = λ b h. inl h;
         named = named;
         still = still;
-        there = record { held = true; set = s; page = p; names = upd-same (w .pending) p (stored b) };
+        there = record { pending = true; set = s; page = p; names = upd-same (w .pending) p (stored b) };
         sole = λ h x q a. g .apart h false x s q p b a e;
         alone = alone;
         inner = λ o. g .outer-not b o false s p e;
@@ -235,7 +235,7 @@ module _ (t : Tree) (s : ℕ) (m₀ : Memory) (Outer : ℕ → Type 0) where
     bits = λ b h. inl h;
     named = named;
     still = still;
-    there = record { held = false; set = s; page = p; names = putEntry-ent (w .files) s p (stored b) };
+    there = record { pending = false; set = s; page = p; names = putEntry-ent (w .files) s p (stored b) };
     sole = λ h x q a. g .apart h true x s q p b a e;
     alone = alone;
     inner = λ o. g .outer-not b o true s p e;
@@ -294,7 +294,7 @@ module _ (t : Tree) (s : ℕ) (m₀ : Memory) (Outer : ℕ → Type 0) where
         only = λ b′ o. same? b b′
             (λ d. absurd (true≢false (sym o ∙ subst (λ y. upd (w .memory .bits) b false y ≡ false) d (upd-same (w .memory .bits) b false))))
             (λ d. ⊎-elim inl
-            (λ l. inr (record { held = l .held; set = l .set; page = l .page; names = more (stored b) (l .held) (l .set) (l .page) b′ (λ z. d (let y : b ≡ b′ = cc in y)) (l .names) }))
+            (λ l. inr (record { pending = l .pending; set = l .set; page = l .page; names = more (stored b) (l .pending) (l .set) (l .page) b′ (λ z. d (let y : b ≡ b′ = cc in y)) (l .names) }))
             (g .only b′ (sym (upd-other (w .memory .bits) b false b′ d) ∙ o)));
         outer = λ b′ o. still b b′ (g .outer b′ o) (λ d. g .outer-not b′ o false s p (e ∙ ap stored d));
         outer-not = λ b′ o h x q a. g .outer-not b′ o h x q (less (stored b) h x q b′ a);

@@ -113,7 +113,7 @@ module _ (r : Store real) (k : BlocksOk r) (pi : PagesInside r) (f s : ℕ) wher
       only b o =
           let n = k .only b o in
           same? f (n .file)
-          (λ e. inr (record { held = false; set = n .set; page = n .page; names = ap (λ y. r .files y (n .set) .map (n .page)) e ∙ n .names }))
+          (λ e. inr (record { pending = false; set = n .set; page = n .page; names = ap (λ y. r .files y (n .set) .map (n .page)) e ∙ n .names }))
           (λ e. inl (record { file = n .file; set = n .set; page = n .page; other = e; names = n .names }))
 
       not-outer : (b : ℕ) → Outer r f b → (h : Bool) (x p : ℕ) → at w h x p ≡ stored b → ⊥
@@ -170,7 +170,7 @@ module _ (r : Store real) (k : BlocksOk r) (pi : PagesInside r) (f s : ℕ) wher
       only = λ b o.
           ⊎-elim
           (λ o. record { file = o .file; set = o .set; page = o .page; names = ap (λ (c : Files ℕ). c (o .set) .map (o .page)) (upd-other (r .files) f (w .files) (o .file) (o .other)) ∙ o .names })
-          (λ l. in-map b (l .held) (l .set) (l .page) (l .names))
+          (λ l. in-map b (l .pending) (l .set) (l .page) (l .names))
           (g .only b o);
       placed = record {
         file-low = λ j x p b e. ⊎-elim (λ i. subst (λ y. y < 16) (i .0) low) (λ i. k .placed .file-low j x p b (i .2)) (which j x p b e);

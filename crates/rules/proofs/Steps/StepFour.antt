@@ -39,18 +39,18 @@ module _ {A W : Type 0} (f : A → W → W) where
 
 module _ {K : Type 0} where
   -- what one page and one child of s get, seen on the files
-  pub record Given (t : Tree) (s : ℕ) (files files′ : Files K) : Type 0 where
+  pub record ChildServed (t : Tree) (s : ℕ) (files files′ : Files K) : Type 0 where
     pub ok′ : FilesOk t files′
     pub keep : Keep t files files′
     pub less : (c p : ℕ) → needs files c p ≡ false → needs files′ c p ≡ false
     pub self : files′ s ≡ files s
     pub no-new-virgin : (c : ℕ) → files′ c .state ≡ virgin → files c .state ≡ virgin
 
-  pub given-refl : {t : Tree} {s : ℕ} {files : Files K} → FilesOk t files → Given t s files files
-  given-refl {t} {s} {files} k = record { ok′ = k; keep = keep-refl t files; less = λ c p h. h; self = refl; no-new-virgin = λ c h. h }
+  pub served-refl : {t : Tree} {s : ℕ} {files : Files K} → FilesOk t files → ChildServed t s files files
+  served-refl {t} {s} {files} k = record { ok′ = k; keep = keep-refl t files; less = λ c p h. h; self = refl; no-new-virgin = λ c h. h }
 
-  given-trans : {t : Tree} {s : ℕ} {a b c : Files K} → Given t s a b → Given t s b c → Given t s a c
-  given-trans h k = record {
+  served-trans : {t : Tree} {s : ℕ} {a b c : Files K} → ChildServed t s a b → ChildServed t s b c → ChildServed t s a c
+  served-trans h k = record {
     ok′ = k .ok′;
     keep = keep-trans (h .keep) (k .keep);
     less = λ c p x. k .less c p (h .less c p x);
@@ -97,8 +97,8 @@ module _ {K : Type 0} where
     fill-done p e h = needs-shown (putEntry files c p e) c p (rw putEntry-ent h)
 
     -- the entry is filled with what it is in s
-    fill-given : (p : ℕ) (e : Entry K) → (files c .state ≡ virgin → ⊥) → needs files c p ≡ true → resolve t files s p ≡ e → Given t s files (putEntry files c p e)
-    fill-given p e nv n r = subst (λ x. Given t s files (putEntry files c p x)) (ap (λ x. resolve t files x p) (ok .kid-par s c kid) ∙ r) (record {
+    fill-served : (p : ℕ) (e : Entry K) → (files c .state ≡ virgin → ⊥) → needs files c p ≡ true → resolve t files s p ≡ e → ChildServed t s files (putEntry files c p e)
+    fill-served p e nv n r = subst (λ x. ChildServed t s files (putEntry files c p x)) (ap (λ x. resolve t files x p) (ok .kid-par s c kid) ∙ r) (record {
       ok′ = fill-ok t ok files c p kid-at u nv k;
       keep = fill-keep t ok files c p kid-at u;
       less = λ c′ p′ h.
@@ -129,8 +129,8 @@ module _ {K : Type 0} where
     unfolding markFile
     dead x e = ap (λ (x : File K). live (x .state)) (marked-by t files c x true e)
 
-    mark-given : Alive files c → Given t s files (markDown t files c)
-    mark-given al = record {
+    mark-served : Alive files c → ChildServed t s files (markDown t files c)
+    mark-served al = record {
       ok′ = mark-ok t ok files k c;
       keep = mark-keep t ok files k c al;
       less = λ c′ p′ h. test? (reaches t files c c′)
@@ -155,7 +155,7 @@ module _ (t : Tree) (ok : TreeOk t) (s : ℕ) where
   give-no p c w h = rw h
 
   pub record Turn (p c : ℕ) (w v : Work model) : Type 0 where
-    pub given : Given t s (w .files) (v .files)
+    pub served : ChildServed t s (w .files) (v .files)
     pub done : needs (v .files) c p ≡ false
     pub pending : v .pending ≡ w .pending
 
@@ -164,32 +164,32 @@ module _ (t : Tree) (ok : TreeOk t) (s : ℕ) where
     unfolding supply copy mark
     supply-turn unmapped n r = let z : _≡_ {A = ℕ} 0 1 = cc (resolve-shown t (w .files) s p) in absurd (omega arith)
     supply-turn hole n r = record {
-      given = fill-given t ok s (w .files) k c kid p hole nv n r;
+      served = fill-served t ok s (w .files) k c kid p hole nv n r;
       done = fill-done t ok s (w .files) k c kid p hole refl;
       pending = refl;
     }
     supply-turn (stored b) n r =
         test? {P = Turn p c w (supply model t (stored b) c p w)} (eqb (w .memory) 0)
-        (λ z. rw (z, supply) (record { given = mark-given t ok s (w .files) k c kid (needs-alive (w .files) c p n); done = mark-done t ok s (w .files) k c kid p; pending = refl }))
-        (λ z. rw (z, supply) (record { given = fill-given t ok s (w .files) k c kid p (stored b) nv n r; done = fill-done t ok s (w .files) k c kid p (stored b) refl; pending = refl }))
+        (λ z. rw (z, supply) (record { served = mark-served t ok s (w .files) k c kid (needs-alive (w .files) c p n); done = mark-done t ok s (w .files) k c kid p; pending = refl }))
+        (λ z. rw (z, supply) (record { served = fill-served t ok s (w .files) k c kid p (stored b) nv n r; done = fill-done t ok s (w .files) k c kid p (stored b) refl; pending = refl }))
 
     give-turn : Turn p c w (give model t s p c w)
     give-turn =
         test? (needs (w .files) c p)
         (λ n. rw (give-yes p c w n) (supply-turn (resolve t (w .files) s p) n refl))
-        (λ n. rw (give-no p c w n) (record { given = given-refl k; done = n; pending = refl }))
+        (λ n. rw (give-no p c w n) (record { served = served-refl k; done = n; pending = refl }))
 
   -- all of step 4
   pub record Going (w v : Work model) : Type 0 where
-    pub given : Given t s (w .files) (v .files)
+    pub served : ChildServed t s (w .files) (v .files)
     pub pending : v .pending ≡ w .pending
 
   module _ (w : Work model) (no-virgin : (c : ℕ) → List·Memᴰ c (t .children s) → w .files c .state ≡ virgin → ⊥) where
     turn : (p c : ℕ) (v : Work model) → List·Memᴰ c (t .children s) → Going w v → Turn p c v (give model t s p c v)
-    turn p c v m g = give-turn p c v m (g .given .ok′) (λ h. no-virgin c m (g .given .no-new-virgin c h))
+    turn p c v m g = give-turn p c v m (g .served .ok′) (λ h. no-virgin c m (g .served .no-new-virgin c h))
 
     going : (p c : ℕ) (v : Work model) → List·Memᴰ c (t .children s) → Going w v → Going w (give model t s p c v)
-    going p c v m g = record { given = given-trans (g .given) (turn p c v m g .given); pending = turn p c v m g .pending ∙ g .pending }
+    going p c v m g = record { served = served-trans (g .served) (turn p c v m g .served); pending = turn p c v m g .pending ∙ g .pending }
 
     page-going : (p : ℕ) (v : Work model) → Going w v → Going w (each (give model t s p) (t .children s) v)
     page-going p v g = each-inv (give model t s p) (Going w) (t .children s) (λ c u m. going p c u m) v g
@@ -197,12 +197,12 @@ module _ (t : Tree) (ok : TreeOk t) (s : ℕ) where
     page-done : (p : ℕ) (v : Work model) → Going w v → (c : ℕ) → List·Memᴰ c (t .children s) → needs (each (give model t s p) (t .children s) v .files) c p ≡ false
     page-done p v g =
         each-all (give model t s p) (Going w) (λ c u. needs (u .files) c p ≡ false) (t .children s)
-        (λ c u m. going p c u m) (λ c u m g. turn p c u m g .done) (λ c c′ u m g h. turn p c′ u m g .given .less c p h) v g
+        (λ c u m. going p c u m) (λ c u m g. turn p c u m g .done) (λ c c′ u m g h. turn p c′ u m g .served .less c p h) v g
 
     page-less : (p q c : ℕ) (v : Work model) → Going w v → needs (v .files) c q ≡ false → needs (each (give model t s p) (t .children s) v .files) c q ≡ false
     page-less p q c v g h =
         each-inv (give model t s p) (λ u. Going w u × (needs (u .files) c q ≡ false)) (t .children s)
-        (λ c′ u m i. (going p c′ u m (i .0), turn p c′ u m (i .0) .given .less c q (i .1))) v (g, h) .1
+        (λ c′ u m i. (going p c′ u m (i .0), turn p c′ u m (i .0) .served .less c q (i .1))) v (g, h) .1
 
     pub giveAll-going : (ps : List ℕ) → Going w w → Going w (giveAll model t s ps w)
     unfolding giveAll

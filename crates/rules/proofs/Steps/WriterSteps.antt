@@ -85,25 +85,25 @@ module _ (t : Tree) (ok : TreeOk t) (w : Work model) where
       (λ c v m i. settle-step t ok c (v .files) (i .ok′) .1)
       (λ c c′ v m i h x. h (settle-step t ok c′ (v .files) (i .ok′) .0 .no-new-virgin c x)) w i
 
--- STEP 3: the files stay, and each touched page has a block held
-abbrev pub Held : {K : Type 0} → Entry K → Type 0
-Held e = isStored e ≡ true
+-- STEP 3: the files stay, and each touched page has a block pending
+abbrev pub IsPending : {K : Type 0} → Entry K → Type 0
+IsPending e = isStored e ≡ true
 
 module _ (t : Tree) (s : ℕ) where
   pub record Reserved (p : ℕ) (w v : Work model) : Type 0 where
     pub files′ : v .files ≡ w .files
-    pub here : Held (v .pending p)
-    pub more : (q : ℕ) → Held (w .pending q) → Held (v .pending q)
+    pub here : IsPending (v .pending p)
+    pub more : (q : ℕ) → IsPending (w .pending q) → IsPending (v .pending q)
 
   reserve-step : (p : ℕ) (w : Work model) → Reserved p w (reserve model t s p w)
   unfolding reserve reserveAs takeOwn
   reserve-step p w = go (w .files s .map p)
     where
-      got : (h : ℕ → Entry PageData) (b : PageData) → Held (upd h p (stored b) p)
+      got : (h : ℕ → Entry PageData) (b : PageData) → IsPending (upd h p (stored b) p)
       got h b = ap isStored (upd-same h p (stored b))
 
-      kept : (h : ℕ → Entry PageData) (b : PageData) (q : ℕ) → Held (h q) → Held (upd h p (stored b) q)
-      kept h b q k = same? p q (λ e. subst (λ x. Held (upd h p (stored b) x)) e (got h b)) (λ e. ap isStored (upd-other h p (stored b) q e) ∙ k)
+      kept : (h : ℕ → Entry PageData) (b : PageData) (q : ℕ) → IsPending (h q) → IsPending (upd h p (stored b) q)
+      kept h b q k = same? p q (λ e. subst (λ x. IsPending (upd h p (stored b) x)) e (got h b)) (λ e. ap isStored (upd-other h p (stored b) q e) ∙ k)
 
       go : (e : Entry PageData) → Reserved p w (reserveAs model t e p w)
       go unmapped = record { files′ = refl; here = got (w .pending) _; more = kept (w .pending) _ }
@@ -113,11 +113,11 @@ module _ (t : Tree) (s : ℕ) where
   pub reserve-files : (ps : List ℕ) (w : Work model) → each (reserve model t s) ps w .files ≡ w .files
   reserve-files ps w = each-inv (reserve model t s) (λ v. v .files ≡ w .files) ps (λ p v m i. reserve-step p v .files′ ∙ i) w refl
 
-  pub reserve-held : (ps : List ℕ) (w : Work model) (p : ℕ) → List·Memᴰ p ps → Held (each (reserve model t s) ps w .pending p)
-  reserve-held ps w =
-      each-all (reserve model t s) (λ v. Unit {0}) (λ p v. Held (v .pending p)) ps (λ p v m i. tt) (λ p v m i. reserve-step p v .here) (λ p q v m i h. reserve-step q v .more p h) w tt
+  pub reserve-pending : (ps : List ℕ) (w : Work model) (p : ℕ) → List·Memᴰ p ps → IsPending (each (reserve model t s) ps w .pending p)
+  reserve-pending ps w =
+      each-all (reserve model t s) (λ v. Unit {0}) (λ p v. IsPending (v .pending p)) ps (λ p v m i. tt) (λ p v m i. reserve-step p v .here) (λ p q v m i h. reserve-step q v .more p h) w tt
 
--- STEP 5: the held blocks enter the map with the new bytes
+-- STEP 5: the pending blocks enter the map with the new bytes
 abbrev pub NoDup : List ℕ → Type 0
 NoDup [] = Unit {0}
 NoDup (x ∷ xs) = (List·Memᴰ x xs → ⊥) × NoDup xs
@@ -138,18 +138,18 @@ module _ (t : Tree) (s : ℕ) (lay : ℕ → PageData → PageData) where
   abbrev pub laid : Files PageData → ℕ → Entry PageData
   laid files p = stored (lay p (bytes (resolve t files s p)))
 
-  enter-files : (p : ℕ) (w : Work model) → Held (w .pending p) → enter model t s lay p w .files ≡ putEntry (w .files) s p (laid (w .files) p)
+  enter-files : (p : ℕ) (w : Work model) → IsPending (w .pending p) → enter model t s lay p w .files ≡ putEntry (w .files) s p (laid (w .files) p)
   unfolding enter enterAs
   enter-files p w h = go (w .pending p) h
     where
-      go : (e : Entry PageData) → Held e → enterAs model t e s p (lay p (pageOf model (w .memory) (resolve t (w .files) s p))) w .files ≡ putEntry (w .files) s p (laid (w .files) p)
+      go : (e : Entry PageData) → IsPending e → enterAs model t e s p (lay p (pageOf model (w .memory) (resolve t (w .files) s p))) w .files ≡ putEntry (w .files) s p (laid (w .files) p)
       go unmapped h = cc
       go hole h = cc
       go (stored b) h = rw (page-bytes (w .memory) (resolve t (w .files) s p))
 
-  enter-held : (p : ℕ) (w : Work model) → enter model t s lay p w .pending ≡ w .pending
+  enter-pending : (p : ℕ) (w : Work model) → enter model t s lay p w .pending ≡ w .pending
   unfolding enter enterAs
-  enter-held p w = go (w .pending p)
+  enter-pending p w = go (w .pending p)
     where
       go : (e : Entry PageData) → enterAs model t e s p (lay p (pageOf model (w .memory) (resolve t (w .files) s p))) w .pending ≡ w .pending
       go unmapped = refl
@@ -175,11 +175,11 @@ module _ (t : Tree) (s : ℕ) (lay : ℕ → PageData → PageData) where
     old = λ p n. r .old p (λ m. n (List·Memᴰ·tail m)) ∙ putEntry-page a s q _ s p (λ e. n (List·Memᴰ·head (sym e)));
   }
 
-  pub enter-all : (ps : List ℕ) → NoDup ps → (w : Work model) → ((p : ℕ) → List·Memᴰ p ps → Held (w .pending p)) → Entered ps (w .files) (each (enter model t s lay) ps w .files)
+  pub enter-all : (ps : List ℕ) → NoDup ps → (w : Work model) → ((p : ℕ) → List·Memᴰ p ps → IsPending (w .pending p)) → Entered ps (w .files) (each (enter model t s lay) ps w .files)
   unfolding each
   enter-all [] d w h = record { others = λ x n. refl; state′ = refl; size′ = refl; new = λ p m. elim m [ ]; old = λ p n. refl }
   enter-all (q ∷ qs) d w h =
-      enter-more q qs (d .0) (w .files) _ (subst (λ x. Entered qs x (each (enter model t s lay) qs (enter model t s lay q w) .files)) (enter-files q w (h q (List·Memᴰ·head refl))) (enter-all qs (d .1) (enter model t s lay q w) (λ p m. rw (enter-held q w) (h p (List·Memᴰ·tail m)))))
+      enter-more q qs (d .0) (w .files) _ (subst (λ x. Entered qs x (each (enter model t s lay) qs (enter model t s lay q w) .files)) (enter-files q w (h q (List·Memᴰ·head refl))) (enter-all qs (d .1) (enter model t s lay q w) (λ p m. rw (enter-pending q w) (h p (List·Memᴰ·tail m)))))
 
 pub mem? : (p : ℕ) (ps : List ℕ) → (List·Memᴰ p ps) ⊎ (List·Memᴰ p ps → ⊥)
 mem? p [] = inr (λ m. elim m [ ])

@@ -211,9 +211,9 @@ module _ {S S′ : Storage} {T : Translation S S′} {D : Demands S} {t : Tree} 
     still p b b′ q =
         upd-map (λ _. isStored) (v .pending) p (stored b′) q ∙ ap (λ h. upd h p true q) (fun-ext (r .pending)) ∙ sym (upd-map (λ _. isStored) (w .pending) p (stored b) q)
 
-    rel-hold : (p : ℕ) → D .Good (takeOwn S t p w) → 0 < S .free (w .memory) → Rel T D (takeOwn S t p w) (takeOwn S′ t p v)
+    rel-pending : (p : ℕ) → D .Good (takeOwn S t p w) → 0 < S .free (w .memory) → Rel T D (takeOwn S t p w) (takeOwn S′ t p v)
     unfolding takeOwn
-    rel-hold p g f = record {
+    rel-pending p g f = record {
       good = g;
       memory = rw (r .memory) (sym (M .take-mem w (r .good) f));
       files = r .files ∙ mapFiles-agree _ _ (w .files) (λ x q b h. sym (M .take-old w (r .good) b));
@@ -229,8 +229,8 @@ module _ {S S′ : Storage} {T : Translation S S′} {D : Demands S} {t : Tree} 
       where
         go : (e : Entry (S .Block)) → (isStored e ≡ false → 0 < S .free (w .memory)) → D .Good (reserveAs S t e p w) →
             Rel T D (reserveAs S t e p w) (reserveAs S′ t (mapEntry (T .block (w .memory)) e) p v)
-        go unmapped f g = rel-hold p g (f refl)
-        go hole f g = rel-hold p g (f refl)
+        go unmapped f g = rel-pending p g (f refl)
+        go hole f g = rel-pending p g (f refl)
         go (stored b) f g = record { good = g; memory = r .memory; files = r .files; pending = still p _ _; taken = r .taken; copies = r .copies; marks = r .marks }
 
     rel-page : (e : Entry (S .Block)) → pageOf S′ (v .memory) (mapEntry (T .block (w .memory)) e) ≡ T .page (pageOf S (w .memory) e)
