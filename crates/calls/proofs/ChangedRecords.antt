@@ -56,20 +56,20 @@ module _ (r : declared.Answer) (t p t′ : List ℕ) (formed : wellFormed t (len
 
 -- WHAT THE CHANGES ASK FOR, of a call with number 0
 module _ (t p : List ℕ) (formed : wellFormed t (length p) ≡ true) where
-  pub create-needs : (s f : ℕ) → 0 ≡ numberIn t p (create s f) → PackedTables t × (f < 16) × (s < 8)
-  create-needs s f z =
+  pub create-requires : (s f : ℕ) → 0 ≡ numberIn t p (create s f) → PackedTables t × (f < 16) × (s < 8)
+  create-requires s f z =
       let x = passed-create (viewOf real true true (storeOf t p)) s f (sym z) in (formed-store t p formed .packed, x .file, x .set .low)
 
-  pub make-needs : (s c : ℕ) (w : Bool) → 0 ≡ numberIn t p (make s c w)
+  pub make-requires : (s c : ℕ) (w : Bool) → 0 ≡ numberIn t p (make s c w)
       → PackedTables t × (s < 8) × (c < 8) × (unpack t .sets s .used ≡ true) × (unpack t .sets s .level < 7) × ((f : ℕ) → f < 16 → unpack t .files f c ≡ absentFile)
-  make-needs s c w z =
+  make-requires s c w z =
       let x = passed-make (viewOf real true true (storeOf t p)) s c w (sym z) in
       let l = x .level-in in
       let fs = formed-store t p formed in
       (fs .packed, x .set .low, x .new, x .set .used, omega (arith, l), λ f hf. let k = fs .files-ok f .shape c in k .empty (k .unused (x .unused)))
 
-  pub remove-needs : (c : ℕ) → 0 ≡ numberIn t p (remove c) → PackedTables t × (0 < c) × (c < 8) × ((f : ℕ) → f < 16 → BlocksIn f c (unpack t))
-  remove-needs c z =
+  pub remove-requires : (c : ℕ) → 0 ≡ numberIn t p (remove c) → PackedTables t × (0 < c) × (c < 8) × ((f : ℕ) → f < 16 → BlocksIn f c (unpack t))
+  remove-requires c z =
       let x = passed-remove (viewOf real true true (storeOf t p)) c (sym z) in
       let fs = formed-store t p formed in
       let n = x .not-root in

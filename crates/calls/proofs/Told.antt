@@ -56,5 +56,5 @@ read-refused r t p s f off n buffer a e =
     ((λ i. lookedAt (record { number = r .number; first = r .first; second = sym z i; third = r .third }) t p buffer) ∙ e, omega (arith, z))
 
 -- what reading a file and its size ask for
-pub look-needs : (t p : List ℕ) (s f : ℕ) → 0 ≡ numberIn t p (tellSize s f) → (f < 16) × (s < 8)
-look-needs t p s f z = let x = passed-size (viewOf real true true (storeOf t p)) s f (sym z) in (x .file, x .set .low)
+pub look-requires : (t p : List ℕ) (s f : ℕ) → 0 ≡ numberIn t p (tellSize s f) → (f < 16) × (s < 8)
+look-requires t p s f z = let x = passed-size (viewOf real true true (storeOf t p)) s f (sym z) in (x .file, x .set .low)

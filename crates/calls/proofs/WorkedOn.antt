@@ -95,18 +95,18 @@ nothing-written r t p formed a bs s f off (x ∷ xs) l n = absurd (omega (arith,
 
 -- WHAT THE WORK ASKS FOR, of a call with number 0
 module _ (t p : List ℕ) where
-  pub delete-needs : (s f : ℕ) → 0 ≡ numberIn t p (delete s f) → (f < 16) × (s < 8) × (unpack t .sets s .used ≡ true)
-  delete-needs s f z = let x = passed-delete (viewOf real true true (storeOf t p)) s f (sym z) in (x .file, x .set .low, x .set .used)
+  pub delete-requires : (s f : ℕ) → 0 ≡ numberIn t p (delete s f) → (f < 16) × (s < 8) × (unpack t .sets s .used ≡ true)
+  delete-requires s f z = let x = passed-delete (viewOf real true true (storeOf t p)) s f (sym z) in (x .file, x .set .low, x .set .used)
 
-  pub truncate-needs : (s f m : ℕ) → 0 ≡ numberIn t p (truncate s f m)
+  pub truncate-requires : (s f m : ℕ) → 0 ≡ numberIn t p (truncate s f m)
       → (f < 16) × (s < 8) × (unpack t .sets s .used ≡ true) × (m ≤ 32768)
       × (truncateNeed real (treeOf (unpack t .sets)) s m (unpack t .files f) ≤ count (unpack t .blocks) (λ b. not (unpack t .bits b)))
   unfolding freeBlocks
-  truncate-needs s f m z = let x = passed-truncate (viewOf real true true (storeOf t p)) s f m (sym z) in (x .file, x .set .low, x .set .used, x .end-in, x .room)
+  truncate-requires s f m z = let x = passed-truncate (viewOf real true true (storeOf t p)) s f m (sym z) in (x .file, x .set .low, x .set .used, x .end-in, x .room)
 
-  pub write-needs : (s f off : ℕ) (bytes : List ℕ) → 0 ≡ numberIn t p (write s f off bytes)
+  pub write-requires : (s f off : ℕ) (bytes : List ℕ) → 0 ≡ numberIn t p (write s f off bytes)
       → (f < 16) × (s < 8) × (unpack t .sets s .used ≡ true) × (off + length bytes ≤ 32768)
       × (ownNeed real s (touched off (length bytes)) (unpack t .files f) ≤ count (unpack t .blocks) (λ b. not (unpack t .bits b)))
   unfolding freeBlocks
-  write-needs s f off bytes z =
+  write-requires s f off bytes z =
       let x = passed-write (viewOf real true true (storeOf t p)) s f off bytes (sym z) in (x .file, x .set .low, x .set .used, x .end-in, x .room)

@@ -6,7 +6,7 @@ use borrow.Author.Needs.{needs}
 use Rattle.rules.specs.Numbers.{delete}
 use Rattle.tables.proofs.FormedStore.{formed-store}
 use Rattle.calls.proofs.CallCases.{is-formed, refused-as, unformed-as, zero-is}
-use Rattle.calls.proofs.WorkedOn.{delete-needs, deleted-as}
+use Rattle.calls.proofs.WorkedOn.{delete-requires, deleted-as}
 use Rattle.calls.proofs.changes.delete.Statement.{statement}
 use Rattle.calls.proofs.changes.delete.Tie as tie
 
@@ -30,7 +30,7 @@ delete-file-requires : tie.Need-delete-file-requires
 delete-file-requires c κs =
     let n = c .before .before .before in
     let i = n .before .before .before in
-    let k = delete-needs _ _ _ _ (zero-is (n .of-delete .ensures) (omega arith)) in
+    let k = delete-requires _ _ _ _ (zero-is (n .of-delete .ensures) (omega arith)) in
     ((is-formed _ _ _ (i .before .well-formed .ensures) (i .if1 .left)), k .0, k .1, k .2)
 
 returns-3 : tie.Need-returns-3

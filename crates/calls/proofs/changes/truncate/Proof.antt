@@ -6,7 +6,7 @@ use borrow.Author.Needs.{needs}
 use Rattle.rules.specs.Numbers.{truncate}
 use Rattle.tables.proofs.FormedStore.{formed-store}
 use Rattle.calls.proofs.CallCases.{is-formed, refused-as, unformed-as, zero-is}
-use Rattle.calls.proofs.WorkedOn.{truncate-needs, truncated-as}
+use Rattle.calls.proofs.WorkedOn.{truncate-requires, truncated-as}
 use Rattle.calls.proofs.changes.truncate.Statement.{statement}
 use Rattle.calls.proofs.changes.truncate.Tie as tie
 
@@ -30,7 +30,7 @@ truncate-file-requires : tie.Need-truncate-file-requires
 truncate-file-requires c κs =
     let n = c .before .before .before in
     let i = n .before .before .before in
-    let k = truncate-needs _ _ _ _ _ (zero-is (n .of-truncate .ensures) (omega arith)) in
+    let k = truncate-requires _ _ _ _ _ (zero-is (n .of-truncate .ensures) (omega arith)) in
     ((is-formed _ _ _ (i .before .well-formed .ensures) (i .if1 .left)), k .0, k .1, k .2, k .3, k .4)
 
 returns-3 : tie.Need-returns-3

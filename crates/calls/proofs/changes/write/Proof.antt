@@ -6,7 +6,7 @@ use borrow.Author.Needs.{needs}
 use Rattle.rules.specs.Numbers.{write}
 use Rattle.tables.proofs.FormedStore.{formed-store}
 use Rattle.calls.proofs.CallCases.{is-formed, refused-as, unformed-as, zero-is}
-use Rattle.calls.proofs.WorkedOn.{nothing-written, write-needs, written-as}
+use Rattle.calls.proofs.WorkedOn.{nothing-written, write-requires, written-as}
 use Rattle.calls.proofs.changes.write.Statement.{statement}
 use Rattle.calls.proofs.changes.write.Tie as tie
 
@@ -37,7 +37,7 @@ write-file-requires : tie.Need-write-file-requires
 write-file-requires c κs =
     let n = c .before .before .before .before in
     let i = n .before .before .before in
-    let k = write-needs _ _ _ _ _ _ (zero-is (n .of-write .ensures) (omega arith)) in
+    let k = write-requires _ _ _ _ _ _ (zero-is (n .of-write .ensures) (omega arith)) in
     ((is-formed _ _ _ (i .before .well-formed .ensures) (i .if1 .left)), k .0, k .1, k .2, omega arith, k .3, k .4)
 
 returns-4 : tie.Need-returns-4

@@ -5,7 +5,7 @@ use borrow.Author.Needs.{needs}
 use Rattle.rules.specs.Numbers.{read}
 use Rattle.tables.proofs.FormedStore.{formed-store}
 use Rattle.calls.proofs.CallCases.{is-formed, refused-as, unformed-as, zero-is}
-use Rattle.calls.proofs.Told.{read-as, read-refused, look-needs}
+use Rattle.calls.proofs.Told.{read-as, read-refused, look-requires}
 use Rattle.calls.proofs.looks.read.Statement.{statement}
 use Rattle.calls.proofs.looks.read.Tie as tie
 
@@ -28,7 +28,7 @@ read-file-requires : tie.Need-read-file-requires
 read-file-requires c κs =
     let n = c .before .before in
     let i = n .before in
-    let k = look-needs _ _ _ _ (zero-is (n .of-look .ensures .1) (omega arith)) in
+    let k = look-requires _ _ _ _ (zero-is (n .of-look .ensures .1) (omega arith)) in
     (formed-store _ _ (is-formed _ _ _ (i .before .well-formed .ensures) (i .if1 .left)), k .0, k .1)
 
 returns-3 : tie.Need-returns-3

@@ -6,7 +6,7 @@ use borrow.Author.Needs.{needs}
 use Rattle.rules.specs.Numbers.{tellSize}
 use Rattle.tables.proofs.FormedStore.{formed-store}
 use Rattle.calls.proofs.CallCases.{is-formed, refused-as, unformed-as, zero-is}
-use Rattle.calls.proofs.Told.{size-as, look-needs}
+use Rattle.calls.proofs.Told.{size-as, look-requires}
 use Rattle.calls.proofs.looks.size.Statement.{statement}
 use Rattle.calls.proofs.looks.size.Tie as tie
 
@@ -28,7 +28,7 @@ size-of-requires : tie.Need-size-of-requires
 size-of-requires c κs =
     let n = c .before in
     let i = n .before in
-    let k = look-needs _ _ _ _ (zero-is (n .of-look .ensures .1) (omega arith)) in
+    let k = look-requires _ _ _ _ (zero-is (n .of-look .ensures .1) (omega arith)) in
     (formed-store _ (now (i .before .before .before .before .args .p)) (is-formed _ _ _ (i .before .well-formed .ensures) (i .if1 .left)) .packed .len, k .0, k .1)
 
 returns-3 : tie.Need-returns-3

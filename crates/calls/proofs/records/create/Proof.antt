@@ -6,7 +6,7 @@ use borrow.Author.Needs.{needs}
 use Rattle.rules.specs.Numbers.{create}
 use Rattle.tables.proofs.FormedStore.{formed-store}
 use Rattle.calls.proofs.CallCases.{is-formed, refused-as, unformed-as, zero-is}
-use Rattle.calls.proofs.ChangedRecords.{created-as, create-needs}
+use Rattle.calls.proofs.ChangedRecords.{created-as, create-requires}
 use Rattle.calls.proofs.records.create.Statement.{statement}
 use Rattle.calls.proofs.records.create.Tie as tie
 
@@ -30,7 +30,7 @@ create-file-requires : tie.Need-create-file-requires
 create-file-requires c κs =
     let n = c .before .before in
     let i = n .before .before in
-    create-needs _ _ (is-formed _ _ _ (i .before .well-formed .ensures) (i .if1 .left)) _ _ (zero-is (n .of-create .ensures) (omega arith))
+    create-requires _ _ (is-formed _ _ _ (i .before .well-formed .ensures) (i .if1 .left)) _ _ (zero-is (n .of-create .ensures) (omega arith))
 
 returns-3 : tie.Need-returns-3
 returns-3 c =

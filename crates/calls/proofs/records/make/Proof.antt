@@ -6,7 +6,7 @@ use borrow.Author.Needs.{needs}
 use Rattle.rules.specs.Numbers.{make}
 use Rattle.tables.proofs.FormedStore.{formed-store}
 use Rattle.calls.proofs.CallCases.{is-formed, refused-as, unformed-as, zero-is}
-use Rattle.calls.proofs.ChangedRecords.{made-as, make-needs}
+use Rattle.calls.proofs.ChangedRecords.{made-as, make-requires}
 use Rattle.calls.proofs.records.make.Statement.{statement}
 use Rattle.calls.proofs.records.make.Tie as tie
 
@@ -30,7 +30,7 @@ make-set-requires : tie.Need-make-set-requires
 make-set-requires c κs =
     let n = c .before .before in
     let i = n .before .before in
-    make-needs _ _ (is-formed _ _ _ (i .before .well-formed .ensures) (i .if1 .left)) _ _ _ (zero-is (n .of-make .ensures) (omega arith))
+    make-requires _ _ (is-formed _ _ _ (i .before .well-formed .ensures) (i .if1 .left)) _ _ _ (zero-is (n .of-make .ensures) (omega arith))
 
 returns-3 : tie.Need-returns-3
 returns-3 c =

@@ -6,7 +6,7 @@ use borrow.Author.Needs.{needs}
 use Rattle.rules.specs.Numbers.{remove}
 use Rattle.tables.proofs.FormedStore.{formed-store}
 use Rattle.calls.proofs.CallCases.{is-formed, refused-as, unformed-as, zero-is}
-use Rattle.calls.proofs.ChangedRecords.{removed-as, remove-needs}
+use Rattle.calls.proofs.ChangedRecords.{removed-as, remove-requires}
 use Rattle.calls.proofs.records.remove.Statement.{statement}
 use Rattle.calls.proofs.records.remove.Tie as tie
 
@@ -30,7 +30,7 @@ remove-set-requires : tie.Need-remove-set-requires
 remove-set-requires c κs =
     let n = c .before .before in
     let i = n .before .before in
-    remove-needs _ _ (is-formed _ _ _ (i .before .well-formed .ensures) (i .if1 .left)) _ (zero-is (n .of-remove .ensures) (omega arith))
+    remove-requires _ _ (is-formed _ _ _ (i .before .well-formed .ensures) (i .if1 .left)) _ (zero-is (n .of-remove .ensures) (omega arith))
 
 returns-3 : tie.Need-returns-3
 returns-3 c =
