@@ -9,9 +9,9 @@ use lib.Dec.{eqb}
 use lib.ListN.{getD}
 use borrow.Author.Tests.{eq-eqb, ne-eqb}
 use Rattle.base.specs.Logic.{and-false, same?}
+use Rattle.masks.proofs.Digits.{and-power}
 use Rattle.packing.specs.Words.{Bytes, getWord, low-eight, low-four, lowWord}
 use Rattle.formed.proofs.AloneRules.{head-virgin, head-zero}
-use Rattle.formed.proofs.LinkedRules.{and-digit}
 use Rattle.formed.specs.Files.{headFormed, turned}
 use Rattle.formed.specs.Pass.{BlankPassed}
 use Rattle.packing.specs.Bits.{bit-lt}
@@ -23,7 +23,7 @@ use Rattle.tables.specs.Layout.{stateOf}
 pub blank-head : (v : ℕ) → bitOr v 128 ≡ 128 → 0 < v → v ≡ 128
 blank-head v h p =
     let a = or-add-and v 128 in
-    let b = and-digit v 7 in
+    let b = and-power v 7 in
     let c = bit-lt v 7 in
     omega arith
 

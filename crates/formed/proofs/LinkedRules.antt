@@ -5,8 +5,8 @@ use mathlib.Core.Path.{ap, ap₂, refl, subst, sym, _∙_, _≡_}
 use Prim.Native.Nat.{_%_, _*_, _+_, _-_, _/_, _<_, _^_, suc, zero, ℕ, _≤_}
 use native.Mathlib.Omega.{arith}
 use native.Mathlib.Nat.{lt-of-le-of-lt}
-use lib.Bits.{and-high, and-le-l, and-zero-r, bitAnd, bitOr}
-use lib.Count.{trailingZeros, under}
+use lib.Bits.{and-le-l, and-zero-r, bitAnd, bitOr}
+use lib.Count.{trailingZeros}
 use lib.Dec.{eqb, ltb}
 use lib.ListN.{getD, length, length-set, set}
 use lib.Pow.{pow-pos}
@@ -14,7 +14,8 @@ use lib.Seq.{getD-set-other, getD-set-same}
 use borrow.Author.Tests.{eq-eqb, eqb-true, le-ltb, lt-ltb, ltb-false, ltb-true, ne-eqb, not-false, not-true}
 use Rattle.base.specs.Count.{all, all-not, all-of}
 use Rattle.base.specs.Logic.{and-false, and-right, same?, test?}
-use Rattle.masks.proofs.LowestBit.{Lowest, lowest-is}
+use Rattle.masks.proofs.Digits.{and-power}
+use Rattle.masks.proofs.LowestBit.{Lowest, below-lowest, lowest-is}
 use Rattle.masks.proofs.PageMasks.{mask-some}
 use Rattle.masks.specs.Pages.{pageMask}
 use Rattle.formed.proofs.AloneRules.{some-unmapped}
@@ -23,7 +24,7 @@ use Rattle.formed.proofs.Resolved.{resolved-above, resolved-own}
 use Rattle.formed.specs.Files.{LinkDecided, Numbered, endOf, endsBefore, fileAlone, fileLinked, placeDigit, placeOf, resolvedMask}
 use Rattle.maps.proofs.OutOfRange.{state-out}
 use Rattle.packing.specs.Bitmap.{isOne}
-use Rattle.packing.specs.Bits.{bit, bit-none, bit-suc, bit-zero}
+use Rattle.packing.specs.Bits.{bit, bit-none}
 use Rattle.packing.specs.Fields.{getField}
 use Rattle.rules.proofs.Formed.Tests.{and-5, not-then, or-then}
 use Rattle.rules.proofs.Steps.States.{live-present}
@@ -32,31 +33,6 @@ use Rattle.rules.specs.State.{File, State, absent, isAbsent, isMarked, isOwn, i
 use Rattle.rules.specs.WellFormed.{aboveFormed, allPages, pastFormed, rootFileFormed, sizeFormed, virginFormed, zeroFile}
 use Rattle.tables.specs.Layout.{headWidths, headWord}
 use Rattle.tables.specs.Packed.{unpack}
-
--- ---- digits
-even-below : (m z j : ℕ) → m % 2 ≡ 0 → j < under 0 z → ((i : ℕ) → i < z → bit (m / 2) i ≡ 0) → bit m j ≡ 0
-even-below m z zero e l h = bit-zero m ∙ e
-even-below m z (suc j) e l h = bit-suc m j ∙ h j (omega arith)
-
-none-below : (z j : ℕ) → j < under 1 z → ⊥
-none-below z j l = omega arith
-
--- LAW: the digits below the lowest that is 1
-below-lowest : (n m j : ℕ) → j < trailingZeros n m → bit m j ≡ 0
-unfolding trailingZeros
-below-lowest zero m j h = absurd (omega arith)
-below-lowest (suc n) m j h =
-    same? (m % 2) 0
-    (λ e. even-below m (trailingZeros n (m / 2)) j e (subst (λ d. j < under d (trailingZeros n (m / 2))) e h) (λ i l. below-lowest n (m / 2) i l))
-    (λ e. let o : m % 2 ≡ 1 = omega arith in absurd (none-below (trailingZeros n (m / 2)) j (subst (λ d. j < under d (trailingZeros n (m / 2))) o h)))
-
--- LAW: a number cut down to one digit
-pub and-digit : (n k : ℕ) → bitAnd n (2 ^ k) ≡ bit n k * 2 ^ k
-unfolding bit
-and-digit n k =
-    let q : 1 + k ≡ suc k = omega arith in
-    let e : 2 ^ k ≡ 2 ^ suc k - 2 ^ k = omega arith in
-    ap (bitAnd n) (e ∙ ap (λ j. 2 ^ j - 2 ^ k) (sym q)) ∙ and-high n 1 k
 
 -- ---- what the rules that concern no other file say of a live one
 own-not : (l : State) → live l ≡ false → isOwn l ≡ false
@@ -138,7 +114,7 @@ module _ (t : List ℕ) (f s : ℕ) (digits parents stored unmapped ends : List 
       used : unpack t .sets x .used ≡ true → not (eqb (bitAnd lives (getD digits x 0)) 0) ≡ live (unpack t .files f x .state)
       used u =
           let p : ℕ = placeOf (unpack t .sets) x in
-          ap (λ y. not (eqb y 0)) (here ∙ ap (λ b. bitAnd lives (cond b (2 ^ p) 0)) u ∙ and-digit lives p) ∙ go p (bit lives p) ∙ k .lives-are .live-at x l
+          ap (λ y. not (eqb y 0)) (here ∙ ap (λ b. bitAnd lives (cond b (2 ^ p) 0)) u ∙ and-power lives p) ∙ go p (bit lives p) ∙ k .lives-are .live-at x l
         where
           go : (p d : ℕ) → not (eqb (d * 2 ^ p) 0) ≡ isOne d
           go p zero = rw (eq-eqb (0 * 2 ^ p) 0 (omega arith))

@@ -3,9 +3,9 @@ use mathlib.Core.Bool.{_&&_, Bool, false, true, _||_}
 use mathlib.Core.Path.{ap, ap₂, refl, sym, _∙_, _≡_}
 use Prim.Native.Nat.{_-_, _<_, suc, zero, ℕ}
 use native.Mathlib.Nat.{lt-of-le-of-lt, zero-add}
-use native.Mathlib.Omega.{arith}
-use lib.Bits.{and-le-r, and-zero-l, bitAnd, bitOr, or-lt, or-zero-l}
+use lib.Bits.{and-le-r, bitAnd, bitOr, or-lt}
 use Rattle.base.specs.Logic.{pick}
+use Rattle.masks.proofs.Digits.{and-digit, or-digit}
 use Rattle.masks.proofs.PageMasks.{mask-page}
 use Rattle.masks.specs.Pages.{pageMask}
 use Rattle.packing.specs.Bitmap.{isOne, number-lt, number-of}
@@ -17,29 +17,15 @@ use Rattle.rules.specs.State.{Entry, File, Files, SetRecord, hole, isStored, is
 abbrev page : ℕ → ℕ → Bool
 page x p = isOne (bit x (63 - p))
 
-one-or : (x y : ℕ) → x < 2 → y < 2 → isOne (bitOr x y) ≡ (isOne x || isOne y)
-one-or zero y h k = ap isOne (or-zero-l y)
-one-or (suc zero) zero h k = refl
-one-or (suc zero) (suc zero) h k = refl
-one-or (suc zero) (suc (suc y)) h k = absurd (omega arith)
-one-or (suc (suc x)) y h k = absurd (omega arith)
-
-one-and : (x y : ℕ) → x < 2 → y < 2 → isOne (bitAnd x y) ≡ (isOne x && isOne y)
-one-and zero y h k = ap isOne (and-zero-l y)
-one-and (suc zero) zero h k = refl
-one-and (suc zero) (suc zero) h k = refl
-one-and (suc zero) (suc (suc y)) h k = absurd (omega arith)
-one-and (suc (suc x)) y h k = absurd (omega arith)
-
 -- LAW: a digit of two numbers together
 pub digit-or : (a b j : ℕ) → isOne (bit (bitOr a b) j) ≡ (isOne (bit a j) || isOne (bit b j))
-digit-or a b j = ap isOne (bit-or a b j) ∙ one-or (bit a j) (bit b j) (bit-lt a j) (bit-lt b j)
+digit-or a b j = ap isOne (bit-or a b j) ∙ or-digit (bit a j) (bit b j) (bit-lt a j) (bit-lt b j)
 
 page-or : (a b p : ℕ) → page (bitOr a b) p ≡ (page a p || page b p)
 page-or a b p = digit-or a b (63 - p)
 
 page-and : (a b p : ℕ) → page (bitAnd a b) p ≡ (page a p && page b p)
-page-and a b p = ap isOne (bit-and a b (63 - p)) ∙ one-and (bit a (63 - p)) (bit b (63 - p)) (bit-lt a (63 - p)) (bit-lt b (63 - p))
+page-and a b p = ap isOne (bit-and a b (63 - p)) ∙ and-digit (bit a (63 - p)) (bit b (63 - p)) (bit-lt a (63 - p)) (bit-lt b (63 - p))
 
 -- ---- does a page resolve to stored
 stored-pick : (e d : Entry ℕ) → isStored (pick (shownEntry e) d) ≡ (isStored e || (isUnmapped e && isStored d))

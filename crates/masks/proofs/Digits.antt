@@ -1,9 +1,9 @@
--- Binary digits: both, one or the other, and a number whose digits are all 0. Assumes nothing.
+-- Binary digits: both, one or the other, one alone, and a number whose digits are all 0. Assumes nothing.
 use mathlib.Core.Bool.{_&&_, _||_, false}
 use mathlib.Core.Path.{ap, refl, sym, _∙_, _≡_}
-use Prim.Native.Nat.{_-_, _<_, _^_, suc, zero, ℕ}
+use Prim.Native.Nat.{_*_, _+_, _-_, _<_, _^_, suc, zero, ℕ}
 use native.Mathlib.Omega.{arith}
-use lib.Bits.{bitAnd, bitOr}
+use lib.Bits.{and-high, bitAnd, bitOr}
 use lib.Pow.{pow-pos}
 use Rattle.packing.specs.Bitmap.{isOne, number-of}
 use Rattle.packing.specs.Bits.{bit, bit-none}
@@ -22,6 +22,14 @@ or-digit (suc zero) zero h k = refl
 or-digit (suc zero) (suc zero) h k = refl
 or-digit (suc zero) (suc (suc b)) h k = absurd (omega arith)
 or-digit (suc (suc a)) b h k = absurd (omega arith)
+
+-- LAW: a number cut down to one digit
+pub and-power : (n k : ℕ) → bitAnd n (2 ^ k) ≡ bit n k * 2 ^ k
+unfolding bit
+and-power n k =
+    let q : 1 + k ≡ suc k = omega arith in
+    let e : 2 ^ k ≡ 2 ^ suc k - 2 ^ k = omega arith in
+    ap (bitAnd n) (e ∙ ap (λ j. 2 ^ j - 2 ^ k) (sym q)) ∙ and-high n 1 k
 
 -- a number of n digits that are all 0
 pub zero-digits : (n x : ℕ) → x < 2 ^ n → ((j : ℕ) → j < n → isOne (bit x (n - 1 - j)) ≡ false) → x ≡ 0

@@ -69,6 +69,22 @@ lowest-is (suc n) m p h =
     let x : bitAnd m (m - 1) ≡ m / 2 * 2 + 0 = and-step m (m - 1) ∙ ap₂ (λ y z. y * 2 + z) (ap (bitAnd (m / 2)) a ∙ and-self (m / 2)) (ap₂ min o b) in
     subst (Found (suc n) m) (sym (zeros-odd n m o)) (omega arith, odd-lowest m (bitAnd m (m - 1)) o (omega arith)))
 
+even-below : (m z j : ℕ) → m % 2 ≡ 0 → j < under 0 z → ((i : ℕ) → i < z → bit (m / 2) i ≡ 0) → bit m j ≡ 0
+even-below m z zero e l h = bit-zero m ∙ e
+even-below m z (suc j) e l h = bit-suc m j ∙ h j (omega arith)
+
+none-below : (z j : ℕ) → j < under 1 z → ⊥
+none-below z j l = omega arith
+
+-- LAW: the digits below it are 0
+pub below-lowest : (n m j : ℕ) → j < trailingZeros n m → bit m j ≡ 0
+unfolding trailingZeros
+below-lowest zero m j h = absurd (omega arith)
+below-lowest (suc n) m j h =
+    same? (m % 2) 0
+    (λ e. even-below m (trailingZeros n (m / 2)) j e (subst (λ d. j < under d (trailingZeros n (m / 2))) e h) (λ i l. below-lowest n (m / 2) i l))
+    (λ e. let o : m % 2 ≡ 1 = omega arith in absurd (none-below (trailingZeros n (m / 2)) j (subst (λ d. j < under d (trailingZeros n (m / 2))) o h)))
+
 -- LAW: the number without it
 pub less-lt : (q : ℕ) → q < 2 ^ 64 → bitAnd q (q - 1) < 2 ^ 64
 less-lt q h = lt-of-le-of-lt (and-le-l q (q - 1)) h

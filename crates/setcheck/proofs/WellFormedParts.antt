@@ -37,12 +37,12 @@ header-first true true true true z s r = refl
 
 module _ (t : List ℕ) where
   -- LAW: the zero rules on set records are those of `fieldsFormed` and `zerosFormed`
-  pub zeros-say : zerosOfSets t ≡ (allSets (λ s. eqb (getField setWidths (setWord t s) 6) 0) && allSets (λ s. unpack t .sets s .used || zeroSet (unpack t .sets s)))
+  zeros-say : zerosOfSets t ≡ (allSets (λ s. eqb (getField setWidths (setWord t s) 6) 0) && allSets (λ s. unpack t .sets s .used || zeroSet (unpack t .sets s)))
   unfolding zerosOfSets unusedZero
   zeros-say = refl
 
   -- LAW: the rules on zero fields, sets and files are those on the header's zero field, on set records and on file records
-  pub set-rules-parts : setRules t ≡ (headerZero t && setRecordsFormed t && fileRecordsFormed t)
+  set-rules-parts : setRules t ≡ (headerZero t && setRecordsFormed t && fileRecordsFormed t)
   unfolding setRules fieldsFormed zerosFormed setRecordsFormed zerosOfSets unusedZero fileRecordsFormed
   set-rules-parts =
       by-record (headerZero t) (allSets (setZero t)) (allFiles (λ f s. eqb (getField headWidths (headWord t f s) 2) 0))
@@ -64,15 +64,15 @@ module _ (t : List ℕ) where
 
   -- set records that pass
   module _ (h : setRecordsFormed t ≡ true) where
-    pub records-zeros : zerosOfSets t ≡ true
+    records-zeros : zerosOfSets t ≡ true
     unfolding setRecordsFormed
     records-zeros = and-left (zerosOfSets t) (treeFormed (unpack t)) h
 
-    pub records-tree : treeFormed (unpack t) ≡ true
+    records-tree : treeFormed (unpack t) ≡ true
     unfolding setRecordsFormed
     records-tree = and-right (zerosOfSets t) (treeFormed (unpack t)) h
 
-    pub records-unused : allSets (λ s. unpack t .sets s .used || zeroSet (unpack t .sets s)) ≡ true
+    records-unused : allSets (λ s. unpack t .sets s .used || zeroSet (unpack t .sets s)) ≡ true
     records-unused = and-right (allSets (setZero t)) (allSets (λ s. unpack t .sets s .used || zeroSet (unpack t .sets s))) (sym zeros-say ∙ records-zeros)
 
     -- LAW: the sets are a tree, as the rules take them to be
