@@ -1,12 +1,13 @@
 -- A big-endian word at a byte offset of a list of bytes. The number m says its last byte: the word is the bytes at, .., at + m, so it has m + 1 of them.
 -- The laws hold for every m; words of 16, 24, 32 and 64 bits have m = 1, 2, 3 and 7. A word whose first byte is the least significant is `lowWord`. Assumes nothing.
-use mathlib.Core.Path.{_≡_, refl, ap₂, _∙_}
+use mathlib.Core.Path.{_≡_, refl, ap, ap₂, sym, _∙_}
 use mathlib.Core.Bool.{cond}
 use mathlib.Core.Logic.{_⊎_, inl, inr, ⊎-elim}
 use mathlib.Core.List.{List}
 use Prim.Native.Nat.{ℕ, zero, suc, _+_, _*_, _/_, _%_, _^_, _<_, _≤_}
 use native.Mathlib.Decide.{decLt}
-use native.Mathlib.Nat.{div-add-mod', add-zero}
+use native.Mathlib.Nat.{add-zero, div-add-mod', div-div-eq-div-mul, mul-comm, pow-suc}
+use lib.Arith.{mod-mul}
 use native.Mathlib.Omega.{arith}
 use lib.Dec.{eqb}
 use lib.ListN.{length, getD, set, length-set}
@@ -134,19 +135,28 @@ byte-lt (suc m) w j h =
     (λ e. rw (eq-eqb j (suc m) e) (omega arith))
     (λ n. rw (ne-eqb j (suc m) n) (byte-lt m (w / 256) j (omega arith)))
 
--- a word of 64 bits is put as two of 32
-pub put-halves : (t : List ℕ) (at v : ℕ) → putWord 3 (putWord 3 t at (v / 4294967296)) (at + 4) (v % 4294967296) ≡ putWord 7 t at v
+some-bytes : (k : ℕ) → 0 < 256 ^ k
+some-bytes zero = omega arith
+some-bytes (suc k) = omega (arith, some-bytes k)
+
+-- a word is put as two, of m + 1 and of k + 1 bytes
+pub put-parts : (m k : ℕ) (t : List ℕ) (at v : ℕ) → putWord k (putWord m t at (v / 256 ^ suc k)) (at + suc m) (v % 256 ^ suc k) ≡ putWord (suc (m + k)) t at v
 unfolding putWord
-put-halves t at v =
-    let i : at + 4 + 1 ≡ at + 5 = omega arith in
-    let j : at + 4 + 2 ≡ at + 6 = omega arith in
-    let k : at + 4 + 3 ≡ at + 7 = omega arith in
-    let a : v / 256 / 256 / 256 / 256 ≡ v / 4294967296 = omega arith in
-    let b : v % 4294967296 / 256 / 256 / 256 ≡ v / 256 / 256 / 256 % 256 = omega arith in
-    let c : v % 4294967296 / 256 / 256 % 256 ≡ v / 256 / 256 % 256 = omega arith in
-    let d : v % 4294967296 / 256 % 256 ≡ v / 256 % 256 = omega arith in
-    let e : v % 4294967296 % 256 ≡ v % 256 = omega arith in
-    rw (i, j, k, a, b, c, d, e)
+put-parts m zero t at v =
+    let e : m + 0 ≡ m = omega arith in
+    rw e
+put-parts m (suc k) t at v =
+    let d : 256 ^ suc (suc k) ≡ 256 ^ suc k * 256 = pow-suc 256 (suc k) in
+    let i : at + suc m + suc k ≡ at + suc (m + suc k) = omega arith in
+    let j : m + suc k ≡ suc (m + k) = omega arith in
+    let q : v / 256 ^ suc (suc k) ≡ v / 256 / 256 ^ suc k = ap (λ p. v / p) (d ∙ mul-comm (256 ^ suc k) 256) ∙ sym (div-div-eq-div-mul v 256 (256 ^ suc k)) in
+    let n : v % 256 ^ suc (suc k) ≡ v / 256 % 256 ^ suc k * 256 + v % 256 = ap (λ p. v % p) d ∙ mod-mul v (some-bytes (suc k)) (omega arith) in
+    let r : v % 256 ^ suc (suc k) / 256 ≡ v / 256 % 256 ^ suc k = ap (λ x. x / 256) n ∙ joined (v / 256 % 256 ^ suc k) (v % 256) (omega arith) .0 in
+    let w : v % 256 ^ suc (suc k) % 256 ≡ v % 256 = ap (λ x. x % 256) n ∙ joined (v / 256 % 256 ^ suc k) (v % 256) (omega arith) .1 in
+    rw (i, j, q, r, w) (ap (λ l. set l (at + suc (suc (m + k))) (v % 256)) (put-parts m k t at (v / 256)))
+  where
+    joined : (x y : ℕ) → y < 256 → ((x * 256 + y) / 256 ≡ x) × ((x * 256 + y) % 256 ≡ y)
+    joined x y h = (omega arith, omega arith)
 
 -- ---- a word whose first byte is the least significant
 

@@ -4,7 +4,7 @@ use Prim.Native.Nat.{_%_, _+_, _/_}
 use native.Mathlib.Omega.{arith}
 use lib.ListN.{length}
 use borrow.Author.Needs.{needs}
-use Rattle.packing.specs.Words.{length-put, put-halves, putWord}
+use Rattle.packing.specs.Words.{length-put, put-parts, putWord}
 use Rattle.packing.proofs.words.write64.Statement.{statement}
 use Rattle.packing.proofs.words.write64.Tie as tie
 
@@ -20,7 +20,7 @@ returns c =
     let w2 = c .before .before .write322 in
     let w = c .before .before .before .before .before .before .write32 in
     let s = c .before .before .before .before .before .before .before .before .before in
-    w2 .ensures ∙ ap (λ l. putWord 3 l (s .args .at + 4) (s .args .v % 4294967296)) (w .ensures) ∙ put-halves (s .args .t .now) (s .args .at) (s .args .v)
+    w2 .ensures ∙ ap (λ l. putWord 3 l (s .args .at + 4) (s .args .v % 4294967296)) (w .ensures) ∙ put-parts 3 3 (s .args .t .now) (s .args .at) (s .args .v)
 
 pub write64-spec : {M : Type 1} → statement M
 write64-spec =
