@@ -7,15 +7,18 @@ use native.Mathlib.Omega.{arith}
 use lib.ListN.{length}
 use borrow.Author.Tests.{le-leb}
 use Rattle.history.proofs.Image.{image-formed, image-length, image-store, imageOf}
-use Rattle.history.specs.Demand3.{Demand3, Image, after, afterAll, bothAfter, gave, gaveAll, imageAfter}
+use Rattle.history.specs.Demand3.{Demand3, Image, MarksRightly, after, afterAll, bothAfter, gave, gaveAll, imageAfter, storeIn}
 use Rattle.rules.proofs.Whole.Holds.{Holds, holds-step}
+use Rattle.rules.proofs.Whole.HoldsMarks.{step-marks}
 use Rattle.rules.proofs.Whole.HoldsMeans.{agrees-plain, agrees-tally}
 use Rattle.rules.proofs.Whole.HoldsRun.{given-run, holds-run, holds-start}
 use Rattle.rules.proofs.Steps.WriterSteps.{bytes}
-use Rattle.rules.specs.Agreement.{AgreesPlain, AgreesTally, bufferAfter, bufferOf, front, frontOf, storeGive, storeGiven, storeRun}
+use Rattle.rules.specs.Agreement.{AgreesPlain, AgreesTally, bufferAfter, bufferOf, front, frontOf, storeGive, storeGiven, storeRun, tallyIn}
 use Rattle.rules.specs.Calls.{Store, accepted, blankMemory, formatted, readInto, resultOf, step, tablesOf, viewOf, worked}
+use Rattle.rules.specs.Marking.{BecomesMarked}
 use Rattle.rules.specs.Numbers.{Call, Look, View, bytesAsked, conditions, create, delete, format, lookOf, lowest, make, noCounts, noneAsked, numberOf, read, refusal, remove, sizeAsked, tellFree, tellSize, truncate, write}
 use Rattle.rules.specs.Plain.{Plain}
+use Rattle.rules.specs.State.{isMarked}
 use Rattle.rules.specs.Storage.{Memory, real}
 use Rattle.rules.specs.Tally.{Tally}
 use Rattle.tables.proofs.Lengths.{lengths-in}
@@ -124,6 +127,19 @@ module _ (B : ℕ) (least : 1 ≤ B) (most : B ≤ 4096) (r : Store real) (pl : 
   gave-image : (c : Call) → gave c (imageOf r) ≡ storeGive B c r
   gave-image c = ap (λ (o : Outcome). record { answer = o .answer; bytes = front c (o .answer) (o .buffer) }) (call-image c)
 
+  -- what a call on the image marks
+  marks-image : (c : Call) → MarksRightly (imageOf r) c
+  marks-image c f s h =
+      let here : storeIn (imageOf r) ≡ r = image-store B least most r pl ta v in
+      let there : storeIn (after c (imageOf r)) ≡ step real (blankMemory B) c r .store =
+      ap storeIn (after-image c) ∙ image-store B least most _ _ _ (holds-step B least r pl ta v c) in
+      let k = step-marks B least r pl ta v c f s (ap (λ x. isMarked (x .files f s .state)) (sym here) ∙ h) in
+      let e = ap (λ g. g .answer .number) (gave-image c) in
+      let q = ap (λ x. isMarked (x .files f s .state)) there in (
+        λ a. let w = k .0 (sym q ∙ a) in (e ∙ w .0, subst (λ x. BecomesMarked (tallyIn x) c f s) (sym here) (w .1)),
+        λ w. q ∙ k .1 (sym e ∙ w .0, subst (λ x. BecomesMarked (tallyIn x) c f s) here (w .1)),
+      )
+
 -- lists of calls
 module _ (B : ℕ) (least : 1 ≤ B) (most : B ≤ 4096) where
   after-run : (cs : List Call) (r : Store real) (pl : Plain) (ta : Tally) → Holds B r pl ta → afterAll cs (imageOf r) ≡ imageOf (storeRun B cs r)
@@ -147,20 +163,42 @@ format-gives : (m : Image) → formatLengths (length (m .tables)) (length (m .pa
 unfolding callOn numberOf conditions lowest frontOf
 format-gives m h = rw h (unfold outcomeOf acceptedOn accepted in refl)
 
+-- from the format on
+module _ (m : Image) (h : formatLengths (length (m .tables)) (length (m .pages)) ≡ true) (cs : List Call) where
+  abbrev B : ℕ
+  B = length (m .pages) / 512
+
+  abbrev r : Store real
+  r = storeRun B cs (formatted real (blankMemory B))
+
+  least : 1 ≤ B
+  least = lengths-in (length (m .tables)) (length (m .pages)) h .2
+
+  most : B ≤ 4096
+  most = lengths-in (length (m .tables)) (length (m .pages)) h .3
+
+  holds-after : Holds B r (bothAfter m cs .plain) (bothAfter m cs .tally)
+  holds-after = holds-run B least cs _ _ _ (holds-start B least)
+
+  image-after : imageAfter m cs ≡ imageOf r
+  image-after = ap (afterAll cs) (format-image m h) ∙ after-run B least most cs _ _ _ (holds-start B least)
+
+  marks-after : (c : Call) → MarksRightly (imageAfter m cs) c
+  marks-after c = subst (λ (x : Image). MarksRightly x c) (sym image-after) (marks-image B least most r _ _ holds-after c)
+
 -- THEOREM
 pub demand3 : (m : Image) → formatLengths (length (m .tables)) (length (m .pages)) ≡ true → (cs : List Call) → Demand3 m cs
 demand3 m h cs =
-    let B : ℕ = length (m .pages) / 512 in
-    let l = lengths-in (length (m .tables)) (length (m .pages)) h in
-    let v₀ = holds-start B (l .2) in
-    let v = holds-run B (l .2) cs _ _ _ v₀ in
-    let e : imageAfter m cs ≡ imageOf (storeRun B cs (formatted real (blankMemory B))) = ap (afterAll cs) (format-image m h) ∙ after-run B (l .2) (l .3) cs _ _ _ v₀ in
-    let s : storeOf (imageAfter m cs .tables) (imageAfter m cs .pages) ≡ storeRun B cs (formatted real (blankMemory B)) =
-    ap (λ (x : Image). storeOf (x .tables) (x .pages)) e ∙ image-store B (l .2) (l .3) _ _ _ v in
+    let l = least m h cs in
+    let n = most m h cs in
+    let v = holds-after m h cs in
+    let e = image-after m h cs in
+    let s : storeIn (imageAfter m cs) ≡ r m h cs = ap storeIn e ∙ image-store (B m h cs) l n _ _ _ v in
     record {
       begins = format-gives m h;
-      formed = ap (λ (x : Image). wellFormed (x .tables) (length (x .pages))) e ∙ image-formed B (l .2) (l .3) _ _ _ v;
-      plain = subst (λ x. AgreesPlain x (bothAfter m cs .plain)) (sym s) (agrees-plain B _ _ _ v);
-      tally = subst (λ x. AgreesTally x (bothAfter m cs .tally)) (sym s) (agrees-tally B _ _ _ v);
-      given = ap (gaveAll cs) (format-image m h) ∙ gave-run B (l .2) (l .3) cs _ _ _ v₀ ∙ given-run B (l .2) cs _ _ _ v₀;
+      formed = ap (λ (x : Image). wellFormed (x .tables) (length (x .pages))) e ∙ image-formed (B m h cs) l n _ _ _ v;
+      plain = subst (λ x. AgreesPlain x (bothAfter m cs .plain)) (sym s) (agrees-plain (B m h cs) _ _ _ v);
+      tally = subst (λ x. AgreesTally x (bothAfter m cs .tally)) (sym s) (agrees-tally (B m h cs) _ _ _ v);
+      given = ap (gaveAll cs) (format-image m h) ∙ gave-run (B m h cs) l n cs _ _ _ (holds-start (B m h cs) l) ∙ given-run (B m h cs) l cs _ _ _ (holds-start (B m h cs) l);
+      marks = λ before rest c e. marks-after m h before c;
     }

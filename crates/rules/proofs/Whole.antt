@@ -2,6 +2,7 @@
 pub mod Accepted
 pub mod Holds
 pub mod HoldsMeans
+pub mod HoldsMarks
 pub mod HoldsRun
 pub mod Rows
 pub mod WorkedSession

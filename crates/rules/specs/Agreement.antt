@@ -26,6 +26,14 @@ kindOf unmapped = unmapped
 kindOf hole = hole
 kindOf (stored b) = stored tt
 
+-- the tally that a store shows
+abbrev pub tallyIn : Store real → Tally
+tallyIn st = record {
+  tree = treeIn real st;
+  files = λ f s. record { state = st .files f s .state; size = st .files f s .size; map = λ p. kindOf (st .files f s .map p) };
+  free = freeBlocks (st .memory);
+}
+
 -- "sets, states, sizes, kinds and a count of free blocks … the tables agree with it"
 pub record AgreesTally (st : Store real) (ta : Tally) : Type 0 where
   pub sets : ta .tree ≡ treeIn real st

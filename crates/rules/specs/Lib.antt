@@ -9,5 +9,6 @@ pub mod WellFormed
 pub mod Trees
 pub mod Plain
 pub mod Tally
+pub mod Marking
 pub mod Agreement
 pub mod Rows

@@ -122,9 +122,13 @@ module _ (t : Tree) where
   childTurn s p c x =
       cond (live (x .files c .state) && isUnmapped (x .files c .map p)) (childPage (kindAt (x .files) s p) p c x) x
 
+  -- the turns at page p, if it passes: the children in order of making
+  abbrev pub pageTurns : ℕ → (ℕ → Bool) → ℕ → Turn → Turn
+  pageTurns s touches p x = cond (touches p) (eachChild (childTurn s p) (t .children s) x) x
+
   -- step 4 for the pages below 64 that pass, of the file in set s
   unfoldable pub tallyGive : ℕ → (ℕ → Bool) → Turn → Turn
-  tallyGive s touches x = eachPage (λ p y. cond (touches p) (eachChild (childTurn s p) (t .children s) y) y) pageCount x
+  tallyGive s touches x = eachPage (pageTurns s touches) pageCount x
 
 -- which pages a write of n bytes at off touches, n at least 1; which a truncate from z to n bytes
 unfoldable pub writeTouches : ℕ → ℕ → ℕ → Bool

@@ -1,9 +1,8 @@
 -- When one child's turn of step 4 marks a file: on the tally, in document 01's words. Assumes nothing.
 use mathlib.Core.Bool.{_&&_, Bool, false, true, _||_}
-use mathlib.Core.List.{List·Memᴰ}
 use mathlib.Core.Logic.{inl, inr, _↔_, _⊎_, ⊎-elim}
 use mathlib.Core.Path.{refl, subst, sym, _∙_, _≡_}
-use Prim.Native.Nat.{_<_, suc, zero, ℕ, _≤_}
+use Prim.Native.Nat.{suc, zero, ℕ, _≤_}
 use lib.Dec.{eqb}
 use borrow.Author.Tests.{eqb-true}
 use Rattle.base.specs.Logic.{and-both, and-left, and-right, or-false, or-right, test?}
@@ -12,15 +11,10 @@ use Rattle.rules.proofs.Steps.OneStep.{TreeOk}
 use Rattle.rules.proofs.Steps.Reached.{reaches-self, some-unmapped, unmapped-some}
 use Rattle.rules.proofs.Steps.States.{unmapped-is}
 use Rattle.rules.proofs.Tally.TallyReach.{any-some, depends-above, marked-reaches, one-up}
+use Rattle.rules.specs.Marking.{FindsNone, MarkedDown, mark-below, mark-itself}
 use Rattle.rules.specs.Reading.{dependent, dependsOn, reaches}
 use Rattle.rules.specs.State.{Tree, hole, isMarked, isStored, isUnmapped, live, pageCount, setCount, stored, unmapped}
 use Rattle.rules.specs.Tally.{Kind, TallyFile, TallyFiles, Turn, childPage, childTurn, dependsAbove, kindAt, markedWith, neededCopy, reachedDown, tallyKind, tallyMark}
-
--- "Marking a file marks every own or virgin file of its number in a child set that has any unmapped page, and so on down":
--- the file of set y is marked with that of set c
-pub data MarkedDown (t : Tree) (fs : TallyFiles) (y : ℕ) : ℕ → Type 0 where
-  mark-itself : {c : ℕ} → c ≡ y → MarkedDown t fs y c
-  mark-below : {c : ℕ} (d p : ℕ) → List·Memᴰ d (t .children c) → live (fs d .state) ≡ true → p < pageCount → fs d .map p ≡ unmapped → MarkedDown t fs y d → MarkedDown t fs y c
 
 module _ (t : Tree) (fs : TallyFiles) where
   with-down : (n c y : ℕ) → reachedDown t fs n c y ≡ true → MarkedDown t fs y c
@@ -45,17 +39,7 @@ module _ (t : Tree) (fs : TallyFiles) where
     marked-down c y = (with-down setCount c y, λ r. marked-reaches t ok fs c y (shallow y) ∙ down-reaches c y r)
 
 -- ONE CHILD'S TURN
--- "A needed copy is step 4's, of a needed page resolving to stored; it finds none free if, at its turn, no block is free":
--- page p of the file in set s, for child c, where x is what its turn finds
-pub record FindsNone (t : Tree) (s p c : ℕ) (x : Turn) : Type 0 where
-  -- the child's file is own or virgin, and p is unmapped there
-  pub present : live (x .files c .state) ≡ true
-  pub needed : x .files c .map p ≡ unmapped
-  -- page p of set s resolves to stored
-  pub copied : kindAt t (x .files) s p ≡ stored tt
-  pub none : x .free ≡ 0
-
--- the same as a test
+-- a needed copy that finds none free, as a test
 unfoldable pub findsNone : Tree → ℕ → ℕ → ℕ → Turn → Bool
 findsNone t s p c x = live (x .files c .state) && isUnmapped (x .files c .map p) && isStored (kindAt t (x .files) s p) && eqb (x .free) 0
 
@@ -77,7 +61,7 @@ module _ (t : Tree) (s p c : ℕ) (x : Turn) where
       let h₁ : (need && kind) ≡ true = and-left (need && kind) (eqb (x .free) 0) h in
       let h₂ : need ≡ true = and-left need kind h₁ in
       record {
-        present = and-left _ (isUnmapped (x .files c .map p)) h₂;
+        alive = and-left _ (isUnmapped (x .files c .map p)) h₂;
         needed = unmapped-is (x .files c .map p) (and-right (live (x .files c .state)) _ h₂);
         copied = is-stored (kindAt t (x .files) s p) (and-right need kind h₁);
         none = eqb-true (x .free) 0 (and-right (need && kind) (eqb (x .free) 0) h);
@@ -85,7 +69,7 @@ module _ (t : Tree) (s p c : ℕ) (x : Turn) where
 
   none-found : FindsNone t s p c x → findsNone t s p c x ≡ true
   unfolding findsNone
-  none-found r = rw (r .present, r .needed, r .copied, r .none)
+  none-found r = rw (r .alive, r .needed, r .copied, r .none)
 
   -- after the turn a file is marked if it was so before, or if the turn is a needed copy that finds none free and the file is marked with the child's
   pub turn-test : (y : ℕ) → isMarked (childTurn t s p c x .files y .state) ≡ (isMarked (x .files y .state) || (findsNone t s p c x && markedWith t (x .files) c y))

@@ -11,9 +11,11 @@ use lib.ListN.{length}
 use borrow.Author.Tests.{eqb-false, eqb-true, ltb-false, ltb-true}
 use Rattle.base.specs.Logic.{same?, test?}
 use Rattle.base.specs.Update.{upd, upd-keeps, upd-other, upd-same}
-use Rattle.rules.proofs.Marking.MarkingRun.{MarkingTurn, run-marks}
+use Rattle.rules.proofs.Marking.MarkingRun.{run-marks}
+use Rattle.rules.proofs.Marking.MarkingSettled.{alike-back, marking-alike, settle-alike}
 use Rattle.rules.proofs.Steps.OneStep.{TreeOk}
 use Rattle.rules.proofs.Tally.TallyWriter.{turns-self}
+use Rattle.rules.specs.Marking.{BecomesMarked, MarkingTurn, in-delete, in-make, in-truncate, in-write, ownTaken}
 use Rattle.rules.specs.Numbers.{Call, create, delete, format, make, read, refusal, remove, tellFree, tellSize, truncate, write}
 use Rattle.rules.specs.State.{State, Tree, absent, isMarked, isVirgin, live, marked, own, setCount, virgin}
 use Rattle.rules.specs.Tally.{Tally, TallyFile, TallyFiles, TallyResult, Turn, eachChild, tallyCall, tallyChild, tallyCut, tallyDelete, tallyFormat, tallyGrow, tallyLeaves, tallySettle, tallySize, tallyTold, tallyTruncate, tallyTruncateNeed, tallyTurns, tallyWrite, tallyWriteNeed, truncateTouches, writeTouches}
@@ -112,22 +114,53 @@ truncate-cases P ta s f n a b c =
     test? (eqb n z) (λ d. rw d (a (eqb-true n z d)))
     (λ d. test? (ltb z n) (λ e. rw (d, e) (b (ltb-true z n e))) (λ e. let l = ltb-false z n e in let m = eqb-false n z d in rw (d, e) (c (omega arith))))
 
--- WHY FILE g OF SET y BECOMES MARKED in an accepted call on the tally ta
-abbrev pub BecomesMarked : Tally → Call → ℕ → ℕ → Type 0
-BecomesMarked ta format g y = ⊥
-BecomesMarked ta (create s f) g y = ⊥
-BecomesMarked ta (write s f off bs) g y =
+-- why file g of set y becomes marked, by cases on the call
+abbrev WhyMarked : Tally → Call → ℕ → ℕ → Type 0
+WhyMarked ta format g y = ⊥
+WhyMarked ta (create s f) g y = ⊥
+WhyMarked ta (write s f off bs) g y =
     (f ≡ g) × MarkingTurn (ta .tree) s (writeTouches off (length bs)) (turnsStart ta f (s ∷ ta .tree .children s) (tallyWriteNeed (ta .files f) s off (length bs))) y
-BecomesMarked ta (read s f off buffer) g y = ⊥
-BecomesMarked ta (truncate s f n) g y =
+WhyMarked ta (read s f off buffer) g y = ⊥
+WhyMarked ta (truncate s f n) g y =
     (n < tallySize (ta .tree) (ta .files f) s) × ((f ≡ g) × MarkingTurn (ta .tree) s (truncateTouches n (tallySize (ta .tree) (ta .files f) s))
     (turnsStart ta f (s ∷ ta .tree .children s) (tallyTruncateNeed (ta .tree) (ta .files f) s n)) y)
-BecomesMarked ta (delete s f) g y =
+WhyMarked ta (delete s f) g y =
     (f ≡ g) × MarkingTurn (ta .tree) s (λ p. live (ta .files f s .state)) (turnsStart ta f (cond (live (ta .files f s .state)) (ta .tree .children s) []) 0) y
-BecomesMarked ta (make s c w) g y = (c ≡ y) × (isMarked (ta .files g s .state) ≡ true)
-BecomesMarked ta (remove s) g y = ⊥
-BecomesMarked ta (tellSize s f) g y = ⊥
-BecomesMarked ta tellFree g y = ⊥
+WhyMarked ta (make s c w) g y = (c ≡ y) × (isMarked (ta .files g s .state) ≡ true)
+WhyMarked ta (remove s) g y = ⊥
+WhyMarked ta (tellSize s f) g y = ⊥
+WhyMarked ta tellFree g y = ⊥
+
+-- step 2 makes no difference
+module _ (ta : Tally) (f s : ℕ) (cs : List ℕ) (touches : ℕ → Bool) (need y : ℕ) where
+  unsettled : MarkingTurn (ta .tree) s touches (turnsStart ta f cs need) y → MarkingTurn (ta .tree) s touches (ownTaken ta f need) y
+  unsettled = marking-alike (ta .tree) s touches _ _ (record { files = settle-alike (ta .tree) cs (ta .files f); free = refl }) y
+
+  settled : MarkingTurn (ta .tree) s touches (ownTaken ta f need) y → MarkingTurn (ta .tree) s touches (turnsStart ta f cs need) y
+  settled = marking-alike (ta .tree) s touches _ _ (record { files = alike-back (settle-alike (ta .tree) cs (ta .files f)); free = refl }) y
+
+why-means : (ta : Tally) (c : Call) (g y : ℕ) → WhyMarked ta c g y → BecomesMarked ta c g y
+why-means ta format g y r = absurd r
+why-means ta (create s f) g y r = absurd r
+why-means ta (write s f off bs) g y r = subst (λ g. BecomesMarked ta (write s f off bs) g y) (r .0) (in-write s off bs refl (unsettled ta f s _ _ _ y (r .1)))
+why-means ta (read s f off buffer) g y r = absurd r
+why-means ta (truncate s f n) g y r = subst (λ g. BecomesMarked ta (truncate s f n) g y) (r .1 .0) (in-truncate s n refl (r .0) (unsettled ta f s _ _ _ y (r .1 .1)))
+why-means ta (delete s f) g y r =
+    let e : live (ta .files f s .state) ≡ true = r .1 .touched in
+    subst (λ g. BecomesMarked ta (delete s f) g y) (r .0)
+    (in-delete s refl e (subst (λ b. MarkingTurn (ta .tree) s (λ p. b) (ownTaken ta f 0) y) e (unsettled ta f s _ _ 0 y (r .1))))
+why-means ta (make s c w) g y r = in-make s w (ap (λ y. make s y w) (r .0)) (r .1)
+why-means ta (remove s) g y r = absurd r
+why-means ta (tellSize s f) g y r = absurd r
+why-means ta tellFree g y r = absurd r
+
+means-why : (ta : Tally) (c : Call) (g y : ℕ) → BecomesMarked ta c g y → WhyMarked ta c g y
+means-why ta c g y (in-write s off bs e r) = subst (λ c. WhyMarked ta c g y) (sym e) (refl, settled ta g s _ _ _ y r)
+means-why ta c g y (in-truncate s n e l r) = subst (λ c. WhyMarked ta c g y) (sym e) (l, (refl, settled ta g s _ _ _ y r))
+means-why ta c g y (in-delete s e h r) =
+    subst (λ c. WhyMarked ta c g y) (sym e)
+    (refl, settled ta g s _ _ 0 y (subst (λ b. MarkingTurn (ta .tree) s (λ p. b) (ownTaken ta g 0) y) (sym h) r))
+means-why ta c g y (in-make s w e h) = subst (λ c. WhyMarked ta c g y) (sym e) (refl, h)
 
 never : (b : Bool) → b ≡ false → (b ≡ true) ↔ ⊥
 never b h = (λ a. true≢false (sym a ∙ h), λ r. absurd r)
@@ -153,7 +186,7 @@ no-turn t s touches x y h r = true≢false (sym (r .touched) ∙ h (r .page))
 
 module _ (ta : Tally) (ok : TreeOk (ta .tree)) (shallow : (x : ℕ) → ta .tree .level x ≤ setCount) (blocks g y : ℕ) (h : isMarked (ta .files g y .state) ≡ false) where
   abbrev marksIn : Call → Type 0
-  marksIn c = (isMarked (tallyCall blocks c ta .tally .files g y .state) ≡ true) ↔ BecomesMarked ta c g y
+  marksIn c = (isMarked (tallyCall blocks c ta .tally .files g y .state) ≡ true) ↔ WhyMarked ta c g y
 
   write-marks : (s f off : ℕ) (bs : List ℕ) → marksIn (write s f off bs)
   unfolding tallyCall tallyTold tallyWrite writeTouches
@@ -164,7 +197,7 @@ module _ (ta : Tally) (ok : TreeOk (ta .tree)) (shallow : (x : ℕ) → ta .tree
   truncate-marks : (s f n : ℕ) → marksIn (truncate s f n)
   unfolding tallyCall tallyGrow tallyCut
   truncate-marks s f n =
-      truncate-cases (λ r. (isMarked (r .tally .files g y .state) ≡ true) ↔ BecomesMarked ta (truncate s f n) g y) ta s f n
+      truncate-cases (λ r. (isMarked (r .tally .files g y .state) ≡ true) ↔ WhyMarked ta (truncate s f n) g y) ta s f n
       (λ e. (λ a. absurd (true≢false (sym a ∙ h)), λ b. let l = b .0 in absurd (omega arith)))
       (λ e. let r = change-marks ta ok shallow f s 0 (s ∷ ta .tree .children s) (λ p. false) _ 0 refl g y h in
       (λ a. absurd (no-turn (ta .tree) s _ _ y (λ p. refl) (r .0 a .1)), λ b. let l = b .0 in absurd (omega arith)))
@@ -192,16 +225,19 @@ module _ (ta : Tally) (ok : TreeOk (ta .tree)) (shallow : (x : ℕ) → ta .tree
   unfolding tallyCall tallyTold
   create-marks s f = never _ (put-file-mark (ta .files) f s _ g y refl h)
 
+  why-marked : (c : Call) → (isMarked (tallyCall blocks c ta .tally .files g y .state) ≡ true) ↔ WhyMarked ta c g y
+  unfolding tallyCall tallyTold tallyFormat
+  why-marked format = never _ refl
+  why-marked (create s f) = create-marks s f
+  why-marked (write s f off bs) = write-marks s f off bs
+  why-marked (read s f off buffer) = never _ h
+  why-marked (truncate s f n) = truncate-marks s f n
+  why-marked (delete s f) = delete-marks s f
+  why-marked (make s c w) = make-marks s c w
+  why-marked (remove s) = remove-marks s
+  why-marked (tellSize s f) = never _ h
+  why-marked tellFree = never _ h
+
   -- AN ACCEPTED CALL: a file that is not marked is marked afterwards exactly for one of these reasons
   pub becomes-marked : (c : Call) → (isMarked (tallyCall blocks c ta .tally .files g y .state) ≡ true) ↔ BecomesMarked ta c g y
-  unfolding tallyCall tallyTold tallyFormat
-  becomes-marked format = never _ refl
-  becomes-marked (create s f) = create-marks s f
-  becomes-marked (write s f off bs) = write-marks s f off bs
-  becomes-marked (read s f off buffer) = never _ h
-  becomes-marked (truncate s f n) = truncate-marks s f n
-  becomes-marked (delete s f) = delete-marks s f
-  becomes-marked (make s c w) = make-marks s c w
-  becomes-marked (remove s) = remove-marks s
-  becomes-marked (tellSize s f) = never _ h
-  becomes-marked tellFree = never _ h
+  becomes-marked c = (λ a. why-means ta c g y (why-marked c .0 a), λ r. why-marked c .1 (means-why ta c g y r))

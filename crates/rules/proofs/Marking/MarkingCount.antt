@@ -10,12 +10,13 @@ use lib.Dec.{eqb}
 use lib.ListN.{length}
 use Rattle.base.specs.Count.{count, count-none, count-same}
 use Rattle.base.specs.Logic.{and-false, and-left, and-right, test?}
-use Rattle.rules.proofs.Marking.Marking.{MarkedDown, finds-none, findsNone, mark-below, mark-itself, marked-down, turn-test}
+use Rattle.rules.proofs.Marking.Marking.{finds-none, findsNone, marked-down, turn-test}
 use Rattle.rules.proofs.Marking.MarkingCalls.{last-marks, settle-marks, truncate-cases, turnsStart}
 use Rattle.rules.proofs.Marking.MarkingRun.{run-marks}
 use Rattle.rules.proofs.Steps.OneStep.{TreeOk}
 use Rattle.rules.proofs.Steps.States.{live-unmarked}
 use Rattle.rules.proofs.Tally.TallyWriter.{turns-inv}
+use Rattle.rules.specs.Marking.{MarkedDown, mark-below, mark-itself}
 use Rattle.rules.specs.Numbers.{delete, truncate, write}
 use Rattle.rules.specs.State.{Tree, hole, isMarked, isStored, isUnmapped, live, setCount, stored, unmapped}
 use Rattle.rules.specs.Tally.{Kind, Tally, TallyFile, TallyFiles, Turn, childPage, childTurn, kindAt, markedWith, neededCopy, tallyCall, tallyCut, tallyDelete, tallyGive, tallyGrow, tallyLeaves, tallySize, tallyTold, tallyTurns, tallyWrite, truncateTouches, writeTouches}
@@ -67,7 +68,7 @@ module _ (t : Tree) (ok : TreeOk t) (shallow : (x : ℕ) → t .level x ≤ setC
       count-same setCount _ _ (λ y l. turn-test t s p c x y)
       ∙ count-or setCount (λ y. isMarked (x .files y .state)) (λ y. findsNone t s p c x && markedWith t (x .files) c y)
       (λ y a b. true≢false (sym a ∙ live-unmarked (x .files y .state)
-      (live-down t (x .files) c y (finds-none t s p c x (and-left _ (markedWith t (x .files) c y) b) .present)
+      (live-down t (x .files) c y (finds-none t s p c x (and-left _ (markedWith t (x .files) c y) b) .alive)
       (marked-down t (x .files) ok shallow c y .0 (and-right (findsNone t s p c x) _ b)))))
       ∙ ap (λ n. markedSets (x .files) + n) (count-if setCount (findsNone t s p c x) (markedWith t (x .files) c))
 

@@ -1,36 +1,17 @@
 -- The run of the turns of step 4: a file becomes marked in it exactly at a turn that is a needed copy which finds none free. Assumes nothing.
-use mathlib.Core.Bool.{Bool, cond, true}
+use mathlib.Core.Bool.{Bool, true}
 use mathlib.Core.List.{_++_, List, _∷_, []}
 use mathlib.Core.Logic.{inl, inr, _↔_, _⊎_, ⊎-elim}
 use mathlib.Core.Path.{ap, refl, subst, _≡_}
 use Prim.Native.Nat.{_<_, suc, zero, ℕ, _≤_}
 use native.Mathlib.Omega.{arith}
 use Rattle.base.specs.Logic.{same?, test?}
-use Rattle.rules.proofs.Marking.Marking.{FindsNone, MarkedDown, turn-marks}
+use Rattle.rules.proofs.Marking.Marking.{turn-marks}
 use Rattle.rules.proofs.Steps.OneStep.{TreeOk}
 use Rattle.rules.proofs.Tally.TallyLoops.{page-inv}
+use Rattle.rules.specs.Marking.{FindsNone, MarkedDown, MarkingTurn, turnBefore}
 use Rattle.rules.specs.State.{Tree, isMarked, pageCount, setCount}
-use Rattle.rules.specs.Tally.{Turn, childTurn, eachChild, eachPage, tallyGive}
-
--- the turns at page p, if it is touched
-abbrev pub pageTurns : Tree → ℕ → (ℕ → Bool) → ℕ → Turn → Turn
-pageTurns t s touches p x = cond (touches p) (eachChild (childTurn t s p) (t .children s) x) x
-
--- what the turn of a child at page p finds, in the run that begins with x: the touched pages below p are done, and at page p the children before it
-unfoldable pub turnBefore : Tree → ℕ → (ℕ → Bool) → Turn → ℕ → List ℕ → Turn
-turnBefore t s touches x p earlier = eachChild (childTurn t s p) earlier (eachPage (pageTurns t s touches) p x)
-
--- A TURN OF THE RUN, of a child at a touched page, that is a needed copy which finds none free; the file of set y is marked with the child's
-pub record MarkingTurn (t : Tree) (s : ℕ) (touches : ℕ → Bool) (x : Turn) (y : ℕ) : Type 0 where
-  pub page : ℕ
-  pub child : ℕ
-  pub earlier : List ℕ
-  pub later : List ℕ
-  pub under : page < pageCount
-  pub touched : touches page ≡ true
-  pub order : t .children s ≡ earlier ++ (child ∷ later)
-  pub fails : FindsNone t s page child (turnBefore t s touches x page earlier)
-  pub reached : MarkedDown t (turnBefore t s touches x page earlier .files) y child
+use Rattle.rules.specs.Tally.{Turn, childTurn, eachChild, eachPage, pageTurns, tallyGive}
 
 each-append : {W : Type 0} (f : ℕ → W → W) (cs ds : List ℕ) (w : W) → eachChild f (cs ++ ds) w ≡ eachChild f ds (eachChild f cs w)
 unfolding eachChild
