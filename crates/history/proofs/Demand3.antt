@@ -7,7 +7,7 @@ use native.Mathlib.Omega.{arith}
 use lib.ListN.{length}
 use borrow.Author.Tests.{le-leb}
 use Rattle.history.proofs.Image.{image-formed, image-length, image-store, imageOf}
-use Rattle.history.specs.Demand3.{Demand3, Image, MarksRightly, after, afterAll, bothAfter, gave, gaveAll, imageAfter, storeIn}
+use Rattle.history.specs.Demand3.{Demand3Claim, Image, MarksRightly, after, afterAll, bothAfter, gave, gaveAll, imageAfter, storeIn}
 use Rattle.rules.proofs.Whole.Holds.{Holds, holds-step}
 use Rattle.rules.proofs.Whole.HoldsMarks.{step-marks}
 use Rattle.rules.proofs.Whole.HoldsMeans.{agrees-plain, agrees-tally}
@@ -187,7 +187,7 @@ module _ (m : Image) (h : formatLengths (length (m .tables)) (length (m .pages))
   marks-after c = subst (λ (x : Image). MarksRightly x c) (sym image-after) (marks-image B least most r _ _ holds-after c)
 
 -- THEOREM
-pub demand3 : (m : Image) → formatLengths (length (m .tables)) (length (m .pages)) ≡ true → (cs : List Call) → Demand3 m cs
+pub demand3 : Demand3Claim
 demand3 m h cs =
     let l = least m h cs in
     let n = most m h cs in

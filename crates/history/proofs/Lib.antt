@@ -1,2 +1,3 @@
 pub mod Image
 pub mod Demand3
+pub mod Claims

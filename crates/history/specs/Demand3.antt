@@ -24,7 +24,7 @@ use Rattle.rules.specs.Plain.{plainFormat}
 use Rattle.rules.specs.State.{isMarked, pageBytes}
 use Rattle.rules.specs.Storage.{real}
 use Rattle.rules.specs.Tally.{Both, tallyFormat}
-use Rattle.tables.specs.Calls.{Outcome, callOn, storeOf}
+use Rattle.tables.specs.Calls.{Outcome, callOn, formatLengths, storeOf}
 use Rattle.tables.specs.Packed.{wellFormed}
 
 -- tables and pages, as bytes
@@ -83,3 +83,7 @@ pub record Demand3 (m : Image) (cs : List Call) : Type 0 where
   pub tally : AgreesTally (storeIn (imageAfter m cs)) (bothAfter m cs .tally)
   -- 7. at every place in the list, what becomes marked
   pub marks : (before rest : List Call) (c : Call) → cs ≡ before ++ (c ∷ rest) → MarksRightly (imageAfter m before) c
+
+-- DEMAND 3, whole: all tables and pages of lengths that a format accepts, and all lists of calls
+abbrev pub Demand3Claim : Type 0
+Demand3Claim = (m : Image) → formatLengths (length (m .tables)) (length (m .pages)) ≡ true → (cs : List Call) → Demand3 m cs

@@ -2,10 +2,11 @@
 use mathlib.Core.Bool.{false, true}
 use mathlib.Core.List.{_++_, List, _∷_, []}
 use mathlib.Core.Path.{_≡_}
-use Prim.Native.Nat.{suc, zero, ℕ}
-use lib.ListN.{replicate}
+use Prim.Native.Nat.{_+_, _<_, suc, zero, ℕ, _≤_}
+use lib.ListN.{length, replicate}
 use Rattle.rules.specs.Calls.{Store, blankMemory, formatted, step}
-use Rattle.rules.specs.Numbers.{Answer, Call, create, delete, make, read, refusal, remove, tellFree, truncate, write}
+use Rattle.rules.specs.Numbers.{Answer, Call, View, create, delete, make, numberOf, read, refusal, remove, tellFree, truncate, write}
+use Rattle.rules.specs.State.{fileCount, largestSize, live, setCount}
 use Rattle.rules.specs.Storage.{Memory, real}
 
 -- a store of so many blocks, formatted; the calls made on it; the answer to the last of them
@@ -67,3 +68,9 @@ rows =
 abbrev pub AllRows : List Row → Type 0
 AllRows [] = Unit {0}
 AllRows (r ∷ rs) = (answered r ≡ r .gives) × AllRows rs
+
+-- ROWS M1 TO M12: the table; and row M1 on any store: a write that ends at 32,768, with room enough, is accepted
+pub record RowsClaim : Type 0 where
+  pub table : AllRows rows
+  pub m1 : (v : View) (s f off : ℕ) (bs : List ℕ) → v .formed ≡ true → s < setCount → v .tree .used s ≡ true → f < fileCount → v .tree .writeable s ≡ true
+      → live (v .state f s) ≡ true → off + length bs ≡ largestSize → v .writeNeed s f off (length bs) ≤ v .free → numberOf v (write s f off bs) ≡ 0

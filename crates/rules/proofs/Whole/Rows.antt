@@ -8,11 +8,11 @@ use lib.ListN.{length, set}
 use Rattle.base.specs.Count.{count}
 use Rattle.base.specs.Search.{firstFree, searchFrom}
 use Rattle.base.specs.Update.{upd}
-use Rattle.rules.proofs.Whole.Accepted.{UsedSet, accepts-write}
+use Rattle.rules.proofs.Whole.Accepted.{accepts-write}
 use Rattle.rules.specs.Calls.{accepted, created, formatted, made, removed, resultOf, step, worked}
 use Rattle.rules.specs.Numbers.{View, conditions, lowest, numberOf, write}
 use Rattle.rules.specs.Reading.{dependent, dependsOn, needs, reaches, resolve, sizeByReading, someUnmapped, walk}
-use Rattle.rules.specs.Rows.{AllRows, lastAnswer, rows}
+use Rattle.rules.specs.Rows.{RowsClaim, lastAnswer, rows}
 use Rattle.rules.specs.Rules.{change, copy, countIn, cutPages, deleteAs, deleteFile, dropPage, droppedPages, each, enter, enterAs, eraseFile, freeEntry, freeMap, from, give, giveAll, holes, keptPages, mark, markDown, markFile, ownNeed, pageOf, putEntry, reserve, reserveAs, resize, settle, settleAs, settleFile, supply, takeOwn, touched, truncateAs, truncateFile, truncateNeed, writeFile}
 use Rattle.rules.specs.Sets.{appendSet, linkBehind, linkLast, rootAlone, unlinkSet}
 use Rattle.rules.specs.State.{chain, childrenOf, live}
@@ -24,18 +24,13 @@ unfolding rows lastAnswer step resultOf accepted numberOf lowest conditions form
 rules = tt
 
 -- M1 for any write that ends at 32,768: whatever the store, with room enough it is accepted
-any-length : (v : View) (s f off : ℕ) (bs : List ℕ) → v .formed ≡ true → UsedSet v s → f < 16 → v .tree .writeable s ≡ true → live (v .state f s) ≡ true
-    → off + length bs ≡ 32768 → v .writeNeed s f off (length bs) ≤ v .free → numberOf v (write s f off bs) ≡ 0
-any-length v s f off bs formed set file wr al end room =
-    accepts-write v formed s f off bs (record { set = set; file = file; writeable = wr; alive = al; end-in = omega arith; room = room })
+any-length : (v : View) (s f off : ℕ) (bs : List ℕ) → v .formed ≡ true → s < 8 → v .tree .used s ≡ true → f < 16 → v .tree .writeable s ≡ true
+    → live (v .state f s) ≡ true → off + length bs ≡ 32768 → v .writeNeed s f off (length bs) ≤ v .free → numberOf v (write s f off bs) ≡ 0
+any-length v s f off bs formed low used file wr al end room =
+    accepts-write v formed s f off bs (record { set = record { low = low; used = used }; file = file; writeable = wr; alive = al; end-in = omega arith; room = room })
 
--- ROWS M1 TO M12
-pub record RowsHold : Type 0 where
-  pub table : AllRows rows
-  pub m1 : (v : View) (s f off : ℕ) (bs : List ℕ) → v .formed ≡ true → UsedSet v s → f < 16 → v .tree .writeable s ≡ true → live (v .state f s) ≡ true
-      → off + length bs ≡ 32768 → v .writeNeed s f off (length bs) ≤ v .free → numberOf v (write s f off bs) ≡ 0
-
-pub rows-hold : RowsHold
+-- THEOREM
+pub rows-hold : RowsClaim
 unfolding rules
 rows-hold = record {
   table = (refl, (refl, (refl, (refl, (refl, (refl, (refl, (refl, (refl, (refl, (refl, (refl, (refl, (refl, (refl, tt)))))))))))))));

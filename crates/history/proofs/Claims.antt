@@ -1,0 +1,9 @@
+-- The claims. Assumes nothing.
+use Rattle.history.proofs.Demand3.{demand3}
+use Rattle.history.specs.Claims.{Claims}
+use Rattle.rules.proofs.Whole.Rows.{rows-hold}
+use Rattle.tables.proofs.OneReading.{one-reading}
+
+-- THEOREM
+pub claims : Claims
+claims = record { one-reading = one-reading; demand3 = demand3; rows = rows-hold }

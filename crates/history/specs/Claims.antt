@@ -1,0 +1,19 @@
+-- THE CLAIMS, closed: every quantifier and every hypothesis stands in definitions, and one theorem (`proofs/Claims`: `claims`) inhabits them all.
+use mathlib.Core.Bool.{true}
+use mathlib.Core.List.{List}
+use mathlib.Core.Path.{_≡_}
+use Prim.Native.Nat.{ℕ}
+use Rattle.history.specs.Demand3.{Demand3Claim}
+use Rattle.packing.specs.Words.{Bytes}
+use Rattle.rules.specs.Rows.{RowsClaim}
+use Rattle.tables.specs.OneReading.{OneReading}
+use Rattle.tables.specs.Packed.{wellFormed}
+
+-- DEMAND 2: all tables that are well formed, with pages of whatever length, are read to one state
+abbrev pub OneReadingClaim : Type 0
+OneReadingClaim = (t : List ℕ) (pagesLength : ℕ) → Bytes t → wellFormed t pagesLength ≡ true → OneReading t
+
+pub record Claims : Type 0 where
+  pub one-reading : OneReadingClaim
+  pub demand3 : Demand3Claim
+  pub rows : RowsClaim
