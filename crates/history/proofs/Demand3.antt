@@ -1,158 +1,38 @@
--- DEMAND 3 on bytes: the image goes with the store, call by call. Assumes nothing.
-use mathlib.Core.Bool.{Bool, true}
+-- DEMAND 3 on bytes: the image goes with the store, list by list. Assumes nothing.
+use mathlib.Core.Bool.{true}
 use mathlib.Core.List.{List, _∷_, []}
 use mathlib.Core.Path.{ap, ap₂, refl, subst, sym, _∙_, _≡_}
-use Prim.Native.Nat.{_%_, _*_, _/_, suc, zero, ℕ, _≤_}
-use native.Mathlib.Omega.{arith}
+use Prim.Native.Nat.{_/_, ℕ, _≤_}
 use lib.ListN.{length}
-use borrow.Author.Tests.{le-leb}
-use Rattle.history.proofs.Image.{image-formed, image-length, image-store, imageOf}
+use Rattle.history.proofs.CallImage.{after-image, gave-image, marks-image}
+use Rattle.history.proofs.Image.{image-formed, image-store, imageOf}
 use Rattle.history.specs.Demand3.{Demand3Claim, Image, MarksRightly, after, afterAll, bothAfter, gave, gaveAll, imageAfter, storeIn}
 use Rattle.rules.proofs.Whole.Holds.{Holds, holds-step}
-use Rattle.rules.proofs.Whole.HoldsMarks.{step-marks}
 use Rattle.rules.proofs.Whole.HoldsMeans.{agrees-plain, agrees-tally}
 use Rattle.rules.proofs.Whole.HoldsRun.{given-run, holds-run, holds-start}
-use Rattle.rules.proofs.Steps.WriterSteps.{bytes}
-use Rattle.rules.specs.Agreement.{AgreesPlain, AgreesTally, bufferAfter, bufferOf, front, frontOf, storeGive, storeGiven, storeRun, tallyIn}
-use Rattle.rules.specs.Calls.{Store, accepted, blankMemory, formatted, readInto, resultOf, step, tablesOf, viewOf, worked}
-use Rattle.rules.specs.Marking.{BecomesMarked}
-use Rattle.rules.specs.Numbers.{Call, Look, View, bytesAsked, conditions, create, delete, format, lookOf, lowest, make, noCounts, noneAsked, numberOf, read, refusal, remove, sizeAsked, tellFree, tellSize, truncate, write}
+use Rattle.rules.specs.Agreement.{AgreesPlain, AgreesTally, frontOf, storeGiven, storeRun}
+use Rattle.rules.specs.Calls.{Store, accepted, blankMemory, formatted}
+use Rattle.rules.specs.Numbers.{Call, conditions, format, lowest, noCounts, numberOf}
 use Rattle.rules.specs.Plain.{Plain}
-use Rattle.rules.specs.State.{isMarked}
-use Rattle.rules.specs.Storage.{Memory, real}
+use Rattle.rules.specs.Storage.{real}
 use Rattle.rules.specs.Tally.{Tally}
 use Rattle.tables.proofs.Lengths.{lengths-in}
-use Rattle.tables.proofs.PackWords.{length-pack}
-use Rattle.tables.specs.Calls.{Outcome, acceptedOn, bufferIn, callOn, formatLengths, freshOf, lookedAt, outcomeOf, repacked, storeOf, viewOn}
-use Rattle.tables.specs.Layout.{tableBytes}
+use Rattle.tables.specs.Calls.{acceptedOn, callOn, formatLengths, outcomeOf}
 use Rattle.tables.specs.Packed.{wellFormed}
-
-lengths-of : (B : ℕ) → 1 ≤ B → B ≤ 4096 → formatLengths tableBytes (B * 512) ≡ true
-unfolding formatLengths
-lengths-of B l m =
-    let q : B * 512 % 512 ≡ 0 = omega arith in
-    rw (q, le-leb 512 (B * 512) (omega arith), le-leb (B * 512) 2097152 (omega arith))
-
-module _ (B : ℕ) (least : 1 ≤ B) (most : B ≤ 4096) (r : Store real) (pl : Plain) (ta : Tally) (v : Holds B r pl ta) where
-  -- what the table of numbers sees of the image is what it sees of the store
-  view-image : viewOn (imageOf r .tables) (imageOf r .pages) ≡ viewOf real true true r
-  view-image =
-      let lengths : formatLengths (length (imageOf r .tables)) (length (imageOf r .pages)) ≡ true =
-      ap₂ formatLengths (length-pack (tablesOf r)) (image-length B least most r pl ta v) ∙ lengths-of B least most in
-      ap₂ (λ (a b : Bool). viewOf real a b (storeOf (imageOf r .tables) (imageOf r .pages))) (image-formed B least most r pl ta v) lengths
-      ∙ ap (viewOf real true true) (image-store B least most r pl ta v)
-
-  fresh-image : freshOf (imageOf r .pages) ≡ blankMemory B
-  fresh-image = ap blankMemory (ap (λ n. n / 512) (image-length B least most r pl ta v) ∙ (let e : B * 512 / 512 ≡ B = omega arith in e))
-
-  -- a call that changes the store: the store after it is packed
-  changing : (c : Call) → acceptedOn c (imageOf r .tables) (imageOf r .pages) ≡ repacked (accepted real (freshOf (imageOf r .pages)) c (storeOf (imageOf r .tables) (imageOf r .pages)))
-      → acceptedOn c (imageOf r .tables) (imageOf r .pages) ≡ repacked (accepted real (blankMemory B) c r)
-  changing c e = e ∙ ap₂ (λ (m : Memory) (st : Store real). repacked (accepted real m c st)) fresh-image (image-store B least most r pl ta v)
-
-  -- a call that only looks: tables and pages stay
-  looking : (c : Call) (b : Store real → List ℕ)
-      → acceptedOn c (imageOf r .tables) (imageOf r .pages) ≡ lookedAt (accepted real (freshOf (imageOf r .pages)) c (storeOf (imageOf r .tables) (imageOf r .pages)) .answer) (imageOf r .tables) (imageOf r .pages) (b (storeOf (imageOf r .tables) (imageOf r .pages)))
-      → acceptedOn c (imageOf r .tables) (imageOf r .pages) ≡ lookedAt (accepted real (blankMemory B) c r .answer) (imageOf r .tables) (imageOf r .pages) (b r)
-  looking c b e =
-      e ∙ ap₂ (λ (m : Memory) (st : Store real). lookedAt (accepted real m c st .answer) (imageOf r .tables) (imageOf r .pages) (b st)) fresh-image (image-store B least most r pl ta v)
-
-  -- what an accepted call leaves, by the kind of the call
-  abbrev AcceptedImage : Call → Type 0
-  AcceptedImage c = acceptedOn c (imageOf r .tables) (imageOf r .pages) ≡ record {
-    answer = accepted real (blankMemory B) c r .answer;
-    tables = imageOf (accepted real (blankMemory B) c r .store) .tables;
-    pages = imageOf (accepted real (blankMemory B) c r .store) .pages;
-    buffer = bufferAfter c 0 r;
-  }
-
-  accepted-image : (c : Call) → AcceptedImage c
-  unfolding acceptedOn bufferOf
-  accepted-image format = changing format refl
-  accepted-image (create s f) = changing (create s f) refl
-  accepted-image (write s f off bs) = changing (write s f off bs) refl
-  accepted-image (read s f off buffer) = looking (read s f off buffer) (λ st. readInto st s f off buffer) refl ∙ (unfold accepted in refl)
-  accepted-image (truncate s f n) = changing (truncate s f n) refl
-  accepted-image (delete s f) = changing (delete s f) refl
-  accepted-image (make s c w) = changing (make s c w) refl
-  accepted-image (remove s) = changing (remove s) refl
-  accepted-image (tellSize s f) = looking (tellSize s f) (λ st. []) refl ∙ (unfold accepted in refl)
-  accepted-image tellFree = looking tellFree (λ st. []) refl ∙ (unfold accepted in refl)
-
-  -- the buffer of a refused call
-  refused-buffer : (k : Look) (n : ℕ) → bufferIn k ≡ bufferOf k (suc n) r
-  unfolding bufferOf
-  refused-buffer (bytesAsked s f off buffer) n = refl
-  refused-buffer (sizeAsked s f) n = refl
-  refused-buffer noneAsked n = refl
-
-  -- an accepted call gives the number 0
-  accepted-number : (c : Call) → accepted real (blankMemory B) c r .answer .number ≡ 0
-  unfolding accepted worked
-  accepted-number format = refl
-  accepted-number (create s f) = refl
-  accepted-number (write s f off []) = refl
-  accepted-number (write s f off (x ∷ bs)) = refl
-  accepted-number (read s f off buffer) = refl
-  accepted-number (truncate s f n) = refl
-  accepted-number (delete s f) = refl
-  accepted-number (make s c w) = refl
-  accepted-number (remove s) = refl
-  accepted-number (tellSize s f) = refl
-  accepted-number tellFree = refl
-
-  images-as : (n : ℕ) (c : Call) → outcomeOf n c (imageOf r .tables) (imageOf r .pages) ≡ record {
-    answer = resultOf real n (blankMemory B) c r .answer;
-    tables = imageOf (resultOf real n (blankMemory B) c r .store) .tables;
-    pages = imageOf (resultOf real n (blankMemory B) c r .store) .pages;
-    buffer = bufferAfter c (resultOf real n (blankMemory B) c r .answer .number) r;
-  }
-  unfolding outcomeOf resultOf
-  images-as zero c = rw (accepted-number c) (accepted-image c)
-  images-as (suc n) c = ap (lookedAt (refusal (suc n)) (imageOf r .tables) (imageOf r .pages)) (refused-buffer (lookOf c) n)
-
-  -- A CALL on the image is the call on the store
-  call-image : (c : Call) → callOn c (imageOf r .tables) (imageOf r .pages) ≡ record {
-    answer = step real (blankMemory B) c r .answer;
-    tables = imageOf (step real (blankMemory B) c r .store) .tables;
-    pages = imageOf (step real (blankMemory B) c r .store) .pages;
-    buffer = bufferAfter c (step real (blankMemory B) c r .answer .number) r;
-  }
-  unfolding callOn step
-  call-image c = ap (λ (w : View). outcomeOf (numberOf w c) c (imageOf r .tables) (imageOf r .pages)) view-image ∙ images-as (numberOf (viewOf real true true r) c) c
-
-  after-image : (c : Call) → after c (imageOf r) ≡ imageOf (step real (blankMemory B) c r .store)
-  after-image c = ap (λ (o : Outcome). record { tables = o .tables; pages = o .pages }) (call-image c)
-
-  gave-image : (c : Call) → gave c (imageOf r) ≡ storeGive B c r
-  gave-image c = ap (λ (o : Outcome). record { answer = o .answer; bytes = front c (o .answer) (o .buffer) }) (call-image c)
-
-  -- what a call on the image marks
-  marks-image : (c : Call) → MarksRightly (imageOf r) c
-  marks-image c f s h =
-      let here : storeIn (imageOf r) ≡ r = image-store B least most r pl ta v in
-      let there : storeIn (after c (imageOf r)) ≡ step real (blankMemory B) c r .store =
-      ap storeIn (after-image c) ∙ image-store B least most _ _ _ (holds-step B least r pl ta v c) in
-      let k = step-marks B least r pl ta v c f s (ap (λ x. isMarked (x .files f s .state)) (sym here) ∙ h) in
-      let e = ap (λ g. g .answer .number) (gave-image c) in
-      let q = ap (λ x. isMarked (x .files f s .state)) there in (
-        λ a. let w = k .0 (sym q ∙ a) in (e ∙ w .0, subst (λ x. BecomesMarked (tallyIn x) c f s) (sym here) (w .1)),
-        λ w. q ∙ k .1 (sym e ∙ w .0, subst (λ x. BecomesMarked (tallyIn x) c f s) here (w .1)),
-      )
 
 -- lists of calls
 module _ (B : ℕ) (least : 1 ≤ B) (most : B ≤ 4096) where
   after-run : (cs : List Call) (r : Store real) (pl : Plain) (ta : Tally) → Holds B r pl ta → afterAll cs (imageOf r) ≡ imageOf (storeRun B cs r)
   unfolding afterAll storeRun
   after-run [] r pl ta v = refl
-  after-run (c ∷ cs) r pl ta v = ap (afterAll cs) (after-image B least most r pl ta v c) ∙ after-run cs _ _ _ (holds-step B least r pl ta v c)
+  after-run (c ∷ cs) r pl ta v = ap (afterAll cs) (after-image B least most r (v .order) c) ∙ after-run cs _ _ _ (holds-step B least r pl ta v c)
 
   gave-run : (cs : List Call) (r : Store real) (pl : Plain) (ta : Tally) → Holds B r pl ta → gaveAll cs (imageOf r) ≡ storeGiven B cs r
   unfolding gaveAll storeGiven
   gave-run [] r pl ta v = refl
   gave-run (c ∷ cs) r pl ta v =
-      ap₂ (λ x xs. x ∷ xs) (gave-image B least most r pl ta v c)
-      (ap (gaveAll cs) (after-image B least most r pl ta v c) ∙ gave-run cs _ _ _ (holds-step B least r pl ta v c))
+      ap₂ (λ x xs. x ∷ xs) (gave-image B least most r (v .order) c)
+      (ap (gaveAll cs) (after-image B least most r (v .order) c) ∙ gave-run cs _ _ _ (holds-step B least r pl ta v c))
 
 -- the format of any tables and pages of lengths that it accepts
 format-image : (m : Image) → formatLengths (length (m .tables)) (length (m .pages)) ≡ true → after format m ≡ imageOf (formatted real (blankMemory (length (m .pages) / 512)))
@@ -184,7 +64,7 @@ module _ (m : Image) (h : formatLengths (length (m .tables)) (length (m .pages))
   image-after = ap (afterAll cs) (format-image m h) ∙ after-run B least most cs _ _ _ (holds-start B least)
 
   marks-after : (c : Call) → MarksRightly (imageAfter m cs) c
-  marks-after c = subst (λ (x : Image). MarksRightly x c) (sym image-after) (marks-image B least most r _ _ holds-after c)
+  marks-after c = subst (λ (x : Image). MarksRightly x c) (sym image-after) (marks-image B least most r (holds-after .order) c)
 
 -- THEOREM
 pub demand3 : Demand3Claim
@@ -193,10 +73,10 @@ demand3 m h cs =
     let n = most m h cs in
     let v = holds-after m h cs in
     let e = image-after m h cs in
-    let s : storeIn (imageAfter m cs) ≡ r m h cs = ap storeIn e ∙ image-store (B m h cs) l n _ _ _ v in
+    let s : storeIn (imageAfter m cs) ≡ r m h cs = ap storeIn e ∙ image-store (B m h cs) n _ (v .order) in
     record {
       begins = format-gives m h;
-      formed = ap (λ (x : Image). wellFormed (x .tables) (length (x .pages))) e ∙ image-formed (B m h cs) l n _ _ _ v;
+      formed = ap (λ (x : Image). wellFormed (x .tables) (length (x .pages))) e ∙ image-formed (B m h cs) n _ (v .order);
       plain = subst (λ x. AgreesPlain x (bothAfter m cs .plain)) (sym s) (agrees-plain (B m h cs) _ _ _ v);
       tally = subst (λ x. AgreesTally x (bothAfter m cs .tally)) (sym s) (agrees-tally (B m h cs) _ _ _ v);
       given = ap (gaveAll cs) (format-image m h) ∙ gave-run (B m h cs) l n cs _ _ _ (holds-start (B m h cs) l) ∙ given-run (B m h cs) l cs _ _ _ (holds-start (B m h cs) l);

@@ -11,16 +11,12 @@ use borrow.Author.Tests.{ltb-false, ltb-true}
 use Rattle.base.specs.Logic.{same?, test?}
 use Rattle.base.specs.Tabulate.{getD-tab, length-tab}
 use Rattle.history.specs.Demand3.{Image}
-use Rattle.rules.proofs.Formed.FilesFormed.{StateOk}
-use Rattle.rules.proofs.Whole.Holds.{Holds}
 use Rattle.rules.proofs.Tree.SetsOk.{SetsOk, first-used, next-used, parent-below, used-below}
 use Rattle.rules.proofs.Formed.Shape.{FileFits}
-use Rattle.rules.proofs.Whole.HoldsRun.{holds-blocks, holds-sets, holds-state}
+use Rattle.rules.proofs.Whole.Order.{InOrder, order-blocks, order-sets, order-state}
 use Rattle.rules.specs.Calls.{Store, tablesOf, treeIn}
-use Rattle.rules.specs.Plain.{Plain}
 use Rattle.rules.specs.State.{Entry, File, absentFile, hole, isAbsent, noSet, stored, unmapped}
 use Rattle.rules.specs.Storage.{PageData, real}
-use Rattle.rules.specs.Tally.{Tally}
 use Rattle.tables.proofs.PackUnpack.{pack-packed, unpack-pack}
 use Rattle.tables.proofs.PackWords.{length-pack}
 use Rattle.tables.proofs.PackedTables.{fields-formed, kinds-formed}
@@ -65,9 +61,9 @@ pages-back n pg out = fun-ext (λ b. fun-ext (λ i.
 
 -- ---- the tables
 
-module _ (B : ℕ) (least : 1 ≤ B) (most : B ≤ 4096) (r : Store real) (pl : Plain) (ta : Tally) (v : Holds B r pl ta) where
+module _ (B : ℕ) (most : B ≤ 4096) (r : Store real) (o : InOrder B r) where
   sets-in : SetsOk (r .sets)
-  sets-in = v .formed .sets-ok
+  sets-in = o .formed .sets-ok
 
   link-in : (k : ℕ) → (k ≡ noSet) ⊎ (r .sets k .used ≡ true) → k < 16
   link-in k h = ⊎-elim (λ e. omega arith) (λ u. omega (arith, used-below (r .sets) sets-in k u)) h
@@ -87,17 +83,14 @@ module _ (B : ℕ) (least : 1 ≤ B) (most : B ≤ 4096) (r : Store real) (pl : 
       })
       (λ u. rw (sets-in .blank s u) (record { level-fits = omega arith; parent-fits = omega arith; child-fits = omega arith; sibling-fits = omega arith }))
 
-  state-in : StateOk (tablesOf r)
-  state-in = holds-state B least most r pl ta v
-
   shape : (f s : ℕ) → FileFits (treeIn real r) s (r .files f s)
-  shape f s = state-in .files-ok f .shape s
+  shape f s = order-state B r o .files-ok f .shape s
 
   -- out of range
   absent-out : (f s : ℕ) → isFile f s ≡ false → r .files f s ≡ absentFile
   absent-out f s h = test? (ltb f 16)
       (λ e. shape f s .empty (shape f s .out (ltb-false s 8 (rw e at h))))
-      (λ e. shape f s .empty (ap (λ (x : File PageData). isAbsent (x .state)) (v .formed .numbers f s (ltb-false f 16 e))))
+      (λ e. shape f s .empty (ap (λ (x : File PageData). isAbsent (x .state)) (o .formed .numbers f s (ltb-false f 16 e))))
 
   map-out : (f s p : ℕ) → isPage f s p ≡ false → r .files f s .map p ≡ unmapped
   map-out f s p h = test? (isFile f s)
@@ -111,18 +104,18 @@ module _ (B : ℕ) (least : 1 ≤ B) (most : B ≤ 4096) (r : Store real) (pl : 
 
   bit-out : (b : ℕ) → 4096 ≤ b → r .memory .bits b ≡ false
   bit-out b h = test? (r .memory .bits b)
-      (λ e. let n = v .kept .blocks-ok .only b e in
-      let u = v .kept .blocks-ok .used (n .file) (n .set) (n .page) b (n .names) in
-      absurd (omega (arith, u .below, v .kept .blocks)))
+      (λ e. let n = o .kept .blocks-ok .only b e in
+      let u = o .kept .blocks-ok .used (n .file) (n .set) (n .page) b (n .names) in
+      absurd (omega (arith, u .below, o .kept .blocks)))
       (λ e. e)
 
   image-fits : Fits (tablesOf r)
   image-fits = record {
-    blocks-fit = omega (arith, v .kept .blocks);
-    next-fits = omega (arith, v .kept .blocks, v .kept .blocks-ok .next);
+    blocks-fit = omega (arith, o .kept .blocks);
+    next-fits = omega (arith, o .kept .blocks, o .kept .blocks-ok .next);
     set-fits = set-fits;
     size-fits = λ f s. omega (arith, shape f s .most);
-    block-fits = λ f s p. block-in (r .files f s .map p) (λ b e. omega (arith, v .kept .blocks-ok .used f s p b e .below, v .kept .blocks));
+    block-fits = λ f s p. block-in (r .files f s .map p) (λ b e. omega (arith, o .kept .blocks-ok .used f s p b e .below, o .kept .blocks));
     bit-out = bit-out;
     set-out = sets-in .out;
     state-out = λ f s h. ap (λ (x : File ℕ). x .state) (absent-out f s h);
@@ -131,13 +124,13 @@ module _ (B : ℕ) (least : 1 ≤ B) (most : B ≤ 4096) (r : Store real) (pl : 
   }
 
   pub image-length : length (imageOf r .pages) ≡ B * 512
-  image-length = length-pages (r .memory .blocks) (r .memory .pages) ∙ ap (λ n. n * 512) (v .kept .blocks)
+  image-length = length-pages (r .memory .blocks) (r .memory .pages) ∙ ap (λ n. n * 512) (o .kept .blocks)
 
   -- the store is read back from its image
   pub image-store : storeOf (imageOf r .tables) (imageOf r .pages) ≡ r
   image-store =
       let a = unpack-pack (tablesOf r) image-fits in
-      let b = pages-back (r .memory .blocks) (r .memory .pages) (v .kept .pages-in) in
+      let b = pages-back (r .memory .blocks) (r .memory .pages) (o .kept .pages-in) in
       λ i. record { memory = record { blocks = a i .blocks; next = a i .next; bits = a i .bits; pages = b i }; sets = a i .sets; files = a i .files }
 
   -- the image is well formed
@@ -152,6 +145,6 @@ module _ (B : ℕ) (least : 1 ≤ B) (most : B ≤ 4096) (r : Store real) (pl : 
         kinds-formed (pack (tablesOf r)) k,
         fields-formed (pack (tablesOf r)) k,
         length-pack (tablesOf r),
-        holds-blocks B least most r pl ta v,
-        holds-sets B least most r pl ta v,
+        order-blocks B r o most,
+        order-sets B r o,
       )

@@ -1,3 +1,5 @@
 pub mod Image
+pub mod CallImage
+pub mod Formed
 pub mod Demand3
 pub mod Claims

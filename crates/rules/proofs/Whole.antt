@@ -1,8 +1,9 @@
 -- Whole lists of calls: the invariant, that it holds after every list of calls, what it means; rows and worked session.
 pub mod Accepted
+pub mod Order
 pub mod Holds
 pub mod HoldsMeans
-pub mod HoldsMarks
+pub mod OrderMarks
 pub mod HoldsRun
 pub mod Rows
 pub mod WorkedSession

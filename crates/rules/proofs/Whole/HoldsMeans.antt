@@ -59,7 +59,7 @@ module _ (B : ℕ) (r : Store real) (pl : Plain) (ta : Tally) (v : Holds B r pl 
   -- the whole of a file lies below 32,768
   length-plain : (f s : ℕ) (l : List ℕ) → pl .files f s ≡ some l → live (r .files f s .state) ≡ true → length l ≤ 32768
   length-plain f s l e al =
-      let z = size-most (treeIn real r) (modelOf r .files f) (v .formed .files-ok f .shape) s in
+      let z = size-most (treeIn real r) (modelOf r .files f) (v .order .formed .files-ok f .shape) s in
       omega (arith, v .plainly .agree f .size s l e al)
 
   byte-plain : (f s : ℕ) (l : List ℕ) → pl .files f s ≡ some l → live (r .files f s .state) ≡ true → (i : ℕ) → i < length l → byteByReading r s f i ≡ getD l i 0
