@@ -1,13 +1,15 @@
 -- A call on the image of a store in order is the call on the store. Assumes nothing.
 use mathlib.Core.Bool.{Bool, true}
 use mathlib.Core.List.{List, _∷_, []}
+use mathlib.Core.Option.{some}
 use mathlib.Core.Path.{ap, ap₂, refl, subst, sym, _∙_, _≡_}
 use Prim.Native.Nat.{_%_, _*_, _/_, suc, zero, ℕ, _≤_}
 use native.Mathlib.Omega.{arith}
 use lib.ListN.{length}
 use borrow.Author.Tests.{le-leb}
 use Rattle.history.proofs.Image.{image-formed, image-length, image-store, imageOf}
-use Rattle.history.specs.Demand3.{MarksRightly, after, gave, storeIn}
+use Rattle.history.specs.Demand3.{MarksRightly}
+use Rattle.history.specs.Image.{after, gave, storeIn}
 use Rattle.rules.proofs.Whole.Order.{InOrder, order-step}
 use Rattle.rules.proofs.Whole.OrderMarks.{step-marks}
 use Rattle.rules.specs.Agreement.{bufferAfter, bufferOf, front, storeGive, tallyIn}
@@ -121,7 +123,7 @@ module _ (B : ℕ) (least : 1 ≤ B) (most : B ≤ 4096) (r : Store real) (o : I
   gave-image c = ap (λ (o : Outcome). record { answer = o .answer; bytes = front c (o .answer) (o .buffer) }) (call-image c)
 
   -- what a call on the image marks
-  pub marks-image : (c : Call) → MarksRightly (imageOf r) c
+  pub marks-image : (c : Call) → MarksRightly (imageOf r) (some c) (after c (imageOf r))
   marks-image c f s h =
       let here : storeIn (imageOf r) ≡ r = image-store B most r o in
       let there : storeIn (after c (imageOf r)) ≡ step real (blankMemory B) c r .store =

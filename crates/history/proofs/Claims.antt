@@ -1,5 +1,6 @@
 -- The claims. Assumes nothing.
 use Rattle.history.proofs.Demand3.{demand3}
+use Rattle.history.proofs.Events.{listed-run}
 use Rattle.history.proofs.Formed.{formed-after, formed-marks}
 use Rattle.history.specs.Claims.{Claims}
 use Rattle.rules.proofs.Whole.Rows.{rows-hold}
@@ -7,4 +8,4 @@ use Rattle.tables.proofs.OneReading.{one-reading}
 
 -- THEOREM
 pub claims : Claims
-claims = record { one-reading = one-reading; demand3 = demand3; formed = λ m bs h c. (formed-after m bs h c, formed-marks m bs h c); rows = rows-hold }
+claims = record { one-reading = one-reading; demand3 = demand3; listed = listed-run; formed = λ m bs h es. (formed-after m bs h es, formed-marks m bs h es); rows = rows-hold }

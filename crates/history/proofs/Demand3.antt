@@ -1,38 +1,26 @@
--- DEMAND 3 on bytes: the image goes with the store, list by list. Assumes nothing.
+-- DEMAND 3 on bytes: after a format and any list of events. Assumes nothing.
 use mathlib.Core.Bool.{true}
-use mathlib.Core.List.{List, _∷_, []}
-use mathlib.Core.Path.{ap, ap₂, refl, subst, sym, _∙_, _≡_}
+use mathlib.Core.List.{List, []}
+use mathlib.Core.Path.{ap, refl, subst, sym, _∙_, _≡_}
 use Prim.Native.Nat.{_/_, ℕ, _≤_}
 use lib.ListN.{length}
-use Rattle.history.proofs.CallImage.{after-image, gave-image, marks-image}
+use Rattle.history.proofs.Events.{KeptAll, event-goes, events-kept}
 use Rattle.history.proofs.Image.{image-formed, image-store, imageOf}
-use Rattle.history.specs.Demand3.{Demand3Claim, Image, MarksRightly, after, afterAll, bothAfter, gave, gaveAll, imageAfter, storeIn}
-use Rattle.rules.proofs.Whole.Holds.{Holds, holds-step}
+use Rattle.history.specs.Demand3.{Demand3Claim, MarksRightly, bothAfter, callsRun, imageAfter}
+use Rattle.history.specs.Events.{Event, eventOn, eventsOn, gaveAll, runs, runsAll}
+use Rattle.history.specs.Image.{Image, after, gave, storeIn}
+use Rattle.rules.proofs.Whole.Holds.{Holds}
 use Rattle.rules.proofs.Whole.HoldsMeans.{agrees-plain, agrees-tally}
-use Rattle.rules.proofs.Whole.HoldsRun.{given-run, holds-run, holds-start}
-use Rattle.rules.specs.Agreement.{AgreesPlain, AgreesTally, frontOf, storeGiven, storeRun}
+use Rattle.rules.proofs.Whole.HoldsRun.{holds-start}
+use Rattle.rules.specs.Agreement.{AgreesPlain, AgreesTally, bothGiven, frontOf}
 use Rattle.rules.specs.Calls.{Store, accepted, blankMemory, formatted}
-use Rattle.rules.specs.Numbers.{Call, conditions, format, lowest, noCounts, numberOf}
-use Rattle.rules.specs.Plain.{Plain}
+use Rattle.rules.specs.Numbers.{conditions, format, lowest, noCounts, numberOf}
+use Rattle.rules.specs.Plain.{plainFormat}
 use Rattle.rules.specs.Storage.{real}
-use Rattle.rules.specs.Tally.{Tally}
+use Rattle.rules.specs.Tally.{tallyFormat}
 use Rattle.tables.proofs.Lengths.{lengths-in}
 use Rattle.tables.specs.Calls.{acceptedOn, callOn, formatLengths, outcomeOf}
 use Rattle.tables.specs.Packed.{wellFormed}
-
--- lists of calls
-module _ (B : ℕ) (least : 1 ≤ B) (most : B ≤ 4096) where
-  after-run : (cs : List Call) (r : Store real) (pl : Plain) (ta : Tally) → Holds B r pl ta → afterAll cs (imageOf r) ≡ imageOf (storeRun B cs r)
-  unfolding afterAll storeRun
-  after-run [] r pl ta v = refl
-  after-run (c ∷ cs) r pl ta v = ap (afterAll cs) (after-image B least most r (v .order) c) ∙ after-run cs _ _ _ (holds-step B least r pl ta v c)
-
-  gave-run : (cs : List Call) (r : Store real) (pl : Plain) (ta : Tally) → Holds B r pl ta → gaveAll cs (imageOf r) ≡ storeGiven B cs r
-  unfolding gaveAll storeGiven
-  gave-run [] r pl ta v = refl
-  gave-run (c ∷ cs) r pl ta v =
-      ap₂ (λ x xs. x ∷ xs) (gave-image B least most r (v .order) c)
-      (ap (gaveAll cs) (after-image B least most r (v .order) c) ∙ gave-run cs _ _ _ (holds-step B least r pl ta v c))
 
 -- the format of any tables and pages of lengths that it accepts
 format-image : (m : Image) → formatLengths (length (m .tables)) (length (m .pages)) ≡ true → after format m ≡ imageOf (formatted real (blankMemory (length (m .pages) / 512)))
@@ -44,12 +32,9 @@ unfolding callOn numberOf conditions lowest frontOf
 format-gives m h = rw h (unfold outcomeOf acceptedOn accepted in refl)
 
 -- from the format on
-module _ (m : Image) (h : formatLengths (length (m .tables)) (length (m .pages)) ≡ true) (cs : List Call) where
+module _ (m : Image) (h : formatLengths (length (m .tables)) (length (m .pages)) ≡ true) where
   abbrev B : ℕ
   B = length (m .pages) / 512
-
-  abbrev r : Store real
-  r = storeRun B cs (formatted real (blankMemory B))
 
   least : 1 ≤ B
   least = lengths-in (length (m .tables)) (length (m .pages)) h .2
@@ -57,28 +42,40 @@ module _ (m : Image) (h : formatLengths (length (m .tables)) (length (m .pages))
   most : B ≤ 4096
   most = lengths-in (length (m .tables)) (length (m .pages)) h .3
 
-  holds-after : Holds B r (bothAfter m cs .plain) (bothAfter m cs .tally)
-  holds-after = holds-run B least cs _ _ _ (holds-start B least)
+  -- what an image after a format and a list of events is
+  record Reached (es : List Event) : Type 0 where
+    store : Store real
+    image : imageAfter m es ≡ imageOf store
+    holds : Holds B store (bothAfter m (callsRun m es) .plain) (bothAfter m (callsRun m es) .tally)
+    given : gaveAll es (after format m) ≡ bothGiven B (callsRun m es) plainFormat (tallyFormat B)
 
-  image-after : imageAfter m cs ≡ imageOf r
-  image-after = ap (afterAll cs) (format-image m h) ∙ after-run B least most cs _ _ _ (holds-start B least)
+  reached : (es : List Event) → Reached es
+  reached es =
+      let k : KeptAll B least most es (formatted real (blankMemory B)) plainFormat (tallyFormat B) = events-kept B least most es _ _ _ (holds-start B least) in
+      let e : after format m ≡ imageOf (formatted real (blankMemory B)) = format-image m h in
+      record {
+        store = k .store;
+        image = ap (eventsOn es) e ∙ k .image;
+        holds = subst (λ (x : Image). Holds B (k .store) (bothAfter m (runsAll es x) .plain) (bothAfter m (runsAll es x) .tally)) (sym e) (k .holds);
+        given = subst (λ (x : Image). gaveAll es x ≡ bothGiven B (runsAll es x) plainFormat (tallyFormat B)) (sym e) (k .given);
+      }
 
-  marks-after : (c : Call) → MarksRightly (imageAfter m cs) c
-  marks-after c = subst (λ (x : Image). MarksRightly x c) (sym image-after) (marks-image B least most r (holds-after .order) c)
+  -- what the next event marks
+  marks-next : (es : List Event) (e : Event) → MarksRightly (imageAfter m es) (runs e (imageAfter m es)) (eventOn e (imageAfter m es))
+  marks-next es e =
+      let k = reached es in
+      subst (λ (x : Image). MarksRightly x (runs e x) (eventOn e x)) (sym (k .image)) (event-goes B least most (k .store) (k .holds .order) e .marks)
 
 -- THEOREM
 pub demand3 : Demand3Claim
-demand3 m h cs =
-    let l = least m h cs in
-    let n = most m h cs in
-    let v = holds-after m h cs in
-    let e = image-after m h cs in
-    let s : storeIn (imageAfter m cs) ≡ r m h cs = ap storeIn e ∙ image-store (B m h cs) n _ (v .order) in
+demand3 m h es =
+    let k = reached m h es in
+    let s : storeIn (imageAfter m es) ≡ k .store = ap storeIn (k .image) ∙ image-store (B m h) (most m h) (k .store) (k .holds .order) in
     record {
       begins = format-gives m h;
-      formed = ap (λ (x : Image). wellFormed (x .tables) (length (x .pages))) e ∙ image-formed (B m h cs) n _ (v .order);
-      plain = subst (λ x. AgreesPlain x (bothAfter m cs .plain)) (sym s) (agrees-plain (B m h cs) _ _ _ v);
-      tally = subst (λ x. AgreesTally x (bothAfter m cs .tally)) (sym s) (agrees-tally (B m h cs) _ _ _ v);
-      given = ap (gaveAll cs) (format-image m h) ∙ gave-run (B m h cs) l n cs _ _ _ (holds-start (B m h cs) l) ∙ given-run (B m h cs) l cs _ _ _ (holds-start (B m h cs) l);
-      marks = λ before rest c e. marks-after m h before c;
+      formed = ap (λ (x : Image). wellFormed (x .tables) (length (x .pages))) (k .image) ∙ image-formed (B m h) (most m h) (k .store) (k .holds .order);
+      plain = subst (λ x. AgreesPlain x (bothAfter m (callsRun m es) .plain)) (sym s) (agrees-plain (B m h) (k .store) _ _ (k .holds));
+      tally = subst (λ x. AgreesTally x (bothAfter m (callsRun m es) .tally)) (sym s) (agrees-tally (B m h) (k .store) _ _ (k .holds));
+      given = k .given;
+      marks = λ before rest e d. marks-next m h before e;
     }

@@ -11,14 +11,15 @@ use lib.ListN.{List·getD-eq-default, getD, length}
 use borrow.Author.Tests.{le-ltb, lt-ltb, ltb-true}
 use Rattle.base.specs.Logic.{test?}
 use Rattle.base.specs.Tabulate.{tab-of}
-use Rattle.history.proofs.CallImage.{after-image, marks-image}
+use Rattle.history.proofs.Events.{GoesAll, event-goes, events-go}
 use Rattle.history.proofs.Image.{image-formed, imageOf}
-use Rattle.history.specs.Demand3.{Image, MarksRightly, after, storeIn}
+use Rattle.history.specs.Demand3.{MarksRightly, MarksThroughout}
+use Rattle.history.specs.Events.{Event, eventOn, eventsOn, runs}
+use Rattle.history.specs.Image.{Image, storeIn}
 use Rattle.packing.specs.Words.{Bytes}
 use Rattle.rules.proofs.Formed.FilesMapped.{map-formed}
 use Rattle.rules.proofs.Storages.MapBlocks.{mapFile}
-use Rattle.rules.proofs.Whole.Order.{InOrder, order-step}
-use Rattle.rules.specs.Numbers.{Call}
+use Rattle.rules.proofs.Whole.Order.{InOrder}
 use Rattle.rules.specs.State.{treeOf}
 use Rattle.tables.proofs.FormedStore.{FormedStore, absent-default, formed-store}
 use Rattle.tables.proofs.OneReading.{one-reading}
@@ -56,13 +57,10 @@ module _ (t p : List ℕ) (h : wellFormed t (length p) ≡ true) where
   pub image-of : Bytes t → imageOf (storeOf t p) ≡ record { tables = t; pages = p }
   image-of bs = λ i. record { tables = one-reading t (length p) bs h .same i; pages = pages-packed p (unpack t .blocks) (formed .pages) i }
 
--- A CALL ON WELL-FORMED BYTES
-module _ (m : Image) (bs : Bytes (m .tables)) (h : wellFormed (m .tables) (length (m .pages)) ≡ true) (c : Call) where
+-- LISTS OF EVENTS on well-formed bytes
+module _ (m : Image) (bs : Bytes (m .tables)) (h : wellFormed (m .tables) (length (m .pages)) ≡ true) where
   abbrev B : ℕ
   B = unpack (m .tables) .blocks
-
-  abbrev o : InOrder B (storeIn m)
-  o = order-of (m .tables) (m .pages) h
 
   least : 1 ≤ B
   least = formed (m .tables) (m .pages) h .header .at-least
@@ -70,15 +68,15 @@ module _ (m : Image) (bs : Bytes (m .tables)) (h : wellFormed (m .tables) (lengt
   most : B ≤ 4096
   most = formed (m .tables) (m .pages) h .header .most
 
-  image-here : imageOf (storeIn m) ≡ m
-  image-here = image-of (m .tables) (m .pages) h bs
+  run : (es : List Event) → GoesAll B least most es (storeIn m)
+  run es = events-go B least most es (storeIn m) (order-of (m .tables) (m .pages) h)
 
-  -- it leaves well-formed bytes
-  pub formed-after : wellFormed (after c m .tables) (length (after c m .pages)) ≡ true
-  formed-after =
-      ap (λ (x : Image). wellFormed (x .tables) (length (x .pages))) (ap (after c) (sym image-here) ∙ after-image B least most (storeIn m) o c)
-      ∙ image-formed B most _ (order-step B least (storeIn m) o c)
+  image-run : (es : List Event) → eventsOn es m ≡ imageOf (run es .store)
+  image-run es = ap (eventsOn es) (sym (image-of (m .tables) (m .pages) h bs)) ∙ run es .image
 
-  -- it marks what it should
-  pub formed-marks : MarksRightly m c
-  formed-marks = subst (λ (x : Image). MarksRightly x c) image-here (marks-image B least most (storeIn m) o c)
+  pub formed-after : (es : List Event) → wellFormed (eventsOn es m .tables) (length (eventsOn es m .pages)) ≡ true
+  formed-after es = ap (λ (x : Image). wellFormed (x .tables) (length (x .pages))) (image-run es) ∙ image-formed B most (run es .store) (run es .order)
+
+  pub formed-marks : (es : List Event) → MarksThroughout m es
+  formed-marks es before rest e d =
+      subst (λ (x : Image). MarksRightly x (runs e x) (eventOn e x)) (sym (image-run before)) (event-goes B least most (run before .store) (run before .order) e .marks)

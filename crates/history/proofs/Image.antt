@@ -10,7 +10,7 @@ use lib.ListN.{List·getD-eq-default, getD, length}
 use borrow.Author.Tests.{ltb-false, ltb-true}
 use Rattle.base.specs.Logic.{same?, test?}
 use Rattle.base.specs.Tabulate.{getD-tab, length-tab}
-use Rattle.history.specs.Demand3.{Image}
+use Rattle.history.specs.Image.{Image}
 use Rattle.rules.proofs.Tree.SetsOk.{SetsOk, first-used, next-used, parent-below, used-below}
 use Rattle.rules.proofs.Formed.Shape.{FileFits}
 use Rattle.rules.proofs.Whole.Order.{InOrder, order-blocks, order-sets, order-state}

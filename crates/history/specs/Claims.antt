@@ -4,7 +4,9 @@ use mathlib.Core.List.{List}
 use mathlib.Core.Path.{_≡_}
 use Prim.Native.Nat.{ℕ}
 use lib.ListN.{length}
-use Rattle.history.specs.Demand3.{Demand3Claim, Image, MarksRightly, after}
+use Rattle.history.specs.Demand3.{Demand3Claim, MarksThroughout}
+use Rattle.history.specs.Events.{Event, eventsOn, listedAll, runsAll}
+use Rattle.history.specs.Image.{Image}
 use Rattle.packing.specs.Words.{Bytes}
 use Rattle.rules.specs.Numbers.{Call}
 use Rattle.rules.specs.Rows.{RowsClaim}
@@ -15,14 +17,16 @@ use Rattle.tables.specs.Packed.{wellFormed}
 abbrev pub OneReadingClaim : Type 0
 OneReadingClaim = (t : List ℕ) (pagesLength : ℕ) → Bytes t → wellFormed t pagesLength ≡ true → OneReading t
 
--- A CALL ON ANY WELL-FORMED BYTES, whoever made them: it leaves well-formed bytes, and marks as it should
+-- ANY WELL-FORMED BYTES, whoever made them, and all lists of events: the bytes stay well formed, and what becomes marked is as in demand 3
 abbrev pub FormedClaim : Type 0
 FormedClaim =
-    (m : Image) → Bytes (m .tables) → wellFormed (m .tables) (length (m .pages)) ≡ true → (c : Call)
-    → (wellFormed (after c m .tables) (length (after c m .pages)) ≡ true) × MarksRightly m c
+    (m : Image) → Bytes (m .tables) → wellFormed (m .tables) (length (m .pages)) ≡ true → (es : List Event)
+    → (wellFormed (eventsOn es m .tables) (length (eventsOn es m .pages)) ≡ true) × MarksThroughout m es
 
 pub record Claims : Type 0 where
   pub one-reading : OneReadingClaim
   pub demand3 : Demand3Claim
+  -- plain store and tally are fed the list itself, where it is one of the ten calls alone
+  pub listed : (cs : List Call) (m : Image) → runsAll (listedAll cs) m ≡ cs
   pub formed : FormedClaim
   pub rows : RowsClaim

@@ -1,2 +1,4 @@
+pub mod Image
+pub mod Events
 pub mod Demand3
 pub mod Claims

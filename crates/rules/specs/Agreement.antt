@@ -87,11 +87,6 @@ unfoldable pub bothGiven : ℕ → List Call → Plain → Tally → List Given
 bothGiven blocks [] pl ta = []
 bothGiven blocks (c ∷ cs) pl ta = bothGive blocks c pl ta ∷ bothGiven blocks cs (bothStep blocks c pl ta .plain) (bothStep blocks c pl ta .tally)
 
--- the store after a list of calls, and all that they gave
-unfoldable pub storeRun : ℕ → List Call → Store real → Store real
-storeRun blocks [] st = st
-storeRun blocks (c ∷ cs) st = storeRun blocks cs (step real (blankMemory blocks) c st .store)
-
 -- the buffer of a call after it, where it gave the number n
 unfoldable pub bufferOf : Look → ℕ → Store real → List ℕ
 bufferOf (bytesAsked s f off buffer) zero st = readInto st s f off buffer
@@ -102,9 +97,6 @@ bufferOf noneAsked n st = []
 abbrev pub bufferAfter : Call → ℕ → Store real → List ℕ
 bufferAfter c n st = bufferOf (lookOf c) n st
 
+-- what a call on the store gives
 abbrev pub storeGive : ℕ → Call → Store real → Given
 storeGive blocks c st = let a : Answer = step real (blankMemory blocks) c st .answer in record { answer = a; bytes = front c a (bufferAfter c (a .number) st) }
-
-unfoldable pub storeGiven : ℕ → List Call → Store real → List Given
-storeGiven blocks [] st = []
-storeGiven blocks (c ∷ cs) st = storeGive blocks c st ∷ storeGiven blocks cs (step real (blankMemory blocks) c st .store)

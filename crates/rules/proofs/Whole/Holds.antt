@@ -1,20 +1,22 @@
 -- The invariant of whole lists of calls, and one step of it. Assumes nothing.
 use mathlib.Core.Bool.{true}
-use mathlib.Core.Path.{refl, subst, sym, _∙_, _≡_}
+use mathlib.Core.Path.{ap, refl, subst, sym, _∙_, _≡_}
 use Prim.Native.Nat.{suc, zero, ℕ, _≤_}
+use Rattle.rules.proofs.Agreement.Agree.{Agree}
 use Rattle.rules.proofs.Agreement.AgreeCalls.{Orderly, Plainly, accepted-plain}
 use Rattle.rules.proofs.Formed.ModelFormed.{ModelFormed}
-use Rattle.rules.proofs.Storages.CountCalls.{count-counted, count-number, countOf, modelOf}
+use Rattle.rules.proofs.Storages.CountCalls.{count-counted, count-number, countOf, forget, modelOf}
+use Rattle.rules.proofs.Storages.MapBlocks.{mapFiles}
 use Rattle.rules.proofs.Storages.Model.{model}
 use Rattle.rules.proofs.Tally.TallyNumbers.{Tallies, same-numbers}
 use Rattle.rules.proofs.Tree.MakeSet.{make-same}
 use Rattle.rules.proofs.Tree.RemoveSet.{remove-same}
 use Rattle.rules.proofs.Tree.SetsOk.{root-alone-tree}
 use Rattle.rules.proofs.Whole.Order.{InOrder, answer-tally, model-after, order-step, tallies-step, tally-orderly}
-use Rattle.rules.specs.Calls.{Store, blankMemory, resultOf, step, viewOf}
+use Rattle.rules.specs.Calls.{Store, blankMemory, resultOf, step, treeIn, viewOf}
 use Rattle.rules.specs.Numbers.{Call, numberOf}
 use Rattle.rules.specs.Plain.{Plain}
-use Rattle.rules.specs.Storage.{real}
+use Rattle.rules.specs.Storage.{freeBlocks, real}
 use Rattle.rules.specs.Tally.{Tally, bothAs, bothStep, judged}
 
 -- A store of B blocks in order, in agreement with a plain store and a tally: its model with the plain store, its count with the tally.
@@ -72,3 +74,19 @@ module _ (B : ℕ) (some : 1 ≤ B) (r : Store real) (pl : Plain) (ta : Tally) (
   -- the answer is the one that plain store and tally give
   pub answer-step : step real (blankMemory B) c r .answer ≡ bothStep B c pl ta .answer
   answer-step = answer-tally B some r (v .order) c pl ta (v .tallies) same-tree
+
+-- A QUIET CHANGE: plain store and tally see the tree, the files with the bytes of their pages and the number of free blocks, no block numbers and no links
+pub holds-quiet : (B : ℕ) (r r′ : Store real) (pl : Plain) (ta : Tally) → Holds B r pl ta → InOrder B r′ → treeIn real r′ ≡ treeIn real r →
+    ((f : ℕ) → modelOf r′ .files f ≡ modelOf r .files f) → freeBlocks (r′ .memory) ≡ freeBlocks (r .memory) → Holds B r′ pl ta
+holds-quiet B r r′ pl ta v o t fs n = record {
+  order = o;
+  plainly = record {
+    trees = v .plainly .trees ∙ sym t;
+    agree = λ f. subst (λ x. Agree (treeIn real r′) x (pl .files f)) (sym (fs f)) (subst (λ x. Agree x (modelOf r .files f) (pl .files f)) (sym t) (v .plainly .agree f));
+  };
+  tallies = record {
+    tree = v .tallies .tree ∙ sym t;
+    files = λ f. v .tallies .files f ∙ ap (mapFiles forget) (sym (fs f));
+    free = v .tallies .free ∙ sym n;
+  };
+}

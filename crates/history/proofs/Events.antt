@@ -1,0 +1,138 @@
+-- Every event keeps the invariant, with the call that it runs; so does every list of events. Assumes nothing.
+use mathlib.Core.Bool.{true≢false}
+use mathlib.Core.List.{_++_, List, _∷_, []}
+use mathlib.Core.Option.{Option, none, some}
+use mathlib.Core.Path.{ap, ap₂, refl, subst, sym, _∙_, _≡_}
+use Prim.Native.Nat.{ℕ, _≤_}
+use Rattle.history.proofs.CallImage.{after-image, gave-image, marks-image}
+use Rattle.history.proofs.Image.{image-store, imageOf}
+use Rattle.history.specs.Demand3.{MarksRightly}
+use Rattle.history.specs.Events.{Event, eventOn, eventsOn, gaveAll, gaveBy, listOf, listed, listedAll, runs, runsAll}
+use Rattle.history.specs.Image.{Image, after}
+use Rattle.rules.proofs.Storages.CountCalls.{modelOf}
+use Rattle.rules.proofs.Whole.Holds.{Holds, holds-quiet, holds-step}
+use Rattle.rules.proofs.Whole.HoldsMeans.{given-step}
+use Rattle.rules.proofs.Whole.HoldsRun.{both-append, given-append}
+use Rattle.rules.proofs.Whole.Order.{InOrder, order-step}
+use Rattle.rules.specs.Agreement.{Given, bothGiven, bothRun}
+use Rattle.rules.specs.Calls.{Store, blankMemory, step, treeIn}
+use Rattle.rules.specs.Numbers.{Call}
+use Rattle.rules.specs.Plain.{Plain}
+use Rattle.rules.specs.State.{isMarked}
+use Rattle.rules.specs.Storage.{freeBlocks, real}
+use Rattle.rules.specs.Tally.{Both, Tally}
+
+-- a list of the ten alone runs these
+pub listed-run : (cs : List Call) (m : Image) → runsAll (listedAll cs) m ≡ cs
+unfolding listedAll runsAll
+listed-run [] m = refl
+listed-run (c ∷ cs) m = ap (λ ds. c ∷ ds) (listed-run cs (after c m))
+
+module _ (B : ℕ) (least : 1 ≤ B) (most : B ≤ 4096) where
+  -- a store in order goes to the image of one in order, the call o being run, if any
+  pub record Goes (r : Store real) (o : Option Call) (m : Image) : Type 0 where
+    pub store : Store real
+    pub image : m ≡ imageOf store
+    pub order : InOrder B store
+    pub marks : MarksRightly (imageOf r) o m
+
+  module _ (r : Store real) (o : InOrder B r) where
+    -- one of the ten calls
+    call-goes : (c : Call) → Goes r (some c) (after c (imageOf r))
+    call-goes c = record {
+      store = step real (blankMemory B) c r .store;
+      image = after-image B least most r o c;
+      order = order-step B least r o c;
+      marks = marks-image B least most r o c;
+    }
+
+    -- no call: no state changes
+    quiet-goes : (r′ : Store real) → InOrder B r′ → ((f s : ℕ) → r′ .files f s .state ≡ r .files f s .state) → Goes r none (imageOf r′)
+    quiet-goes r′ o′ same = record {
+      store = r′;
+      image = refl;
+      order = o′;
+      marks = λ f s h. (
+        λ a. true≢false (sym a ∙ ap (λ (x : Store real). isMarked (x .files f s .state)) (image-store B most r′ o′) ∙ ap isMarked (same f s)
+            ∙ ap (λ (x : Store real). isMarked (x .files f s .state)) (sym (image-store B most r o)) ∙ h),
+        λ w. absurd w,
+      );
+    }
+
+    -- no call, and nothing changes
+    look-goes : Goes r none (imageOf r)
+    look-goes = quiet-goes r o (λ f s. refl)
+
+    -- EVERY EVENT keeps a store in order
+    pub event-goes : (e : Event) → Goes r (runs e (imageOf r)) (eventOn e (imageOf r))
+    event-goes (listed c) = call-goes c
+
+  -- a store that agrees with plain store and tally goes to the image of one that does, the call o being run, if any
+  pub record Kept (pl : Plain) (ta : Tally) (o : Option Call) (m : Image) : Type 0 where
+    pub store : Store real
+    pub image : m ≡ imageOf store
+    pub holds : Holds B store (bothRun B (listOf o) pl ta .plain) (bothRun B (listOf o) pl ta .tally)
+
+  module _ (r : Store real) (pl : Plain) (ta : Tally) (v : Holds B r pl ta) where
+    call-kept : (c : Call) → Kept pl ta (some c) (after c (imageOf r))
+    unfolding bothRun
+    call-kept c = record { store = step real (blankMemory B) c r .store; image = after-image B least most r (v .order) c; holds = holds-step B least r pl ta v c }
+
+    -- no call: sets, files with the bytes of their pages and the number of free blocks stay
+    quiet-kept : (r′ : Store real) → InOrder B r′ → treeIn real r′ ≡ treeIn real r → ((f : ℕ) → modelOf r′ .files f ≡ modelOf r .files f) →
+        freeBlocks (r′ .memory) ≡ freeBlocks (r .memory) → Kept pl ta none (imageOf r′)
+    unfolding bothRun
+    quiet-kept r′ o t fs n = record { store = r′; image = refl; holds = holds-quiet B r r′ pl ta v o t fs n }
+
+    look-kept : Kept pl ta none (imageOf r)
+    look-kept = quiet-kept r (v .order) refl (λ f. refl) refl
+
+    -- EVERY EVENT keeps the agreement, with the call that it runs
+    pub event-kept : (e : Event) → Kept pl ta (runs e (imageOf r)) (eventOn e (imageOf r))
+    event-kept (listed c) = call-kept c
+
+    -- what the call that is run gives is what plain store and tally give
+    given-by : (o : Option Call) → listOf (gaveBy o (imageOf r)) ≡ bothGiven B (listOf o) pl ta
+    unfolding bothGiven
+    given-by none = refl
+    given-by (some c) = ap (λ (x : Given). x ∷ []) (gave-image B least most r (v .order) c ∙ given-step B r pl ta v least c)
+
+  -- LISTS of events: on a store in order
+  pub record GoesAll (es : List Event) (r : Store real) : Type 0 where
+    pub store : Store real
+    pub image : eventsOn es (imageOf r) ≡ imageOf store
+    pub order : InOrder B store
+
+  pub events-go : (es : List Event) (r : Store real) → InOrder B r → GoesAll es r
+  unfolding eventsOn
+  events-go [] r o = record { store = r; image = refl; order = o }
+  events-go (e ∷ es) r o =
+      let g = event-goes r o e in
+      let q : GoesAll es (g .store) = events-go es (g .store) (g .order) in
+      record { store = q .store; image = ap (eventsOn es) (g .image) ∙ q .image; order = q .order }
+
+  -- and with plain store and tally
+  pub record KeptAll (es : List Event) (r : Store real) (pl : Plain) (ta : Tally) : Type 0 where
+    pub store : Store real
+    pub image : eventsOn es (imageOf r) ≡ imageOf store
+    pub holds : Holds B store (bothRun B (runsAll es (imageOf r)) pl ta .plain) (bothRun B (runsAll es (imageOf r)) pl ta .tally)
+    pub given : gaveAll es (imageOf r) ≡ bothGiven B (runsAll es (imageOf r)) pl ta
+
+  pub events-kept : (es : List Event) (r : Store real) (pl : Plain) (ta : Tally) → Holds B r pl ta → KeptAll es r pl ta
+  unfolding eventsOn runsAll gaveAll bothRun bothGiven
+  events-kept [] r pl ta v = record { store = r; image = refl; holds = v; given = refl }
+  events-kept (e ∷ es) r pl ta v =
+      let o : Option Call = runs e (imageOf r) in
+      let k : Kept pl ta o (eventOn e (imageOf r)) = event-kept r pl ta v e in
+      let b : Both = bothRun B (listOf o) pl ta in
+      let q : KeptAll es (k .store) (b .plain) (b .tally) = events-kept es (k .store) (b .plain) (b .tally) (k .holds) in
+      let cs : runsAll es (eventOn e (imageOf r)) ≡ runsAll es (imageOf (k .store)) = ap (runsAll es) (k .image) in
+      let bs : bothRun B (listOf o ++ runsAll es (eventOn e (imageOf r))) pl ta ≡ bothRun B (runsAll es (imageOf (k .store))) (b .plain) (b .tally) =
+      both-append B (listOf o) _ pl ta ∙ ap (λ l. bothRun B l (b .plain) (b .tally)) cs in
+      record {
+        store = q .store;
+        image = ap (eventsOn es) (k .image) ∙ q .image;
+        holds = subst (λ (x : Both). Holds B (q .store) (x .plain) (x .tally)) (sym bs) (q .holds);
+        given = ap₂ (λ xs ys. xs ++ ys) (given-by r pl ta v o) (ap (gaveAll es) (k .image) ∙ q .given ∙ ap (λ l. bothGiven B l (b .plain) (b .tally)) (sym cs))
+            ∙ sym (given-append B (listOf o) _ pl ta);
+      }

@@ -1,0 +1,50 @@
+-- WHAT MAY STAND IN A LIST: events. An event takes tables and pages to tables and pages; in doing so it runs one of the ten calls, or none.
+--
+-- One added later joins by a case of `Event`, of `eventOn` and of `runs`, and by one of `event-goes` and of `event-kept` (proofs/Events): `call-goes`, `call-kept`
+-- where it runs a call, `look-goes`, `look-kept` where it changes nothing, `quiet-goes`, `quiet-kept` where it leaves sets, files by reading and the number of free
+-- blocks. The rules are not touched by it.
+use mathlib.Core.List.{_++_, List, _∷_, []}
+use mathlib.Core.Option.{Option, none, some}
+use Rattle.history.specs.Image.{Image, after, gave}
+use Rattle.rules.specs.Agreement.{Given}
+use Rattle.rules.specs.Numbers.{Call}
+
+pub data Event : Type 0 where
+  -- one of the ten
+  listed : Call → Event
+
+-- an event on tables and pages
+abbrev pub eventOn : Event → Image → Image
+eventOn (listed c) m = after c m
+
+-- the call of the ten that it runs there, if any
+abbrev pub runs : Event → Image → Option Call
+runs (listed c) m = some c
+
+-- a list of one or none
+abbrev pub listOf : {A : Type 0} → Option A → List A
+listOf none = []
+listOf (some x) = x ∷ []
+
+-- what that call gave
+abbrev pub gaveBy : Option Call → Image → Option Given
+gaveBy none m = none
+gaveBy (some c) m = some (gave c m)
+
+-- after a list of events; the calls that they ran; what these gave
+unfoldable pub eventsOn : List Event → Image → Image
+eventsOn [] m = m
+eventsOn (e ∷ es) m = eventsOn es (eventOn e m)
+
+unfoldable pub runsAll : List Event → Image → List Call
+runsAll [] m = []
+runsAll (e ∷ es) m = listOf (runs e m) ++ runsAll es (eventOn e m)
+
+unfoldable pub gaveAll : List Event → Image → List Given
+gaveAll [] m = []
+gaveAll (e ∷ es) m = listOf (gaveBy (runs e m) m) ++ gaveAll es (eventOn e m)
+
+-- a list of the ten alone
+unfoldable pub listedAll : List Call → List Event
+listedAll [] = []
+listedAll (c ∷ cs) = listed c ∷ listedAll cs

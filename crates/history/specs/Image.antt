@@ -1,0 +1,24 @@
+-- Tables and pages as bytes, and one call on them, by the definition `callOn` that the contracts of the exported functions cite.
+use mathlib.Core.List.{List}
+use Prim.Native.Nat.{ℕ}
+use Rattle.rules.specs.Agreement.{Given, front}
+use Rattle.rules.specs.Calls.{Store}
+use Rattle.rules.specs.Numbers.{Call}
+use Rattle.rules.specs.Storage.{real}
+use Rattle.tables.specs.Calls.{Outcome, callOn, storeOf}
+
+pub record Image : Type 0 where
+  pub tables : List ℕ
+  pub pages : List ℕ
+
+-- the store that an image holds
+abbrev pub storeIn : Image → Store real
+storeIn m = storeOf (m .tables) (m .pages)
+
+-- the image after a call
+abbrev pub after : Call → Image → Image
+after c m = let o : Outcome = callOn c (m .tables) (m .pages) in record { tables = o .tables; pages = o .pages }
+
+-- what a call gave: its answer and, of a read, the bytes at the buffer's front
+abbrev pub gave : Call → Image → Given
+gave c m = let o : Outcome = callOn c (m .tables) (m .pages) in record { answer = o .answer; bytes = front c (o .answer) (o .buffer) }
