@@ -1,12 +1,12 @@
 -- DEMAND 3 on bytes: after a format and any list of events. Assumes nothing.
 use mathlib.Core.Bool.{true}
-use mathlib.Core.List.{List, []}
+use mathlib.Core.List.{_++_, List, _∷_, []}
 use mathlib.Core.Path.{ap, refl, subst, sym, _∙_, _≡_}
 use Prim.Native.Nat.{_/_, ℕ, _≤_}
 use lib.ListN.{length}
 use Rattle.history.proofs.Events.{KeptAll, event-goes, events-kept}
 use Rattle.history.proofs.Image.{image-formed, image-store, imageOf}
-use Rattle.history.specs.Demand3.{Demand3Claim, MarksRightly, bothAfter, callsRun, imageAfter}
+use Rattle.history.specs.Demand3.{Demand3, Demand3Claim, MarksRightly, bothAfter, callsRun, imageAfter}
 use Rattle.history.specs.Events.{Event, eventOn, eventsOn, gaveAll, runs, runsAll}
 use Rattle.history.specs.Image.{Image, after, gave, storeIn}
 use Rattle.rules.proofs.Whole.Holds.{Holds}
@@ -79,3 +79,8 @@ demand3 m h es =
       given = k .given;
       marks = λ before rest e d. marks-next m h before e;
     }
+
+-- What the claim says at one place of the list, from the claim alone: a claim that leaves out the list is refused here.
+pub marks-at : (m : Image) (before rest : List Event) (e : Event) → Demand3 m (before ++ (e ∷ rest))
+    → MarksRightly (imageAfter m before) (runs e (imageAfter m before)) (eventOn e (imageAfter m before))
+marks-at m before rest e d = d .marks before rest e refl

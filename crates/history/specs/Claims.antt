@@ -2,7 +2,6 @@
 use mathlib.Core.Bool.{true}
 use mathlib.Core.List.{List}
 use mathlib.Core.Path.{_≡_}
-use Prim.Native.Nat.{ℕ}
 use lib.ListN.{length}
 use Rattle.history.specs.Demand3.{Demand3Claim, MarksThroughout}
 use Rattle.history.specs.Events.{Event, eventsOn, listedAll, runsAll}
@@ -10,12 +9,8 @@ use Rattle.history.specs.Image.{Image}
 use Rattle.packing.specs.Words.{Bytes}
 use Rattle.rules.specs.Numbers.{Call}
 use Rattle.rules.specs.Rows.{RowsClaim}
-use Rattle.tables.specs.OneReading.{OneReading}
+use Rattle.tables.specs.OneReading.{OneReadingClaim}
 use Rattle.tables.specs.Packed.{wellFormed}
-
--- DEMAND 2: all tables that are well formed, with pages of whatever length, are read to one state
-abbrev pub OneReadingClaim : Type 0
-OneReadingClaim = (t : List ℕ) (pagesLength : ℕ) → Bytes t → wellFormed t pagesLength ≡ true → OneReading t
 
 -- ANY WELL-FORMED BYTES, whoever made them, and all lists of events: the bytes stay well formed, and what becomes marked is as in demand 3
 abbrev pub FormedClaim : Type 0

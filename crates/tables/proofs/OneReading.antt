@@ -7,12 +7,11 @@ use lib.Dec.{eqb}
 use lib.ListN.{length}
 use borrow.Author.Tests.{eqb-true}
 use Rattle.base.specs.Logic.{and-left, and-right}
-use Rattle.packing.specs.Words.{Bytes}
 use Rattle.rules.specs.WellFormed.{blocksFormed, setsFormed}
 use Rattle.tables.proofs.PackUnpack.{pack-unpack, unpack-fits, unpack-pack}
 use Rattle.tables.proofs.PackedTables.{packed-of}
 use Rattle.tables.specs.Layout.{tableBytes}
-use Rattle.tables.specs.OneReading.{OneReading}
+use Rattle.tables.specs.OneReading.{OneReadingClaim}
 use Rattle.tables.specs.Packed.{blockRules, fieldsFormed, kindsFormed, setRules, unpack, wellFormed}
 use Rattle.tables.specs.Views.{PackedTables}
 
@@ -28,7 +27,7 @@ formed-packed t n h =
     (and-left (fieldsFormed t) (setsFormed (unpack t)) (and-right (blockRules t n) (setRules t) h))
 
 -- THEOREM
-pub one-reading : (t : List ℕ) (n : ℕ) → Bytes t → wellFormed t n ≡ true → OneReading t
+pub one-reading : OneReadingClaim
 one-reading t n bs h = record {
   same = pack-unpack t (formed-packed t n h) bs;
   fits = unpack-fits t bs;

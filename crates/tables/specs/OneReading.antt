@@ -1,10 +1,11 @@
 -- The states that the tables can hold, and what it means that tables are read to exactly one of them. Demand 2.
-use mathlib.Core.Bool.{false}
+use mathlib.Core.Bool.{false, true}
 use mathlib.Core.List.{List}
 use mathlib.Core.Path.{_≡_}
 use Prim.Native.Nat.{_<_, ℕ, _≤_}
+use Rattle.packing.specs.Words.{Bytes}
 use Rattle.rules.specs.State.{Entry, SetRecord, Tables, absent, hole, largestBlocks, setCount, stored, unmapped, unusedSet}
-use Rattle.tables.specs.Packed.{isFile, isPage, pack, unpack}
+use Rattle.tables.specs.Packed.{isFile, isPage, pack, unpack, wellFormed}
 
 -- the block of an entry fits its field of 14 bits
 abbrev pub blockFits : Entry ℕ → Type 0
@@ -37,3 +38,7 @@ pub record OneReading (t : List ℕ) : Type 0 where
   pub same : pack (unpack t) ≡ t
   pub fits : Fits (unpack t)
   pub only : (tb : Tables) → Fits tb → pack tb ≡ t → tb ≡ unpack t
+
+-- DEMAND 2: all tables that are well formed, with pages of whatever length, are read to one state
+abbrev pub OneReadingClaim : Type 0
+OneReadingClaim = (t : List ℕ) (pagesLength : ℕ) → Bytes t → wellFormed t pagesLength ≡ true → OneReading t
