@@ -3,6 +3,7 @@
 import os
 import random
 import re
+import shutil
 import subprocess
 import sys
 import tempfile
@@ -511,6 +512,21 @@ class Cited(unittest.TestCase):
         text = read("docs", "ARCHITECTURE.md")
         self.wrong(cited.architecture_troubles(text.replace("`Update`, ", "", 1)), "specs/ of crate base has Update too")
         self.wrong(cited.architecture_troubles(text.replace("`Update`", "`Update`, `Updates`", 1)), "specs/ of crate base has no Updates")
+
+    def test_definitions_of_packing_unfolded_above_it(self):
+        text = read("docs", "ARCHITECTURE.md")
+        self.wrong(cited.unfold_troubles(text.replace(", `masks/proofs/Tracks`", "", 1)), "masks/proofs/Tracks unfolds bit, and no row says so")
+        found = cited.unfold_troubles(text.replace("`masks/proofs/Tracks`", "`masks/proofs/Tracks`, `maps/proofs/Shown`", 1))
+        self.wrong(found, "maps/proofs/Shown does not unfold bit")
+
+    def test_edits_kit_and_outcomes(self):
+        text = read("docs", "PROMISES.md")
+        self.wrong(cited.edit_troubles(text.replace("`copies_late`", "`copies_later`")), "there is no edit copies_later")
+        if shutil.which("rt"):
+            self.wrong(cited.kit_troubles(re.sub(r"logic [0-9a-f]{16}", "logic 0", text)), "the logic of this kit is")
+        with_outcome, without = sources.read_rt(CODE.replace("fn one", "pub fn one"))
+        self.assertFalse(cited.lacks_outcome(with_outcome))
+        self.assertTrue(cited.lacks_outcome(without))
 
     def test_what_must_be_believed_is_closed(self):
         text = read("docs", "PROMISES.md")

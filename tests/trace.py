@@ -3,7 +3,9 @@
 
 - docs/TRACE.md: every `crate/file: name`, function, must-fail edit, test and heading that a row cites exists.
 - README, tests/README and the documents of docs/: every path in them exists, and the names that stand after a file or a crate are in it.
-- docs/ARCHITECTURE.md: each crate has a row with its modules; the table of what is shown of the rules has the modules of each folder.
+- docs/ARCHITECTURE.md: each crate has a row with its modules; the table of what is shown of the rules has the modules of each folder;
+  the table of definitions of packing that are unfolded above it is whole.
+- docs/PROMISES.md names the logic of the kit that is at hand, and edits that are there. Every public function has an `ensures`.
 - docs/PROMISES.md, "What must be believed": the table of files is closed under what their definitions use, each file after those that
   it uses, with the right number of lines; the general definitions and the notions of the kit are just those that are used besides.
 Exit status: 0 all well, 1 not. Each trouble is a line.
@@ -12,6 +14,8 @@ import functools
 import glob
 import os
 import re
+import shutil
+import subprocess
 import sys
 
 sys.dont_write_bytecode = True
@@ -270,6 +274,55 @@ def architecture_troubles(text):
     return troubles
 
 
+def unfolded(crate):
+    """(definition, module) wherever a definition of a crate is unfolded by name in another"""
+    found = set()
+    for path in sorted(glob.glob(os.path.join(ROOT, "crates/*/*/**/*.antt"), recursive=True)):
+        path = os.path.relpath(path, os.path.join(ROOT, "crates"))
+        if path.startswith(crate + "/"):
+            continue
+        names = Uses.imports(path)[0]
+        for d in declared(path):
+            mine = [names[name] for name in d.unfolds if name in names]
+            found |= {(name, path[: -len(".antt")]) for module, name in mine if re.match(rf"Rattle\.{crate}\.", module)}
+    return found
+
+
+def unfold_troubles(text):
+    """the table of docs/ARCHITECTURE.md that says where definitions of packing are unfolded above it"""
+    part = text.partition("\n## Where things stand\n")[2].partition("\n## ")[0]
+    rows = re.findall(r"^\| [^|`]+ \| ((?:`[^`]+`(?:, )?)+) \| ((?:`[^`]+`(?:, )?)+) \|$", part, re.M)
+    told = {(name, module) for names, modules in rows for name in quoted(names) for module in quoted(modules)}
+    there = unfolded("packing")
+    start = "docs/ARCHITECTURE.md, Where things stand:"
+    return [f"{start} {module} unfolds {name}, and no row says so" for name, module in sorted(there - told)] + [
+        f"{start} {module} does not unfold {name}" for name, module in sorted(told - there)
+    ]
+
+
+# ---- contracts and edits
+
+
+def contract_troubles():
+    """a public function without an `ensures`"""
+    found = []
+    for path in sorted(glob.glob(os.path.join(ROOT, "crates/*/src/**/*.rt"), recursive=True)):
+        path = os.path.relpath(path, os.path.join(ROOT, "crates"))
+        found += [f"crates/{path}: {d.name} is public and has no ensures" for d in declared(path) if lacks_outcome(d)]
+    return found
+
+
+def lacks_outcome(d):
+    return d.kind == "fn" and d.public and " ensures " not in d.statement
+
+
+def edit_troubles(promises):
+    """docs/PROMISES.md, "It can fail": the edits of the rules"""
+    part = promises.partition("\n## It can fail\n")[2].partition("\n## ")[0]
+    names = [name for cell in re.findall(r"^\| ((?:`\w+`(?:, )?)+) \|", part, re.M) for name in quoted(cell)]
+    return [f"docs/PROMISES.md: there is no edit {name} of rules" for name in names if not edit_file("rules", name)]
+
+
 # ---- docs/PROMISES.md, "What must be believed"
 
 
@@ -367,12 +420,21 @@ def believed_troubles(promises):
     return troubles
 
 
+def kit_troubles(promises):
+    """the logic of the kit at hand is the one that docs/PROMISES.md names"""
+    if not shutil.which("rt"):
+        return []
+    logic = subprocess.run(["rt", "version"], capture_output=True, text=True, check=True).stdout.split()[-1]
+    return [] if f"logic {logic}" in promises else [f"docs/PROMISES.md: the logic of this kit is {logic}"]
+
+
 def main():
     troubles, rows, cited = trace_troubles(read("docs/TRACE.md"))
     for document in DOCUMENTS:
         troubles += path_troubles(document, read(document))
-    troubles += architecture_troubles(read("docs/ARCHITECTURE.md"))
-    troubles += believed_troubles(read("docs/PROMISES.md"))
+    troubles += architecture_troubles(read("docs/ARCHITECTURE.md")) + unfold_troubles(read("docs/ARCHITECTURE.md"))
+    troubles += believed_troubles(read("docs/PROMISES.md")) + edit_troubles(read("docs/PROMISES.md"))
+    troubles += kit_troubles(read("docs/PROMISES.md")) + contract_troubles()
     for trouble in troubles:
         print(trouble)
     print(f"trace: {rows} rows cite {cited} things; {len(DOCUMENTS)} documents; {len(troubles)} troubles")
