@@ -5,7 +5,8 @@
 - README, tests/README and the documents of docs/: every path in them exists, and the names that stand after a file or a crate are in it.
 - docs/ARCHITECTURE.md: each crate has a row with its modules; the table of what is shown of the rules has the modules of each folder;
   the table of definitions of packing that are unfolded above it is whole.
-- docs/PROMISES.md names the logic of the kit that is at hand, and edits that are there. Every public function has an `ensures`.
+- docs/PROMISES.md names the logic of the kit that is at hand, and edits that are there. The claims (history/specs/Claims) are inhabited
+  by a theorem of just that type. Every public function has an `ensures`.
 - docs/PROMISES.md, "What must be believed": the table of files is closed under what their definitions use, each file after those that
   it uses, with the right number of lines; the general definitions and the notions of the kit are just those that are used besides.
 Exit status: 0 all well, 1 not. Each trouble is a line.
@@ -330,7 +331,7 @@ class Uses:
     """the definitions that those of some files use, directly or by way of others"""
 
     def __init__(self, files):
-        self.files, self.found, self.kit, self.pairs = files, set(), set(), set()
+        self.files, self.found, self.kit, self.pairs, self.lost = files, set(), set(), set(), set()
         for path in files:
             for d in declared(path):
                 if d.kind != "law":
@@ -374,12 +375,12 @@ class Uses:
         crate, folder, inner = ours.groups()
         code = re.match(r"declared\.(?:(\w+)\.)?(\w+)", inner)
         place = f"{crate}/src/{code.group(1) or 'lib'}.rt" if code else f"{crate}/{folder}/{inner.replace('.', '/')}.antt"
-        for other in declared(place):
-            if name == other.name or name in other.members:
-                self.pairs.add((path, place))
-                self.follow(place, other)
-                return
-        raise ValueError(f"{path}, {d.name}: {module} has no {name}")
+        found = [other for other in (declared(place) if source(place) else ()) if name == other.name or name in other.members]
+        if not found:
+            self.lost.add(f"{path}: {d.name} uses {name}, which {place} does not have")
+            return
+        self.pairs.add((path, place))
+        self.follow(place, found[0])
 
 
 # notions of the kit that every reader knows, or that the prelude has
@@ -404,6 +405,7 @@ def believed_troubles(promises):
     if not together or int(together.group(1)) != total:
         troubles.append(f"{document}: together they are {total} lines")
     uses = Uses(files)
+    troubles += sorted(uses.lost)
     listed = {(path, name) for path, names in general.items() for name in names}
     besides = {(path, name) for path, name in uses.found if path not in files}
     troubles += [f"{document}: {path}: {name} is used and not listed" for path, name in sorted(besides - listed)]
@@ -420,6 +422,14 @@ def believed_troubles(promises):
     return troubles
 
 
+def claim_troubles():
+    """the theorem that inhabits the closed claims, with no parameter and no hypothesis"""
+    place = "history/proofs/Claims.antt"
+    right = Uses.imports(place)[0].get("Claims") == ("Rattle.history.specs.Claims", "Claims")
+    stated = any(d.statement == "pub claims : Claims" for d in declared(place))
+    return [] if right and stated else [f"crates/{place}: there is no 'pub claims : Claims'"]
+
+
 def kit_troubles(promises):
     """the logic of the kit at hand is the one that docs/PROMISES.md names"""
     if not shutil.which("rt"):
@@ -434,7 +444,7 @@ def main():
         troubles += path_troubles(document, read(document))
     troubles += architecture_troubles(read("docs/ARCHITECTURE.md")) + unfold_troubles(read("docs/ARCHITECTURE.md"))
     troubles += believed_troubles(read("docs/PROMISES.md")) + edit_troubles(read("docs/PROMISES.md"))
-    troubles += kit_troubles(read("docs/PROMISES.md")) + contract_troubles()
+    troubles += kit_troubles(read("docs/PROMISES.md")) + contract_troubles() + claim_troubles()
     for trouble in troubles:
         print(trouble)
     print(f"trace: {rows} rows cite {cited} things; {len(DOCUMENTS)} documents; {len(troubles)} troubles")
