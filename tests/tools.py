@@ -415,9 +415,10 @@ class Moved(unittest.TestCase):
     def line(self, start, *arguments):
         return next(line for line in self.moved(*arguments).split("\n") if line.strip().startswith(start + ":"))
 
-    def test_comments_and_layout_do_not_count(self):
+    def test_comments_layout_and_marks_do_not_count(self):
         self.put("crates/low/specs/Rules.antt", RULES.replace("-- twice a number\n", "").replace("twice n = n + n", "twice n =\n    n + n"))
-        self.put("crates/low/src/lib.rt", CODE.replace("    1\n", "    // one\n    1\n"))
+        self.put("crates/low/proofs/Laws.antt", LAWS.replace("pub twice-zero", "twice-zero"))
+        self.put("crates/low/src/lib.rt", CODE.replace("    1\n", "    // one\n    1\n").replace("pub fn", "fn"))
         said = self.moved("HEAD")
         self.assertIn("definitions that must be believed: 0 added, 0 changed, 0 removed, 0 moved, 3 kept", said)
         self.assertIn("contracts that must be believed: 0 added, 0 changed, 0 removed, 0 moved, 2 kept", said)
@@ -459,6 +460,12 @@ class Moved(unittest.TestCase):
         self.assertIn("  removed: low/proofs/Laws: twice-zero\n", said)
         self.put("crates/high/specs/Pairs.antt", RULES[RULES.index("pub record") :].replace("left", "first"))
         self.assertIn("  moved and changed: low/specs/Rules -> high/specs/Pairs: Pair\n", self.moved("--all", "HEAD"))
+
+    def test_clauses_of_a_contract_on_several_lines(self):
+        clause = "ensures { λ r. ⌜ r ≡ twice n ⌝ }"
+        self.put("crates/low/src/lib.rt", CODE.replace(clause, "ensures {\n        λ r. ⌜ r ≡ twice n ⌝\n    }"))
+        said = self.moved("HEAD")
+        self.assertIn("contracts that must be believed: 0 added, 0 changed, 0 removed, 0 moved, 2 kept", said)
 
     def test_bad_usage(self):
         for arguments in ((), ("HEAD", "HEAD", "HEAD"), ("--some", "HEAD"), ("no-such-revision",)):

@@ -426,7 +426,7 @@ def claim_troubles():
     """the theorem that inhabits the closed claims, with no parameter and no hypothesis"""
     place = "history/proofs/Claims.antt"
     right = Uses.imports(place)[0].get("Claims") == ("Rattle.history.specs.Claims", "Claims")
-    stated = any(d.statement == "pub claims : Claims" for d in declared(place))
+    stated = any(d.public and d.statement == "claims : Claims" for d in declared(place))
     return [] if right and stated else [f"crates/{place}: there is no 'pub claims : Claims'"]
 
 

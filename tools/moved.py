@@ -2,7 +2,8 @@
 """moved.py [--all] BEFORE [AFTER]: which definitions, contracts, theorems and proofs were added, changed, removed, moved and kept.
 
 BEFORE and AFTER are git revisions; without AFTER it is the working tree. What must be believed (docs/PROMISES.md of either side) is
-told by name, the rest by count; --all lists every name that is not kept. Comments and layout do not count, nor do `use` lines.
+told by name, the rest by count; --all lists every name that is not kept. Comments and layout do not count, nor do `use` lines and the
+marks `pub`, `abbrev` and `unfoldable`.
 
   definition  data types, records and functions of specs/ (and of proofs/, told apart); changed: its type or its clauses
   contract    a function's signature, requires and ensures; code: its body

@@ -11,7 +11,7 @@ import re
 Declaration = collections.namedtuple("Declaration", "name kind public statement body members unfolds")
 
 SIGNATURE = re.compile(r"((?:unfoldable |abbrev |pub |axiom )*)([^\s:(){}.;,@\"]+)((?: \{[^}]*\})?) : (.*)", re.S)
-BLOCK = re.compile(r"((?:unfoldable |abbrev |pub )*)(data|record) (\S+)(.*)", re.S)
+BLOCK = re.compile(r"((?:pub )?)(data|record) (\S+)(.*)", re.S)
 
 
 def without_comments(text, mark):
@@ -44,12 +44,12 @@ def items(lines):
     return found
 
 
-def is_law(marks, name):
-    """a fact and not a notion: neither `abbrev` nor `unfoldable`, and named as laws are here, with a hyphen or a question mark"""
-    return not re.search(r"abbrev|unfoldable", marks) and bool(re.search(r"[^-]-[^-]|\?$", name))
+def is_law(marks, name, proofs):
+    """a fact and not a notion: neither `abbrev` nor `unfoldable`; in specs/ it is named as laws are, with a hyphen or a question mark"""
+    return not re.search(r"abbrev|unfoldable", marks) and (proofs or bool(re.search(r"-|\?$", name)))
 
 
-def block_members(kind, lines):
+def block_members(lines):
     """constructors of a data type, fields of a record"""
     found = []
     for line in lines[1:]:
@@ -59,66 +59,60 @@ def block_members(kind, lines):
     return tuple(found)
 
 
-def read_antt(text, proofs=False):
-    """the declarations of a logic module, in order; one inside `module _ (..) where` has the block's parameters in its statement
+class Module:
+    """a logic module as it is read, item by item"""
 
-    In a module of proofs (proofs=True) all that is neither `abbrev` nor `unfoldable` is a law.
-    """
-    found = []
+    def __init__(self, text, proofs):
+        self.proofs, self.found = proofs, []
+        self.block(without_comments(text, "--").split("\n"), [])
 
-    def block(lines, context):
-        current = None  # [name, kind, public, statement, body, members, unfolds]
-
-        def close():
-            nonlocal current
-            if current:
-                name, kind, public, statement, body, members, unfolds = current
-                found.append(Declaration(name, kind, public, squeeze(statement), squeeze(" ; ".join(body)), members, tuple(unfolds)))
-            current = None
-
+    def block(self, lines, context):
+        """context: the heads of the blocks around, with their parameters"""
+        self.closed = True
         for item in items(lines):
-            whole = "\n".join(item)
-            flat = squeeze(whole)
-            first = flat.split(" ")[0]
-            if first in ("use", "mod") or re.match(r"pub (use|mod) |unfoldable pub use ", flat):
-                continue
-            if re.match(r"(unfoldable |abbrev )?mutual$|(unfoldable |abbrev )?mutual ", flat):
-                close()
-                block(item[1:], context)
-                continue
-            if first == "module":
-                close()
-                end = next(i for i, line in enumerate(item) if squeeze(line).endswith("where"))
-                head = squeeze("\n".join(item[: end + 1]))
-                block(item[end + 1 :], context + [head])
-                continue
-            typed = BLOCK.match(flat)
-            if typed:
-                close()
-                marks, kind, name, _ = typed.groups()
-                statement = " ".join(context + [flat])
-                current = [name, kind, "pub" in marks, statement, [], block_members(kind, item), []]
-                close()
-                continue
-            signed = SIGNATURE.match(flat)
-            if signed and first != "unfolding":
-                close()
-                marks, name, levels, kind_of = signed.groups()
-                law = is_law(marks, "-?" if proofs else name)
-                statement = " ".join(context + [marks + name + levels + " : " + kind_of])
-                current = [name, "law" if law else "definition", "pub" in marks, statement, [], (), []]
-                continue
-            if current is None:
-                continue  # a line of the module itself: infix, open
-            if first == "unfolding":
-                current[6] += flat.split(" ")[1:]
-            else:
-                current[6] += [n for m in re.finditer(r"\bunfold ((?:\S+ )+?)in\b", flat) for n in m.group(1).split()]
-            current[4].append(flat)
-        close()
+            self.item(item, squeeze("\n".join(item)), context)
 
-    block(without_comments(text, "--").split("\n"), [])
-    return found
+    def item(self, item, flat, context):
+        if re.match(r"(pub |unfoldable pub )?(use|mod) |open |infix", flat):
+            return
+        inner = re.match(r"((unfoldable |abbrev )*mutual)\b|module ", flat)
+        if inner:
+            end = 0 if inner.group(1) else next(i for i, line in enumerate(item) if squeeze(line).endswith("where"))
+            self.block(item[end + 1 :], context + [squeeze("\n".join(item[: end + 1]))])
+            self.closed = True
+            return
+        typed = BLOCK.match(flat)
+        if typed:
+            self.add(typed[3], typed[2], typed[1], context + [f"{typed[2]} {typed[3]}{typed[4]}"], block_members(item))
+            self.closed = True
+            return
+        signed = SIGNATURE.match(flat)
+        if signed:
+            marks, name, levels, type_text = signed.groups()
+            kind = "law" if is_law(marks, name, self.proofs) else "definition"
+            self.add(name, kind, marks, context + [f"{name}{levels} : {type_text}"], ())
+        elif not self.closed:
+            self.clause(flat)
+
+    def add(self, name, kind, marks, statement, members):
+        self.found.append(Declaration(name, kind, "pub" in marks, " ".join(statement), "", members, ()))
+        self.closed = False
+
+    def clause(self, flat):
+        """one more line of the declaration that is read: its `unfolding` line or a clause"""
+        if flat.startswith("unfolding "):
+            opened = flat.split(" ")[1:]
+        else:
+            opened = [name for m in re.finditer(r"\bunfold ((?:\S+ )+?)in\b", flat) for name in m.group(1).split()]
+        last = self.found.pop()
+        body = f"{last.body} ; {flat}" if last.body else flat
+        self.found.append(last._replace(body=body, unfolds=last.unfolds + tuple(opened)))
+
+
+def read_antt(text, proofs=False):
+    """the declarations of a logic module, in order, without their marks; one inside `module _ (..) where` has the block's parameters
+    in its statement"""
+    return Module(text, proofs).found
 
 
 def uses(text, mark="use"):
@@ -138,63 +132,52 @@ def uses(text, mark="use"):
     return found
 
 
-FUNCTION = re.compile(r"((?:#\[[^\]]*\]\s*)*)(pub )?(?:extern \"C\" )?fn (\w+)")
+FUNCTION = re.compile(r"((?:#\[[^\]]*\] )*)(pub )?((?:extern \"C\" )?fn (\w+).*)", re.S)
+TYPE = re.compile(r"((?:#\[[^\]]*\] )*)(pub )?((struct|enum|const) (\w+).*)", re.S)
 
 
 def code_items(lines):
-    """top-level items of code: an item ends where its braces have closed, or at a ';'"""
-    found, current, depth = [], [], 0
+    """the items of a file or of an `impl`: each ends at its own column, with a brace or a semicolon"""
+    found, current = [], []
     for line in lines:
         if not line.strip():
             continue
         current.append(line)
-        bare = re.sub(r"b?\"(?:[^\"\\]|\\.)*\"|'(?:[^'\\]|\\.)'", "", line)
-        depth += bare.count("{") + bare.count("(") + bare.count("[") - bare.count("}") - bare.count(")") - bare.count("]")
-        ends = line.rstrip().endswith((";", "}"))
-        if depth == 0 and ends and not (re.match(r"\s*(requires|ensures)\b", line) or line.strip().startswith("#[")):
+        if indent(line) == indent(current[0]) and line.rstrip().endswith((";", "}")):
             found.append(current)
             current = []
-    if current:
-        found.append(current)
     return found
 
 
+def read_function(item, prefix):
+    """what stands before the body's brace is the contract"""
+    alone = [i for i, line in enumerate(item) if line.rstrip() == " " * indent(item[0]) + "{"]
+    cut = alone[0] if alone else next(i for i, line in enumerate(item) if line.rstrip().endswith("{"))
+    head = squeeze("\n".join(item[: cut + 1])).rstrip("{ ")
+    marks, public, statement, name = FUNCTION.match(head).groups()
+    return Declaration(prefix + name, "fn", bool(public), marks + statement, squeeze("\n".join(item[cut + 1 : -1])), (), ())
+
+
+def read_type(flat):
+    marks, public, statement, kind, name = TYPE.match(flat).groups()
+    inside = re.search(r"\{(.*)\}", statement) if kind != "const" else None
+    bare = re.sub(r"\([^()]*\)|\{[^{}]*\}", "", inside.group(1)) if inside else ""
+    members = tuple(re.findall(r"(?:^|,)\s*(?:pub )?(\w+)", bare))
+    return Declaration(name, kind, bool(public), marks + statement, "", members, ())
+
+
 def read_rt(text):
-    """functions with contract and body, structs, enums and constants; functions of `impl T` are named T::f"""
+    """functions with contract and body, structs, enums and constants, without `pub`; functions of `impl T` are named T::f"""
     found = []
-
-    def function(item, prefix):
-        column = indent(item[0])
-        cut = next((i for i, line in enumerate(item) if line.rstrip() == " " * column + "{"), None)
-        flat = squeeze("\n".join(item))
-        name = FUNCTION.match(flat).group(3)
-        if cut is None:  # the body begins on the line of the signature
-            opening = next(i for i, line in enumerate(item) if line.rstrip().endswith("{"))
-            head = item[: opening + 1]
-            statement, body = squeeze("\n".join(head)).rstrip("{ "), item[opening + 1 : -1]
-        else:
-            statement, body = squeeze("\n".join(item[:cut])), item[cut + 1 : -1]
-        found.append(Declaration(prefix + name, "fn", bool(FUNCTION.match(flat).group(2)), statement, squeeze("\n".join(body)), (), ()))
-
     for item in code_items(without_comments(text, "//").split("\n")):
         flat = squeeze("\n".join(item))
-        if FUNCTION.match(flat):
-            function(item, "")
-            continue
         owner = re.match(r"impl (\w+)", flat)
         if owner:
-            for inner in code_items(item[1:-1]):
-                if FUNCTION.match(squeeze("\n".join(inner))):
-                    function(inner, owner.group(1) + "::")
-            continue
-        typed = re.match(r"(?:#\[[^\]]*\] )*(pub )?(struct|enum|const) (\w+)", flat)
-        if typed:
-            members = ()
-            if typed.group(2) != "const":
-                inside = re.search(r"\{(.*)\}", flat)
-                bare = re.sub(r"\([^()]*\)|\{[^{}]*\}", "", inside.group(1)) if inside else ""
-                members = tuple(re.findall(r"(?:^|,)\s*(?:pub )?(\w+)", bare))
-            found.append(Declaration(typed.group(3), typed.group(2), bool(typed.group(1)), flat, "", members, ()))
+            found += [read_function(inner, owner.group(1) + "::") for inner in code_items(item[1:-1])]
+        elif FUNCTION.match(flat):
+            found.append(read_function(item, ""))
+        elif TYPE.match(flat):
+            found.append(read_type(flat))
     return found
 
 
