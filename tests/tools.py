@@ -513,6 +513,7 @@ class Cited(unittest.TestCase):
         self.assertEqual(cited.path_troubles("docs/X.md", right), [])
         self.wrong(cited.path_troubles("docs/X.md", right.replace("BecomesMarked", "BecomeMarked")), "has no BecomeMarked")
         self.wrong(cited.path_troubles("docs/X.md", right.replace("*.edit", "*.edits")), "there is no must-fail/*.edits")
+        self.wrong(cited.path_troubles("docs/X.md", "see docs/TRACES.md."), "there is no docs/TRACES.md")
         self.wrong(cited.path_troubles("docs/X.md", right.replace("first_free", "first")), "crate packing has no bitmap::first")
 
     def test_architecture_that_leaves_out_a_module(self):

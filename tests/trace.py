@@ -213,10 +213,11 @@ def glob_text(path, start):
 
 
 def path_troubles(document, text):
-    """paths in backquotes, and the names that follow them"""
+    """paths in backquotes or below a folder of the repository, and the names that follow them"""
     troubles = []
     text = re.sub(r"^```.*?^```", "", text, flags=re.S | re.M)
-    for path in re.findall(r"`([\w.*+-]+/[\w./*+-]*)`", text):
+    bare = re.findall(r"(?<![\w/.`+*-])((?:docs|tests|tools|bench|examples|include|oracle|crates|\.ci)/[\w./*-]*\w)", text)
+    for path in re.findall(r"`([\w.*+-]+/[\w./*+-]*)`", text) + bare:
         if not exists(path, re.match(r"(\w+/)?", document).group(0)):
             troubles.append(f"{document}: there is no {path}")
     # `file.antt`: `name`, `name` and `file.antt` (`name`)
