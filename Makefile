@@ -3,7 +3,8 @@
 #   make examples  the programs of examples/ against the package, run, their output compared
 #   make clean     removes dist/
 # The archive is made by the Rattle kit (rt); it is made again when the code of a crate has changed.
-VERSION = 0.1.0
+# The version is the header's.
+VERSION := $(shell sed -n 's/^.define SWEEP_VERSION "\(.*\)"$$/\1/p' include/sweep.h)
 ARCHIVE = target/staticlib/libsweep.a
 WARNINGS = -std=c99 -Wall -Wextra -Wpedantic -Werror
 PACKAGE = $(CURDIR)/dist

@@ -25,6 +25,12 @@
 extern "C" {
 #endif
 
+/* Version of the package (CHANGELOG.md says what changed): as text, and as three numbers for #if */
+#define SWEEP_VERSION "0.1.0"
+#define SWEEP_VERSION_MAJOR 0
+#define SWEEP_VERSION_MINOR 1
+#define SWEEP_VERSION_PATCH 0
+
 /* Sizes */
 #define SWEEP_TABLES_BYTES 17436u   /* the tables */
 #define SWEEP_PAGE_BYTES 512u       /* a page, and a block */

@@ -1,8 +1,9 @@
 #!/usr/bin/env python3
-"""Tests of tools/calls.py, tools/picture.py and the readers of session files. Run: python3 tests/tools.py"""
+"""Tests of tools/calls.py, tools/picture.py, tools/moved.py, tests/trace.py and the readers of session files. Run: python3 tests/tools.py"""
 import os
 import random
 import re
+import shutil
 import subprocess
 import sys
 import tempfile
@@ -16,6 +17,8 @@ import random_session  # noqa: E402
 import session_files as files  # noqa: E402
 from session_files import ROOT, calls  # noqa: E402
 import picture  # noqa: E402
+import sources  # noqa: E402
+import trace as cited  # noqa: E402  (tests/trace.py)
 
 WORKED_TEXT = """\
 create set 0 file 0
@@ -324,6 +327,228 @@ class SessionPrograms(unittest.TestCase):
         self.assertIn("line 2: the program has 'file 0 0 1 9'; the second implementation 'file 0 0 1 0'", ran.stdout)
         self.assertEqual(self.run_test("compare-sessions", "no-such-program", oracle).returncode, 2)
         self.assertEqual(self.run_test("compare-sessions", oracle).returncode, 2)
+
+
+PROMISES = """\
+## What must be believed
+
+| file | says | lines |
+|---|---|---|
+| `low/specs/Rules.antt` | rules | 12 |
+| `low/src/lib.rt` | contracts | 9 |
+| | together | 21 |
+"""
+RULES = """\
+-- What is believed.
+use Prim.Native.Nat.{ℕ, _+_}
+
+-- twice a number
+unfoldable pub twice : ℕ → ℕ
+twice n = n + n
+
+module _ (k : ℕ) where
+  abbrev pub more : ℕ → ℕ
+  more n = n + k
+
+pub record Pair : Type 0 where
+  pub left : ℕ
+  pub right : ℕ
+"""
+LAWS = """\
+pub twice-zero : twice 0 ≡ 0
+unfolding twice
+twice-zero = refl
+
+pub more-zero : (k : ℕ) → more k 0 ≡ k
+more-zero k = refl
+
+abbrev helper : ℕ
+helper = 3
+"""
+CODE = """\
+pub fn double(n: u32) -> u64
+    ensures { λ r. ⌜ r ≡ twice n ⌝ }
+{
+    n as u64 + n as u64
+}
+
+fn one() -> u32 {
+    1
+}
+"""
+
+
+class Moved(unittest.TestCase):
+    """tools/moved.py on a repository of two crates"""
+
+    def setUp(self):
+        folder = tempfile.TemporaryDirectory()
+        self.addCleanup(folder.cleanup)
+        self.root = folder.name
+        self.git("init", "--quiet")
+        self.put("docs/PROMISES.md", PROMISES)
+        self.put("crates/low/specs/Rules.antt", RULES)
+        self.put("crates/low/proofs/Laws.antt", LAWS)
+        self.put("crates/low/src/lib.rt", CODE)
+        self.commit()
+
+    def git(self, *arguments):
+        who = ("-c", "user.name=test", "-c", "user.email=test@localhost")
+        subprocess.run(["git", "-C", self.root, *who, *arguments], check=True, capture_output=True)
+
+    def commit(self):
+        self.git("add", "--all")
+        self.git("commit", "--quiet", "--message", "step")
+
+    def put(self, path, text):
+        path = os.path.join(self.root, path)
+        os.makedirs(os.path.dirname(path), exist_ok=True)
+        with open(path, "w", encoding="utf-8") as file:
+            file.write(text)
+
+    def moved(self, *arguments):
+        command = [sys.executable, os.path.join(ROOT, "tools", "moved.py"), *arguments]
+        ran = subprocess.run(command, cwd=self.root, capture_output=True, text=True)
+        self.assertEqual(ran.returncode, 0, ran.stderr)
+        return ran.stdout
+
+    def line(self, start, *arguments):
+        return next(line for line in self.moved(*arguments).split("\n") if line.strip().startswith(start + ":"))
+
+    def test_comments_layout_and_marks_do_not_count(self):
+        self.put("crates/low/specs/Rules.antt", RULES.replace("-- twice a number\n", "").replace("twice n = n + n", "twice n =\n    n + n"))
+        self.put("crates/low/proofs/Laws.antt", LAWS.replace("pub twice-zero", "twice-zero"))
+        self.put("crates/low/src/lib.rt", CODE.replace("    1\n", "    // one\n    1\n").replace("pub fn", "fn"))
+        said = self.moved("HEAD")
+        self.assertIn("definitions that must be believed: 0 added, 0 changed, 0 removed, 0 moved, 3 kept", said)
+        self.assertIn("contracts that must be believed: 0 added, 0 changed, 0 removed, 0 moved, 2 kept", said)
+        self.assertIn("theorems and laws: 0 added, 0 changed, 0 removed, 0 moved, 2 kept", said)
+        self.assertNotIn("  changed:", said)
+
+    def test_a_definition_changed(self):
+        self.put("crates/low/specs/Rules.antt", RULES.replace("twice n = n + n", "twice n = n + n + 0").replace("(k : ℕ)", "(k j : ℕ)"))
+        self.commit()
+        said = self.moved("HEAD~1", "HEAD")
+        self.assertIn("definitions that must be believed: 0 added, 2 changed, 0 removed, 0 moved, 1 kept", said)
+        self.assertIn("  changed: low/specs/Rules: more, twice\n", said)
+
+    def test_a_proof_changed_and_a_statement_changed(self):
+        self.put("crates/low/proofs/Laws.antt", LAWS.replace("more-zero k = refl", "more-zero k = sym refl"))
+        self.assertEqual(self.line("theorems and laws", "HEAD")[-6:], "2 kept")
+        self.assertIn("1 changed", self.line("proofs", "HEAD"))
+        self.assertIn("1 changed", self.line("proofs of theorems whose statement is the same", "HEAD"))
+        self.assertIn("changed: low/proofs/Laws: more-zero", self.moved("--all", "HEAD"))
+        self.put("crates/low/proofs/Laws.antt", LAWS.replace("more k 0 ≡ k", "more 0 k ≡ k"))
+        self.assertIn("1 changed", self.line("theorems and laws", "HEAD"))
+        self.assertIn("0 changed", self.line("proofs of theorems whose statement is the same", "HEAD"))
+
+    def test_a_contract_changed_and_code_changed(self):
+        self.put("crates/low/src/lib.rt", CODE.replace("r ≡ twice n", "twice n ≡ r"))
+        self.assertIn("  changed: low/src/lib: double\n", self.moved("HEAD"))
+        self.put("crates/low/src/lib.rt", CODE.replace("    1\n", "    0 + 1\n"))
+        said = self.moved("HEAD")
+        self.assertIn("contracts that must be believed: 0 added, 0 changed, 0 removed, 0 moved, 2 kept", said)
+        self.assertIn("code of these contracts that must be believed: 0 added, 1 changed", said)
+
+    def test_moved_removed_and_added(self):
+        self.put("crates/low/specs/Rules.antt", RULES[: RULES.index("pub record")])
+        self.put("crates/high/specs/Pairs.antt", RULES[RULES.index("pub record") :] + "\npub data Side : Type 0 where\n  near far : Side\n")
+        self.put("crates/low/proofs/Laws.antt", LAWS[LAWS.index("pub more-zero") :])
+        said = self.moved("--all", "HEAD")
+        self.assertIn("  moved: low/specs/Rules -> high/specs/Pairs: Pair\n", said)
+        self.assertIn("  added: high/specs/Pairs: Side\n", said)
+        self.assertIn("  removed: low/proofs/Laws: twice-zero\n", said)
+        self.put("crates/high/specs/Pairs.antt", RULES[RULES.index("pub record") :].replace("left", "first"))
+        self.assertIn("  moved and changed: low/specs/Rules -> high/specs/Pairs: Pair\n", self.moved("--all", "HEAD"))
+
+    def test_clauses_of_a_contract_on_several_lines(self):
+        clause = "ensures { λ r. ⌜ r ≡ twice n ⌝ }"
+        self.put("crates/low/src/lib.rt", CODE.replace(clause, "ensures {\n        λ r. ⌜ r ≡ twice n ⌝\n    }"))
+        said = self.moved("HEAD")
+        self.assertIn("contracts that must be believed: 0 added, 0 changed, 0 removed, 0 moved, 2 kept", said)
+
+    def test_bad_usage(self):
+        for arguments in ((), ("HEAD", "HEAD", "HEAD"), ("--some", "HEAD"), ("no-such-revision",)):
+            ran = subprocess.run([sys.executable, os.path.join(ROOT, "tools", "moved.py"), *arguments], cwd=self.root, capture_output=True)
+            self.assertEqual(ran.returncode, 1, arguments)
+
+
+class Cited(unittest.TestCase):
+    """tests/trace.py: what the documents cite is there, and a wrong name is found"""
+
+    def wrong(self, troubles, expected):
+        self.assertEqual(len(troubles), 1, troubles)
+        self.assertIn(expected, troubles[0])
+
+    def row(self, cell):
+        return cited.trace_troubles(f"| A1 | a sentence | {cell} |\n")[0]
+
+    def test_the_documents_are_right(self):
+        self.assertEqual(cited.main(), 0)
+
+    def test_a_row_with_a_wrong_name(self):
+        self.assertEqual(self.row("def rules/specs/State: Entry, Tables.files, stored; law packing/specs/Fields: split-join"), [])
+        self.wrong(self.row("def rules/specs/State: Entri"), "rules/specs/State.antt has no Entri")
+        self.wrong(self.row("rules/specs/State: Entri"), "rules/specs/State.antt has no Entri")
+        self.wrong(self.row("def rules/specs/State: Tables.filez"), "has no Tables.filez")
+        self.wrong(self.row("def rules/specs/Storage: real.zeroes"), "has no real.zeroes")
+        self.wrong(self.row("def rules/specs/Stat: Entry"), "there is no file rules/specs/Stat")
+        self.wrong(self.row("def packing/specs/Fields: join; law split-joins"), "has no split-joins")
+        self.wrong(self.row("def packing/specs/Fields: join and split"), "cannot read")
+        self.wrong(self.row("thm rules/proofs/Whole/Rows: rows-hold, Row: x"), "there is no file Row")
+
+    def test_a_row_with_a_wrong_function_edit_or_test(self):
+        self.assertEqual(self.row("contracts packing bitmap::first_free, bitmap::set_bit; code tables entries::Page::new"), [])
+        self.wrong(self.row("contract packing bitmap::first_fre"), "no function or type bitmap::first_fre")
+        self.wrong(self.row("contract sweep sweep_reed"), "no function or type sweep_reed")
+        self.assertEqual(self.row("edits rules/must-fail/copies_late, copies_first; edit rules/refused/copies_late"), [])
+        self.wrong(self.row("edit rules/must-fail/copies_later"), "there is no edit")
+        self.wrong(self.row("test: tests/c-packages"), "there is no tests/c-packages")
+        self.wrong(self.row('docs/DECISIONS.md, "Form"'), "has no heading 'Form'")
+        self.wrong(self.row("docs/DECISIONS.md 999"), "has no 999")
+        self.wrong(self.row("contracts of crate `sweeps`"), "there is no crate sweeps")
+
+    def test_a_document_with_a_wrong_path(self):
+        right = "`rules/specs/Marking.antt`: `BecomesMarked`; `must-fail/*.edit`, `packing`: `bitmap::first_free`"
+        self.assertEqual(cited.path_troubles("docs/X.md", right), [])
+        self.wrong(cited.path_troubles("docs/X.md", right.replace("BecomesMarked", "BecomeMarked")), "has no BecomeMarked")
+        self.wrong(cited.path_troubles("docs/X.md", right.replace("*.edit", "*.edits")), "there is no must-fail/*.edits")
+        self.wrong(cited.path_troubles("docs/X.md", "see docs/TRACES.md."), "there is no docs/TRACES.md")
+        self.wrong(cited.path_troubles("docs/X.md", right.replace("first_free", "first")), "crate packing has no bitmap::first")
+
+    def test_architecture_that_leaves_out_a_module(self):
+        text = read("docs", "ARCHITECTURE.md")
+        self.wrong(cited.architecture_troubles(text.replace("`Update`, ", "", 1)), "specs/ of crate base has Update too")
+        self.wrong(cited.architecture_troubles(text.replace("`Update`", "`Update`, `Updates`", 1)), "specs/ of crate base has no Updates")
+
+    def test_definitions_of_packing_unfolded_above_it(self):
+        text = read("docs", "ARCHITECTURE.md")
+        self.wrong(cited.unfold_troubles(text.replace(", `masks/proofs/Tracks`", "", 1)), "masks/proofs/Tracks unfolds bit, and no row says so")
+        found = cited.unfold_troubles(text.replace("`masks/proofs/Tracks`", "`masks/proofs/Tracks`, `maps/proofs/Shown`", 1))
+        self.wrong(found, "maps/proofs/Shown does not unfold bit")
+
+    def test_edits_kit_and_outcomes(self):
+        text = read("docs", "PROMISES.md")
+        self.wrong(cited.edit_troubles(text.replace("`copies_late`", "`copies_later`")), "there is no edit copies_later")
+        if shutil.which("rt"):
+            self.wrong(cited.kit_troubles(re.sub(r"logic [0-9a-f]{16}", "logic 0", text)), "the logic of this kit is")
+        with_outcome, without = sources.read_rt(CODE.replace("fn one", "pub fn one"))
+        self.assertFalse(cited.lacks_outcome(with_outcome))
+        self.assertTrue(cited.lacks_outcome(without))
+
+    def test_what_must_be_believed_is_closed(self):
+        text = read("docs", "PROMISES.md")
+        files_listed, general = sources.believed(text)
+        self.assertIn("rules/specs/State.antt", files_listed)
+        self.assertIn("upd", general["base/specs/Update.antt"])
+        self.wrong(cited.believed_troubles(text.replace("`total`, ", "")), "packing/specs/Fields.antt: total is used and not listed")
+        self.wrong(cited.believed_troubles(text.replace("`total`, ", "`total`, `Fit`, ")), "Fit is listed and not used")
+        self.wrong(cited.believed_troubles(text.replace("`eqb`, ", "")), "the kit's eqb is used and not named")
+        row = next(line for line in text.split("\n") if line.startswith("| `rules/specs/Trees.antt`"))
+        found = cited.believed_troubles(text.replace(row + "\n", ""))
+        self.assertTrue(any("addChild is used and not listed" in trouble for trouble in found), found)
+        self.wrong(cited.believed_troubles(text.replace(row, re.sub(r"\d+ \|$", "9 |", row))), "lines, not 9")
+        self.wrong(cited.believed_troubles(re.sub(r"together \| \d+", "together | 9", text)), "together they are")
 
 
 if __name__ == "__main__":
