@@ -1,5 +1,5 @@
 #!/usr/bin/env python3
-"""Tests of tools/calls.py, tools/picture.py, tools/moved.py, tests/trace.py and the readers of session files. Run: python3 tests/tools.py"""
+"""Tests of tools/calls.py, tools/picture.py, tools/moved.py, tests/trace.py, tests/places.py and the readers of session files. Run: python3 tests/tools.py"""
 import os
 import random
 import re
@@ -13,6 +13,7 @@ import xml.etree.ElementTree as xml
 sys.dont_write_bytecode = True
 HERE = os.path.dirname(os.path.abspath(__file__))
 sys.path.insert(0, HERE)
+import places  # noqa: E402
 import random_session  # noqa: E402
 import session_files as files  # noqa: E402
 from session_files import ROOT, calls  # noqa: E402
@@ -549,6 +550,37 @@ class Cited(unittest.TestCase):
         self.assertTrue(any("addChild is used and not listed" in trouble for trouble in found), found)
         self.wrong(cited.believed_troubles(text.replace(row, re.sub(r"\d+ \|$", "9 |", row))), "lines, not 9")
         self.wrong(cited.believed_troubles(re.sub(r"together \| \d+", "together | 9", text)), "together they are")
+
+
+class Places(unittest.TestCase):
+    def found(self, path, text):
+        """What is found in a file beside the laws."""
+        with tempfile.TemporaryDirectory() as root:
+            for name, content in ((places.LAWS, read(places.LAWS)), (path, text)):
+                os.makedirs(os.path.dirname(os.path.join(root, name)), exist_ok=True)
+                with open(os.path.join(root, name), "w", encoding="utf-8") as file:
+                    file.write(content)
+            return [number for _, _, number, _ in places.bare(root, places.numbers(root))]
+
+    def test_no_bare_number_stands_in_the_crates(self):
+        self.assertEqual(places.main([]), 0)
+
+    def test_each_bare_number_is_found(self):
+        told = sorted(places.numbers(ROOT).values())
+        text = "".join(f"let at = {number} + (s * 16 + f);\n" for number in told)
+        for path in ("crates/maps/src/lib.rt", "crates/maps/proofs/a/b/Proof.antt", "crates/tables/specs/Layout.antt"):
+            self.assertEqual(self.found(path, text), told, path)
+
+    def test_forms_of_a_number(self):
+        total = places.numbers(ROOT)["tableBytes"]
+        for text in (f"[0u8; {total}usize]", f"{total:#x}", f"{total:_}", f"// all {total:,} bytes", f'-- "whole" is {total}'):
+            self.assertEqual(self.found("crates/maps/src/lib.rt", text), [total], text)
+        for text in (f'// "The tables are {total:,} bytes"', f"x{total}", f"{total}0", f"1{total}", f"pair.{total}"):
+            self.assertEqual(self.found("crates/maps/src/lib.rt", text), [], text)
+
+    def test_a_law_that_is_gone_is_missed(self):
+        with self.assertRaises(SystemExit):
+            self.found(places.LAWS, "bytes-said : (tableBytes ≡ 17436)")
 
 
 if __name__ == "__main__":

@@ -14,6 +14,7 @@ use Rattle.rules.specs.Calls.{accepted, blankMemory, formatted, tablesOf}
 use Rattle.rules.specs.Numbers.{Answer, conditions, format, lowest, noCounts, numberOf, refusal}
 use Rattle.rules.specs.Storage.{real}
 use Rattle.tables.specs.Calls.{acceptedOn, callOn, formatLengths, lookedAt, outcomeOf, packPages}
+use Rattle.tables.specs.Layout.{tableBytes}
 use Rattle.tables.specs.Packed.{pack}
 use Rattle.calls.specs.declared.answer.Answer as declared
 use Rattle.tables.proofs.Lengths.{lengths-in}
@@ -31,21 +32,21 @@ zero-pages p n h =
     (λ i k. zeroed-in p 0 (length p) i (omega arith) (omega (arith, h)) (omega arith))
 
 -- LAWS: the test of the lengths, one after another
-pub lengths-tables : (n m : ℕ) → (n ≡ 17436 → ⊥) → false ≡ formatLengths n m
+pub lengths-tables : (n m : ℕ) → (n ≡ tableBytes → ⊥) → false ≡ formatLengths n m
 unfolding formatLengths
-lengths-tables n m h = rw (ne-eqb n 17436 h)
+lengths-tables n m h = rw (ne-eqb n tableBytes h)
 
-pub lengths-part : (n m : ℕ) → n ≡ 17436 → (m % 512 ≡ 0 → ⊥) → false ≡ formatLengths n m
+pub lengths-part : (n m : ℕ) → n ≡ tableBytes → (m % 512 ≡ 0 → ⊥) → false ≡ formatLengths n m
 unfolding formatLengths
-lengths-part n m a h = rw (eq-eqb n 17436 a) (rw (ne-eqb (m % 512) 0 h) refl)
+lengths-part n m a h = rw (eq-eqb n tableBytes a) (rw (ne-eqb (m % 512) 0 h) refl)
 
-pub lengths-few : (n m : ℕ) → n ≡ 17436 → m % 512 ≡ 0 → m < 512 → false ≡ formatLengths n m
+pub lengths-few : (n m : ℕ) → n ≡ tableBytes → m % 512 ≡ 0 → m < 512 → false ≡ formatLengths n m
 unfolding formatLengths
-lengths-few n m a b h = rw (eq-eqb n 17436 a) (rw (eq-eqb (m % 512) 0 b) (rw (lt-leb 512 m h) refl))
+lengths-few n m a b h = rw (eq-eqb n tableBytes a) (rw (eq-eqb (m % 512) 0 b) (rw (lt-leb 512 m h) refl))
 
-pub lengths-most : (n m : ℕ) → n ≡ 17436 → m % 512 ≡ 0 → 512 ≤ m → leb m 2097152 ≡ formatLengths n m
+pub lengths-most : (n m : ℕ) → n ≡ tableBytes → m % 512 ≡ 0 → 512 ≤ m → leb m 2097152 ≡ formatLengths n m
 unfolding formatLengths
-lengths-most n m a b h = rw (eq-eqb n 17436 a) (rw (eq-eqb (m % 512) 0 b) (rw (le-leb 512 m h) refl))
+lengths-most n m a b h = rw (eq-eqb n tableBytes a) (rw (eq-eqb (m % 512) 0 b) (rw (le-leb 512 m h) refl))
 
 -- an accepted format
 format-accepted : (t p t′ : List ℕ) → formatLengths (length t) (length p) ≡ true
@@ -64,7 +65,7 @@ refused-as r t p true a h n = absurd (true≢false (sym n))
 refused-as r t p false a h n = ap (λ (x : Answer). lookedAt x t p []) a ∙ sym (format-refused t p (sym h))
 
 -- the tables and the pages can be written
-pub format-fits : (n m : ℕ) (b : Bool) → b ≡ formatLengths n m → not b ≡ false → (n ≡ 17436) × (m / 512 ≤ 4096)
+pub format-fits : (n m : ℕ) (b : Bool) → b ≡ formatLengths n m → not b ≡ false → (n ≡ tableBytes) × (m / 512 ≤ 4096)
 format-fits n m true h k = let l = lengths-in n m (sym h) in (l .0, l .3)
 format-fits n m false h k = absurd (true≢false k)
 

@@ -8,12 +8,13 @@ use crate::answer::Answer;
 use crate::answer::counts_0;
 use pages::zero_bytes;
 use setchanges::format::format_tables;
+use tables::places::TABLE_BYTES;
 
 // "tables of wrong length or pages no multiple of 512 from 512 to 2,097,152 bytes" do not fit.
 fn lengths_fit(tables: usize, pages: usize) -> bool
     ensures { λ r. ⌜ r ≡ formatLengths tables pages ⌝ }
 {
-    if tables != 17436 {
+    if tables != TABLE_BYTES {
         return false;
     }
     if pages % 512 != 0 {

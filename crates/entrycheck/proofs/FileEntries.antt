@@ -26,8 +26,8 @@ use Rattle.packing.specs.Zeros.{zero-at, zeroBytes}
 use Rattle.rules.proofs.Blocks.Sums.{count-sum, sum-same, sum-zero}
 use Rattle.rules.specs.State.{isStored, isUnmapped, unmapped}
 use Rattle.rules.specs.WellFormed.{blockBelow, names}
-use Rattle.tables.proofs.Codes.{entry-place, word-hole, word-stored, word-unmapped}
-use Rattle.tables.specs.Layout.{entryWord, readEntry}
+use Rattle.tables.proofs.Codes.{word-hole, word-stored, word-unmapped}
+use Rattle.tables.specs.Layout.{entryWord, mapAt, readEntry}
 use Rattle.tables.specs.Packed.{entryFormed, unpack}
 use Rattle.entrycheck.specs.declared.Masks.{Masks}
 use Rattle.entrycheck.specs.declared.seeing.Left.{Left}
@@ -109,13 +109,13 @@ module _ (limit w : ℕ) where
 
 module _ (limit : ℕ) (t : List ℕ) (bs : Bytes t) (f s : ℕ) (l : List ℕ) (hf : f < 16) (hs : s < 8) (len : length l ≡ 512) where
   abbrev at : ℕ
-  at = 544 + (s * 16 + f) * 132
+  at = mapAt f s
 
   abbrev word : ℕ → ℕ
   word p = getWord 1 t (at + p * 2)
 
   entry-is : (p : ℕ) → entryWord t f s p ≡ word p
-  entry-is p = ap (getWord 1 t) (sym (entry-place f s p))
+  entry-is p = refl
 
   good-is : (p : ℕ) → good t limit f s p ≡ goodWord limit (word p)
   good-is p = ap (goodWord limit) (entry-is p)

@@ -11,6 +11,9 @@ use crate::plain::blocks_plain;
 use crate::seeing::see_pages;
 use crate::seeing::see_rows;
 use masks::kinds::kind_masks;
+use tables::places::BITMAP_AT;
+use tables::places::FILE_BYTES;
+use tables::places::MAPS_AT;
 
 pub mod plain;
 pub mod seeing;
@@ -46,7 +49,7 @@ pub fn file_entries(t: &[u8], seen: &mut [u8; 512], f: usize, s: usize, limit: u
     requires { ⌜ (length (now t) ≡ tableBytes) × (length (now seen) ≡ 512) × (f < 16) × (s < 8) × (limit ≤ 4096) ⌝ }
     ensures { λ r. ⌜ FileSeen limit (now (t .entry)) f s (now (seen .entry)) (now (seen .exit)) r ⌝ }
 {
-    let at = 544 + (s * 16 + f) * 132;
+    let at = MAPS_AT + (s * 16 + f) * FILE_BYTES;
     let k = kind_masks(t, at);
     if k.stored & k.holes != 0 {
         return not_passed();
@@ -74,7 +77,7 @@ pub fn maps_equal(t: &[u8], seen: &[u8]) -> bool
     let mut x: u8 = 0;
     let mut i: usize = 0;
     while i < 512 {
-        x = x | (t[4 + i] ^ seen[i]);
+        x = x | (t[BITMAP_AT + i] ^ seen[i]);
         i += 1;
     }
     x == 0

@@ -25,7 +25,7 @@ use Rattle.rules.specs.WellFormed.{allFiles, allPages, bitsFormed, filesFormed,
 use Rattle.setcheck.specs.Records.{fileRecordsFormed}
 use Rattle.tables.proofs.ZeroFiles.{absent-bytes, entries-zero, entry-zero, file-zero, head-zero, zero-entry}
 use Rattle.packing.specs.Fields.{getField}
-use Rattle.tables.specs.Layout.{entryWord, fileAt, headWidths, headWord}
+use Rattle.tables.specs.Layout.{entryWord, fileAt, fileBytes, filesAt, headWidths, headWord, setFilesBytes}
 use Rattle.tables.specs.Packed.{entryFormed, kindsFormed, unpack}
 
 -- LAW: eight masks that are all v
@@ -53,7 +53,7 @@ unfolding seeEntry
 zero-sees limit seen = ap (λ (e : Entry ℕ). seeNamed limit e seen) (zero-entry [] .1)
 
 module _ (t : List ℕ) (n : ℕ) (b : BlankFrom t n) (f s : ℕ) (lf : f < 16) (ln : n ≤ s) (ls : s < 8) where
-  zeros : (j : ℕ) → j < 132 → getD t (fileAt f s + j) 0 ≡ 0
+  zeros : (j : ℕ) → j < fileBytes → getD t (fileAt f s + j) 0 ≡ 0
   zeros j l = b .zero f s j lf ln ls l
 
   absent-here : unpack t .files f s ≡ absentFile
@@ -114,14 +114,14 @@ module _ (t : List ℕ) (n : ℕ) (b : BlankFrom t n) (f : ℕ) (lf : f < 16) wh
 -- ---- what the code tests at once
 module _ (t : List ℕ) (n : ℕ) (most : n ≤ 8) where
   -- LAW: every byte from the first file record of set n on is zero
-  pub blank-from : (r : Bool) → r ≡ zeroBytes t (540 + n * 2112) ((8 - n) * 2112) → not r ≡ false → BlankFrom t n
+  pub blank-from : (r : Bool) → r ≡ zeroBytes t (filesAt + n * setFilesBytes) ((8 - n) * setFilesBytes) → not r ≡ false → BlankFrom t n
   blank-from false e h = absurd (true≢false h)
   blank-from true e h = record {
     most = most;
     zero = λ f s j lf ln ls lj.
-        let i = ((s - n) * 16 + f) * 132 + j in
-        let q : 540 + n * 2112 + i ≡ fileAt f s + j = omega arith in
-        ap (λ k. getD t k 0) (sym q) ∙ zero-at t (540 + n * 2112) ((8 - n) * 2112) (sym e) i (omega arith);
+        let i = ((s - n) * 16 + f) * fileBytes + j in
+        let q : filesAt + n * setFilesBytes + i ≡ fileAt f s + j = omega arith in
+        ap (λ k. getD t k 0) (sym q) ∙ zero-at t (filesAt + n * setFilesBytes) ((8 - n) * setFilesBytes) (sym e) i (omega arith);
   }
 
   -- a file of an unused set
@@ -145,7 +145,7 @@ module _ (t : List ℕ) (n : ℕ) (most : n ≤ 8) where
       zero-there : zeroFile (unpack t .files f s) ≡ true
       zero-there = not-then (isAbsent (unpack t .files f s .state)) (zeroFile (unpack t .files f s)) (files-at _ (parts .1) f s lf ls) absent-there
 
-      unused-bytes : (j : ℕ) → j < 132 → getD t (fileAt f s + j) 0 ≡ 0
+      unused-bytes : (j : ℕ) → j < fileBytes → getD t (fileAt f s + j) 0 ≡ 0
       unfolding kindsFormed
       unused-bytes =
           let map = unpack t .files f s .map in
@@ -156,15 +156,15 @@ module _ (t : List ℕ) (n : ℕ) (most : n ≤ 8) where
           (eqb-true (unpack t .files f s .size) 0 (and-left (eqb (unpack t .files f s .size) 0) (allPages (λ p. isUnmapped (map p))) zero-there))
           (λ p l. unmapped-is (map p) (pages-at (λ p. isUnmapped (map p)) (and-right (eqb (unpack t .files f s .size) 0) (allPages (λ p. isUnmapped (map p))) zero-there) p l))
 
-    zero-rest : zeroBytes t (540 + n * 2112) ((8 - n) * 2112) ≡ true
-    zero-rest = zero-of t (540 + n * 2112) ((8 - n) * 2112) (λ i l.
-        let s = n + i / 2112 in
-        let f = i % 2112 / 132 in
-        let q : 540 + n * 2112 + i ≡ fileAt f s + i % 132 = omega arith in
-        ap (λ k. getD t k 0) q ∙ unused-bytes f s (omega arith) (omega arith) (omega arith) (i % 132) (omega arith))
+    zero-rest : zeroBytes t (filesAt + n * setFilesBytes) ((8 - n) * setFilesBytes) ≡ true
+    zero-rest = zero-of t (filesAt + n * setFilesBytes) ((8 - n) * setFilesBytes) (λ i l.
+        let s = n + i / setFilesBytes in
+        let f = i % setFilesBytes / fileBytes in
+        let q : filesAt + n * setFilesBytes + i ≡ fileAt f s + i % fileBytes = omega arith in
+        ap (λ k. getD t k 0) q ∙ unused-bytes f s (omega arith) (omega arith) (omega arith) (i % fileBytes) (omega arith))
 
   -- LAW: where one is not zero, a rule is broken
-  pub blank-refused : (r : Bool) → Bytes t → UnusedFrom (unpack t .sets) n → r ≡ zeroBytes t (540 + n * 2112) ((8 - n) * 2112) → not r ≡ true
+  pub blank-refused : (r : Bool) → Bytes t → UnusedFrom (unpack t .sets) n → r ≡ zeroBytes t (filesAt + n * setFilesBytes) ((8 - n) * setFilesBytes) → not r ≡ true
       → false ≡ (kindsFormed t && bitsFormed (unpack t) && fileRecordsFormed t)
   blank-refused r bs unused e h = test? (kindsFormed t && bitsFormed (unpack t) && fileRecordsFormed t)
       (λ k. absurd (true≢false (sym (zero-rest bs k unused) ∙ sym e ∙ not-true r h)))

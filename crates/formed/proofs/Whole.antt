@@ -184,10 +184,10 @@ blocks-most t n h e k = header-in (unpack t) n (sym e ∙ not-false h k) .0 .mos
 
 -- ---- the whole check
 module _ (t : List ℕ) (n : ℕ) where
-  pub whole-length : (length t ≡ 17436 → ⊥) → false ≡ wellFormed t n
+  pub whole-length : (length t ≡ tableBytes → ⊥) → false ≡ wellFormed t n
   whole-length h = sym (well-formed-parts t n ∙ rw (ne-eqb (length t) tableBytes h))
 
-  module _ (len : length t ≡ 17436) (h : Bool) (eh : h ≡ headerFormed (unpack t) n) where
+  module _ (len : length t ≡ tableBytes) (h : Bool) (eh : h ≡ headerFormed (unpack t) n) where
     pub whole-header : not h ≡ true → false ≡ wellFormed t n
     whole-header a = sym (well-formed-parts t n ∙ rw (eq-eqb (length t) tableBytes len, ← eh, not-true h a))
 

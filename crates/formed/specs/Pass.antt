@@ -12,7 +12,7 @@ use Rattle.entrycheck.specs.Seeing.{Sees, Pass, seeFile, through}
 use Rattle.masks.specs.Pages.{pageMask}
 use Rattle.formed.specs.Files.{EndsTo, LivesTo, MasksTo, endOf, fileAlone, fileLinked, headFormed}
 use Rattle.rules.specs.State.{SetRecord, fileCount, isStored, isUnmapped, live, setCount}
-use Rattle.tables.specs.Layout.{fileAt, stateOf}
+use Rattle.tables.specs.Layout.{fileAt, fileBytes, stateOf}
 use Rattle.tables.specs.Packed.{unpack}
 
 -- a pass that needs a test passed besides
@@ -39,7 +39,7 @@ UnusedFrom sets n = (s : ℕ) → n ≤ s → s < setCount → sets s .used ≡ 
 -- every byte of the file records of the sets from n on is zero
 pub record BlankFrom (t : List ℕ) (n : ℕ) : Type 0 where
   pub most : n ≤ setCount
-  pub zero : (f s j : ℕ) → f < fileCount → n ≤ s → s < setCount → j < 132 → getD t (fileAt f s + j) 0 ≡ 0
+  pub zero : (f s j : ℕ) → f < fileCount → n ≤ s → s < setCount → j < fileBytes → getD t (fileAt f s + j) 0 ≡ 0
 
 -- a list of eight masks that are all v
 abbrev pub EachIs : List ℕ → ℕ → Type 0

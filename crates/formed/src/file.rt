@@ -12,6 +12,10 @@ ghost use Rattle.formed.specs.Files.{endOf, placeDigit, turned};
 ghost use Rattle.formed.specs.Pass.{BlankPassed, FilePassed};
 use crate::alone::head_formed;
 use packing::words;
+use tables::places::FILE_BYTES;
+use tables::places::FILES_AT;
+use tables::places::MAP_BYTES;
+use tables::places::MAPS_AT;
 
 // The digit of a set, if the head w is that of an own or virgin file.
 fn live_digit(w: u32, digit: u64) -> u64
@@ -103,7 +107,7 @@ fn is_blank(t: &[u8], at: usize, v: u64) -> bool
     if v | 128 != 128 {
         return false;
     }
-    words::all_zero(t, at, 128)
+    words::all_zero(t, at, MAP_BYTES)
 }
 
 // The same. No entry of an absent or virgin file is looked at alone; the masks and the end are there.
@@ -122,8 +126,8 @@ pub fn pass_file(
     requires { ⌜ (length (now t) ≡ tableBytes) × (length (now seen) ≡ 512) × (getD (now stored) s 0 ≡ 0) × (getD (now unmapped) s 0 ≡ 18446744073709551615) × (getD (now ends) s 0 ≡ 64) × (f < 16) × (s < 8) × (digit ≡ placeDigit (unpack (now t) .sets s) s) × (limit ≤ 4096) ⌝ }
     ensures { λ r. ⌜ FilePassed limit (now (t .entry)) f s digit (now (seen .entry)) (now (seen .exit)) (now (stored .entry)) (now (stored .exit)) (now (unmapped .entry)) (now (unmapped .exit)) (now (ends .entry)) (now (ends .exit)) (now (lives .entry)) (now (lives .exit)) r ⌝ }
 {
-    let v = words::low64(t, 540 + (s * 16 + f) * 132);
-    if is_blank(t, 544 + (s * 16 + f) * 132, v) {
+    let v = words::low64(t, FILES_AT + (s * 16 + f) * FILE_BYTES);
+    if is_blank(t, MAPS_AT + (s * 16 + f) * FILE_BYTES, v) {
         return pass_blank(lives, s, digit, v);
     }
     pass_entries(

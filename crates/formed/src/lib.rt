@@ -6,6 +6,7 @@ use crate::passing::files_formed;
 use setcheck::header::header_formed;
 use setcheck::header::header_zero;
 use setcheck::tree::sets_formed;
+use tables::places::TABLE_BYTES;
 
 pub mod alone;
 pub mod file;
@@ -17,7 +18,7 @@ pub mod places;
 pub fn well_formed(t: &[u8], n: usize) -> bool
     ensures { λ r. ⌜ r ≡ wellFormed (now (t .entry)) n ⌝ }
 {
-    if t.len() != 17436 {
+    if t.len() != TABLE_BYTES {
         return false;
     }
     if !header_formed(t, n) {

@@ -20,6 +20,8 @@ use crate::places::put_places;
 use crate::places::used_to;
 use packing::words;
 use tables::header::block_count;
+use tables::places::FILES_AT;
+use tables::places::SET_FILES_BYTES;
 
 // The files of number f, in all sets: those from set n on are blank.
 fn pass_sets(
@@ -97,7 +99,7 @@ pub fn files_formed(t: &[u8]) -> bool
 {
     let limit = block_count(t);
     let n = used_to(t);
-    if !words::all_zero(t, 540 + n * 2112, (8 - n) * 2112) {
+    if !words::all_zero(t, FILES_AT + n * SET_FILES_BYTES, (8 - n) * SET_FILES_BYTES) {
         return false;
     }
     let mut digits = masks_of(0);

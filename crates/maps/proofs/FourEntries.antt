@@ -73,10 +73,10 @@ module _ (t : List ℕ) (f s : ℕ) (hf : f < fileCount) (hs : s < setCount) whe
   entry-unmapped p at hp e = ap isUnmapped (read-map t f s p hf hs hp ∙ ap (λ x. readEntry (getWord 1 t x)) (sym e)) ∙ unmapped-word (getWord 1 t at)
 
   -- LAW: the word at entry n tells of the entries from n to n + 3
-  pub four-entries : (n w : ℕ) → Bytes t → n + 4 ≤ pageCount → w ≡ getWord 7 t (544 + (s * 16 + f) * 132 + n * 2)
+  pub four-entries : (n w : ℕ) → Bytes t → n + 4 ≤ pageCount → w ≡ getWord 7 t (entryAt f s n)
       → someUnmapped (n + 4) (unpack t .files f s .map) ≡ (unmappedAmong w || someUnmapped n (unpack t .files f s .map))
   four-entries n w bs h e =
-      let at : ℕ = 544 + (s * 16 + f) * 132 + n * 2 in
+      let at : ℕ = entryAt f s n in
       let m : ℕ → Entry ℕ = unpack t .files f s .map in
       some-four m n (ltb (getWord 1 t at) 16384) (ltb (getWord 1 t (at + 2)) 16384) (ltb (getWord 1 t (at + 4)) 16384) (ltb (getWord 1 t (at + 6)) 16384)
       (entry-unmapped n at (omega arith) (omega arith))
@@ -88,7 +88,7 @@ module _ (t : List ℕ) (f s : ℕ) (hf : f < fileCount) (hs : s < setCount) whe
       (get-lt 1 t (at + 2) bs) (get-lt 1 t (at + 4) bs) (get-lt 1 t (at + 6) bs) (e ∙ four-words t at)))
 
   -- a turn of the loop: n entries are left, and the word of the last four is w
-  module _ (n w : ℕ) (bs : Bytes t) (l : 4 ≤ n) (h : n ≤ pageCount) (e : w ≡ getWord 7 t (544 + (s * 16 + f) * 132 + (n - 4) * 2)) where
+  module _ (n w : ℕ) (bs : Bytes t) (l : 4 ≤ n) (h : n ≤ pageCount) (e : w ≡ getWord 7 t (entryAt f s (n - 4))) where
     last-four : someUnmapped n (unpack t .files f s .map) ≡ (unmappedAmong w || someUnmapped (n - 4) (unpack t .files f s .map))
     last-four =
         let q : n ≡ n - 4 + 4 = omega arith in

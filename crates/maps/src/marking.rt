@@ -14,6 +14,8 @@ use packing::words;
 use tables::entries;
 use tables::entries::Page;
 use tables::files;
+use tables::places::FILE_BYTES;
+use tables::places::MAPS_AT;
 use tables::sets;
 
 // "A child needs page p when its file is own or virgin and p is unmapped there."
@@ -55,7 +57,7 @@ pub fn some_unmapped(t: &[u8], f: usize, s: usize) -> bool
     requires { ⌜ (length (now t) ≡ tableBytes) × (f < 16) × (s < 8) ⌝ }
     ensures { λ r. ⌜ r ≡ Reading.someUnmapped 64 (unpack (now (t .entry)) .files f s .map) ⌝ }
 {
-    let map = 544 + (s * 16 + f) * 132;
+    let map = MAPS_AT + (s * 16 + f) * FILE_BYTES;
     let mut n: usize = 64;
     while 0 < n {
         n -= 4;

@@ -22,9 +22,9 @@ use Rattle.packing.specs.Bitmap.{isOne, number-of}
 use Rattle.packing.specs.Bits.{bit, bit-lt, bit-none, bit-not, bit-or}
 use Rattle.packing.specs.Words.{Bytes, get-lt, getWord}
 use Rattle.rules.specs.State.{isStored, isUnmapped}
-use Rattle.tables.proofs.Codes.{entry-place, word-hole, word-stored, word-unmapped}
+use Rattle.tables.proofs.Codes.{word-hole, word-stored, word-unmapped}
 use Rattle.tables.proofs.ReadParts.{read-map}
-use Rattle.tables.specs.Layout.{readEntry}
+use Rattle.tables.specs.Layout.{mapAt, readEntry}
 use Rattle.tables.specs.Packed.{unpack}
 
 -- ---- numbers and their bits
@@ -128,28 +128,25 @@ is-unmapped w h =
 -- ---- the map of file f in set s
 
 module _ (t : List ℕ) (bs : Bytes t) (f s : ℕ) (hf : f < 16) (hs : s < 8) where
-  abbrev mapAt : ℕ
-  mapAt = 544 + (s * 16 + f) * 132
-
   -- the entry of page p
-  pub read-page : (p : ℕ) → p < 64 → unpack t .files f s .map p ≡ readEntry (word t bs mapAt p)
-  read-page p h = read-map t f s p hf hs h ∙ ap (λ a. readEntry (getWord 1 t a)) (sym (entry-place f s p))
+  pub read-page : (p : ℕ) → p < 64 → unpack t .files f s .map p ≡ readEntry (word t bs (mapAt f s) p)
+  read-page p h = read-map t f s p hf hs h
 
   -- LAW: the mask of the stored pages
-  pub stored-mask : storedOf (wordsAt t mapAt) ≡ pageMask isStored (unpack t .files f s .map)
+  pub stored-mask : storedOf (wordsAt t (mapAt f s)) ≡ pageMask isStored (unpack t .files f s .map)
   stored-mask =
-      sym (number-of (λ p. isStored (unpack t .files f s .map p)) 0 64 (storedOf (wordsAt t mapAt)) (stored-lt _) (λ j l.
-      ap isOne (stored-page t bs mapAt j l) ∙ is-stored (word t bs mapAt j) (word-lt t bs mapAt j)
+      sym (number-of (λ p. isStored (unpack t .files f s .map p)) 0 64 (storedOf (wordsAt t (mapAt f s))) (stored-lt _) (λ j l.
+      ap isOne (stored-page t bs (mapAt f s) j l) ∙ is-stored (word t bs (mapAt f s) j) (word-lt t bs (mapAt f s) j)
       ∙ ap isStored (sym (read-page j l)) ∙ ap (λ p. isStored (unpack t .files f s .map p)) (sym (zero-add j))))
 
   -- LAW: the mask of the unmapped pages
-  pub unmapped-mask : (2 ^ 64 - 1) - bitOr (storedOf (wordsAt t mapAt)) (holesOf (wordsAt t mapAt)) ≡ pageMask isUnmapped (unpack t .files f s .map)
+  pub unmapped-mask : (2 ^ 64 - 1) - bitOr (storedOf (wordsAt t (mapAt f s))) (holesOf (wordsAt t (mapAt f s))) ≡ pageMask isUnmapped (unpack t .files f s .map)
   unmapped-mask =
-      let x = storedOf (wordsAt t mapAt) in
-      let y = holesOf (wordsAt t mapAt) in
+      let x = storedOf (wordsAt t (mapAt f s)) in
+      let y = holesOf (wordsAt t (mapAt f s)) in
       sym (number-of (λ p. isUnmapped (unpack t .files f s .map p)) 0 64 ((2 ^ 64 - 1) - bitOr x y) (omega arith) (λ j l.
       ap isOne (bit-not 64 (63 - j) (bitOr x y) (or-lt 64 x y (stored-lt _) (holes-lt _)) (omega arith) ∙ ap (λ (z : ℕ). 1 - z) (bit-or x y (63 - j)))
       ∙ neither (bit x (63 - j)) (bit y (63 - j)) (bit-lt x (63 - j)) (bit-lt y (63 - j))
-      ∙ ap₂ (λ a b. isOne (1 - (a + b))) (stored-page t bs mapAt j l) (holes-page t bs mapAt j l)
-      ∙ is-unmapped (word t bs mapAt j) (word-lt t bs mapAt j)
+      ∙ ap₂ (λ a b. isOne (1 - (a + b))) (stored-page t bs (mapAt f s) j l) (holes-page t bs (mapAt f s) j l)
+      ∙ is-unmapped (word t bs (mapAt f s) j) (word-lt t bs (mapAt f s) j)
       ∙ ap isUnmapped (sym (read-page j l)) ∙ ap (λ p. isUnmapped (unpack t .files f s .map p)) (sym (zero-add j))))

@@ -10,6 +10,8 @@ ghost use Rattle.tables.specs.Layout.{tableBytes};
 ghost use Rattle.tables.specs.Packed.{unpack};
 ghost use Rattle.masks.specs.Pages.{IsRange, pageMask, pages};
 use crate::kinds::kind_masks;
+use tables::places::FILE_BYTES;
+use tables::places::MAPS_AT;
 
 pub mod kinds;
 
@@ -44,6 +46,6 @@ pub fn unmapped_pages(t: &[u8], f: usize, s: usize) -> u64
     requires { ⌜ (length (now t) ≡ tableBytes) × (f < 16) × (s < 8) ⌝ }
     ensures { λ r. ⌜ r ≡ pageMask isUnmapped (unpack (now (t .entry)) .files f s .map) ⌝ }
 {
-    let k = kind_masks(t, 544 + (s * 16 + f) * 132);
+    let k = kind_masks(t, MAPS_AT + (s * 16 + f) * FILE_BYTES);
     !(k.stored | k.holes)
 }

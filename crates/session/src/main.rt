@@ -2,6 +2,7 @@
 // the store. No rule of the store stands here.
 ghost use mathlib.Core.Path.{_≡_};
 ghost use lib.ListN.{length};
+ghost use Rattle.tables.specs.Layout.{tableBytes};
 use calls::answer::Answer;
 use libc::STDIN_FILENO;
 use libc::STDOUT_FILENO;
@@ -11,6 +12,7 @@ use listing::lines;
 use listing::performing;
 use listing::store;
 use listing::store::Listed;
+use tables::places::TABLE_BYTES;
 
 // What is to do after a turn: read on, list, or quit since a write failed.
 enum Next {
@@ -19,10 +21,10 @@ enum Next {
     Quit,
 }
 
-fn tables() -> [u8; 17436]
-    ensures { λ r. ⌜ 17436 ≡ length r ⌝ }
+fn tables() -> [u8; TABLE_BYTES]
+    ensures { λ r. ⌜ tableBytes ≡ length r ⌝ }
 {
-    [0; 17436]
+    [0; TABLE_BYTES]
 }
 
 // "It formats 64 blocks"

@@ -2,7 +2,7 @@
 use mathlib.Core.Bool.{Bool, false, true}
 use mathlib.Core.List.{List, _∷_, []}
 use mathlib.Core.Path.{ap, fun-ext, refl, subst, sym, _∙_, _≡_}
-use Prim.Native.Nat.{_*_, _+_, _<_, suc, zero, ℕ}
+use Prim.Native.Nat.{_+_, _<_, suc, zero, ℕ}
 use native.Mathlib.Nat.{zero-add}
 use native.Mathlib.Numerals.{add-one}
 use lib.Pow.{low}
@@ -15,6 +15,7 @@ use Rattle.rules.specs.Storage.{Memory, PageData, real}
 use Rattle.setchanges.specs.Changes.{BlocksIn, blockIn, freedEntryIn, freedIn, noPages, withBits}
 use Rattle.tables.proofs.Operations.{turns-as, turns-more, turns-start}
 use Rattle.tables.proofs.ZeroFiles.{map-zero}
+use Rattle.tables.specs.Layout.{mapAt, mapBytes}
 use Rattle.tables.specs.Packed.{unpack}
 use Rattle.tables.specs.Views.{PackedTables, Turns, memoryOf, putBitIn}
 
@@ -152,11 +153,11 @@ unfolding freedBits
 none-freed map bits u = ap (λ (m : ℕ → Entry ℕ). each (λ p. freeBit (m p)) (from 0 pageCount) bits) (fun-ext u) ∙ each-same pageCount 0 bits
 
 -- LAW: nothing is freed; r is the test of the code
-pub freed-blank : (t : List ℕ) (f s : ℕ) (r : Bool) → PackedTables t → f < 16 → s < 8 → r ≡ zeroBytes t (544 + (s * 16 + f) * 132) 128 → r ≡ true → Turns t t (freedIn f s)
+pub freed-blank : (t : List ℕ) (f s : ℕ) (r : Bool) → PackedTables t → f < 16 → s < 8 → r ≡ zeroBytes t (mapAt f s) mapBytes → r ≡ true → Turns t t (freedIn f s)
 unfolding freedIn withBits
 freed-blank t f s r h hf hs e k =
     let tb = unpack t in
-    let u = map-zero t f s (zero-at t (544 + (s * 16 + f) * 132) 128 (sym e ∙ k)) hf hs in
+    let u = map-zero t f s (zero-at t (mapAt f s) mapBytes (sym e ∙ k)) hf hs in
     let b : freeMap real (tb .files f s .map) (memoryOf tb noPages) .bits ≡ tb .bits =
     ap (λ (m : Memory). m .bits) (free-map-bits (tb .files f s .map) (memoryOf tb noPages) (tb .bits)) ∙ none-freed (tb .files f s .map) (tb .bits) u in
     record { view = λ i. record { blocks = tb .blocks; next = tb .next; bits = sym b i; sets = tb .sets; files = tb .files }; packed = h }

@@ -9,6 +9,7 @@ ghost use Rattle.tables.specs.Packed.{pack};
 ghost use Rattle.tables.specs.Views.{PackedTables, Turns};
 ghost use Rattle.setchanges.specs.Changes.{putHeaderIn};
 use packing::words;
+use tables::places::TABLE_BYTES;
 use tables::sets;
 use tables::sets::SetRecord;
 
@@ -25,7 +26,7 @@ pub fn format_tables(t: &mut [u8], blocks: usize)
     requires { ⌜ (length (now t) ≡ tableBytes) × (blocks ≤ 4096) ⌝ }
     ensures { λ _. ⌜ now (t .exit) ≡ pack (tablesOf (formatted real (blankMemory blocks))) ⌝ }
 {
-    pages::zero_bytes(t, 0, 17436);
+    pages::zero_bytes(t, 0, TABLE_BYTES);
     put_blocks(t, blocks);
     sets::put_set(
         t,

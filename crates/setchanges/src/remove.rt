@@ -11,6 +11,10 @@ use packing::words;
 use tables::entries;
 use tables::entries::Entry;
 use tables::entries::Page;
+use tables::places::FILE_BYTES;
+use tables::places::FILES_AT;
+use tables::places::MAP_BYTES;
+use tables::places::MAPS_AT;
 use tables::sets;
 use tables::sets::SetRecord;
 
@@ -19,7 +23,7 @@ pub fn erase_record(t: &mut [u8], f: usize, s: usize)
     requires { ⌜ PackedTables (now t) × (f < 16) × (s < 8) ⌝ }
     ensures { λ _. ⌜ Turns (now (t .entry)) (now (t .exit)) (erasedIn f s) ⌝ }
 {
-    pages::zero_bytes(t, 540 + (s * 16 + f) * 132, 132);
+    pages::zero_bytes(t, FILES_AT + (s * 16 + f) * FILE_BYTES, FILE_BYTES);
 }
 
 // The block of an entry is free again.
@@ -39,7 +43,7 @@ pub fn free_map(t: &mut [u8], f: usize, s: usize)
     requires { ⌜ PackedTables (now t) × (f < 16) × (s < 8) × BlocksIn f s (unpack (now t)) ⌝ }
     ensures { λ _. ⌜ Turns (now (t .entry)) (now (t .exit)) (freedIn f s) ⌝ }
 {
-    if words::all_zero(&*t, 544 + (s * 16 + f) * 132, 128) {
+    if words::all_zero(&*t, MAPS_AT + (s * 16 + f) * FILE_BYTES, MAP_BYTES) {
         return;
     }
     let mut p: usize = 0;

@@ -8,6 +8,8 @@ ghost use Rattle.tables.specs.Packed.{unpack};
 ghost use Rattle.tables.specs.Meaning.{setMeant};
 ghost use Rattle.setcheck.specs.Records.{setZero, unusedZero, zerosOfSets};
 use packing::words;
+use tables::places::SET_BYTES;
+use tables::places::SETS_AT;
 use tables::sets::SetRecord;
 use tables::sets::set_at;
 
@@ -16,7 +18,7 @@ fn set_zero(t: &[u8], s: usize) -> bool
     requires { ⌜ (length (now t) ≡ tableBytes) × (s < 8) ⌝ }
     ensures { λ r. ⌜ r ≡ setZero (now (t .entry)) s ⌝ }
 {
-    words::read24(t, 516 + s * 3) % 128 == 0
+    words::read24(t, SETS_AT + s * SET_BYTES) % 128 == 0
 }
 
 // Are all fields but the first zero?

@@ -11,7 +11,7 @@ use Rattle.packing.specs.Bitmap.{is-one, isOne}
 use Rattle.packing.specs.Words.{Bytes, getWord, putWord}
 use Rattle.rules.specs.State.{SetRecord, State, fileCount, hole, marked, pageCount, setCount, stored, unmapped}
 use Rattle.tables.proofs.ReadParts.{read-blocks, read-map, read-next, read-set, read-size, read-state}
-use Rattle.tables.specs.Layout.{entryAt, fileAt, headerAt, readBlocks, readEntry, readNext, readSet, readSize, readState, setAt, stateNumber, stateOf, writeEntry, writeHead, writeHeader}
+use Rattle.tables.specs.Layout.{entryWord, fileAt, headerAt, readBlocks, readEntry, readNext, readSet, readSize, readState, setAt, stateNumber, stateOf, writeEntry, writeHead, writeHeader}
 use Rattle.tables.specs.Packed.{unpack}
 
 -- ---- an entry
@@ -35,13 +35,10 @@ pub stored-word : (b : ℕ) → 32768 + b ≡ writeEntry (stored b)
 unfolding writeEntry
 stored-word b = omega arith
 
-pub entry-place : (f s p : ℕ) → 544 + (s * 16 + f) * 132 + p * 2 ≡ entryAt f s p
-entry-place f s p = omega arith
-
 -- LAW: the entry that the code reads
-pub entry-read : (t : List ℕ) (f s p w : ℕ) → f < fileCount → s < setCount → p < pageCount → w ≡ getWord 1 t (544 + (s * 16 + f) * 132 + p * 2)
+pub entry-read : (t : List ℕ) (f s p w : ℕ) → f < fileCount → s < setCount → p < pageCount → w ≡ entryWord t f s p
     → readEntry w ≡ unpack t .files f s .map p
-entry-read t f s p w hf hs hp e = ap readEntry (e ∙ ap (getWord 1 t) (entry-place f s p)) ∙ sym (read-map t f s p hf hs hp)
+entry-read t f s p w hf hs hp e = ap readEntry e ∙ sym (read-map t f s p hf hs hp)
 
 -- ---- a state and a size
 

@@ -1,4 +1,5 @@
 pub mod InRange
+pub mod LayoutNumbers
 pub mod Layouts
 pub mod Lengths
 pub mod PackedTables

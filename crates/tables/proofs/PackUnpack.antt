@@ -15,7 +15,7 @@ use Rattle.tables.proofs.InRange.{file-in, page-in}
 use Rattle.tables.proofs.Layouts.{entry-formed, head-zero-field, header-zero-field, read-blocks-fits, read-entry-fits, read-next-fits, read-set-fits, read-size-fits, read-write-blocks, read-write-entry, read-write-next, read-write-set, read-write-size, read-write-state, set-zero-field, write-read-entry, write-read-head, write-read-header, write-read-set}
 use Rattle.tables.proofs.PackWords.{at-entry, at-head, at-header, at-map, at-set, bit-packed, entry-packed, head-packed, header-packed, length-pack, set-packed}
 use Rattle.tables.proofs.ReadParts.{bit-default, map-default, read-bit, read-blocks, read-map, read-next, read-set, read-size, read-state, set-default, size-default, state-default}
-use Rattle.tables.specs.Layout.{bitmapAt, entryAt, entryWord, fileAt, headWord, headerAt, headerWord, readBlocks, readEntry, readNext, readSet, readSize, readState, setAt, setWord, tableBytes, writeEntry, writeHead, writeHeader, writeSet}
+use Rattle.tables.specs.Layout.{bitmapAt, entryAt, entryBytes, entryWord, fileAt, fileBytes, filesAt, headBytes, headWord, headerAt, headerWord, readBlocks, readEntry, readNext, readSet, readSize, readState, setAt, setBytes, setWord, setsAt, tableBytes, writeEntry, writeHead, writeHeader, writeSet}
 use Rattle.tables.specs.OneReading.{Fits}
 use Rattle.tables.specs.Packed.{isFile, isPage, pack, tableByte, unpack}
 use Rattle.tables.specs.Views.{PackedTables}
@@ -84,17 +84,17 @@ at-places : (P : ℕ → Type 0)
     → ((f s p j : ℕ) → f < fileCount → s < setCount → p < pageCount → j ≤ 1 → P (entryAt f s p + j))
     → (i : ℕ) → i < tableBytes → P i
 at-places P header bits sets heads entries i h =
-    test? (ltb i 4) (λ e. let l = ltb-true i 4 e in subst P (omega arith) (header i (omega arith)))
-    (λ e₁. let l₁ = ltb-false i 4 e₁ in
-    test? (ltb i 516) (λ e. let l = ltb-true i 516 e in subst P (omega arith) (bits (i - 4) (omega arith)))
-    (λ e₂. let l₂ = ltb-false i 516 e₂ in
-    test? (ltb i 540) (λ e. let l = ltb-true i 540 e in subst P (omega arith) (sets ((i - 516) / 3) ((i - 516) % 3) (omega arith) (omega arith)))
-    (λ e₃. let l₃ = ltb-false i 540 e₃ in
-    let n = (i - 540) / 132 in
-    let j = (i - 540) % 132 in
-    test? (ltb j 4) (λ e. let l = ltb-true j 4 e in subst P (omega arith) (heads (n % 16) (n / 16) j (omega arith) (omega arith) (omega arith)))
-    (λ e₄. let l₄ = ltb-false j 4 e₄ in
-    subst P (omega arith) (entries (n % 16) (n / 16) ((j - 4) / 2) ((j - 4) % 2) (omega arith) (omega arith) (omega arith) (omega arith))))))
+    test? (ltb i bitmapAt) (λ e. let l = ltb-true i bitmapAt e in subst P (omega arith) (header i (omega arith)))
+    (λ e₁. let l₁ = ltb-false i bitmapAt e₁ in
+    test? (ltb i setsAt) (λ e. let l = ltb-true i setsAt e in subst P (omega arith) (bits (i - bitmapAt) (omega arith)))
+    (λ e₂. let l₂ = ltb-false i setsAt e₂ in
+    test? (ltb i filesAt) (λ e. let l = ltb-true i filesAt e in subst P (omega arith) (sets ((i - setsAt) / setBytes) ((i - setsAt) % setBytes) (omega arith) (omega arith)))
+    (λ e₃. let l₃ = ltb-false i filesAt e₃ in
+    let n = (i - filesAt) / fileBytes in
+    let j = (i - filesAt) % fileBytes in
+    test? (ltb j headBytes) (λ e. let l = ltb-true j headBytes e in subst P (omega arith) (heads (n % 16) (n / 16) j (omega arith) (omega arith) (omega arith)))
+    (λ e₄. let l₄ = ltb-false j headBytes e₄ in
+    subst P (omega arith) (entries (n % 16) (n / 16) ((j - headBytes) / entryBytes) ((j - headBytes) % entryBytes) (omega arith) (omega arith) (omega arith) (omega arith))))))
 
 -- ---- tables, their state and its tables
 

@@ -8,7 +8,7 @@ use Rattle.base.specs.Tabulate.{getD-tab, length-tab}
 use Rattle.packing.specs.Bitmap.{bitAt, map-bits, mapByte}
 use Rattle.packing.specs.Words.{byte, bytes-word}
 use Rattle.rules.specs.State.{Tables, fileCount, largestBlocks, pageCount, setCount}
-use Rattle.tables.specs.Layout.{bitmapAt, entryAt, entryWord, fileAt, headWord, headerAt, headerWord, setAt, setWord, tableBytes, writeEntry, writeHead, writeHeader, writeSet}
+use Rattle.tables.specs.Layout.{bitmapAt, entryAt, entryBytes, entryWord, fileAt, fileBytes, filesAt, headBytes, headWord, headerAt, headerWord, setAt, setBytes, setWord, setsAt, tableBytes, writeEntry, writeHead, writeHeader, writeSet}
 use Rattle.tables.specs.Packed.{pack, recordByte, tableByte}
 
 pub length-pack : (tb : Tables) → length (pack tb) ≡ tableBytes
@@ -24,45 +24,45 @@ pack-at tb i h = getD-tab tableBytes (tableByte tb) i 0 h
 module _ (tb : Tables) where
   pub at-header : (j : ℕ) → j ≤ 3 → tableByte tb (headerAt + j) ≡ byte 3 (writeHeader (tb .blocks) (tb .next)) j
   unfolding tableByte
-  at-header j h = let e : headerAt + j ≡ j = omega arith in rw (e, lt-ltb j 4 (omega arith))
+  at-header j h = let e : headerAt + j ≡ j = omega arith in rw (e, lt-ltb j bitmapAt (omega arith))
 
   pub at-map : (k : ℕ) → k < 512 → tableByte tb (bitmapAt + k) ≡ mapByte (tb .bits) k
   unfolding tableByte
-  at-map k h = let e : bitmapAt + k - 4 ≡ k = omega arith in rw (le-ltb (bitmapAt + k) 4 (omega arith), lt-ltb (bitmapAt + k) 516 (omega arith), e)
+  at-map k h = let e : bitmapAt + k - bitmapAt ≡ k = omega arith in rw (le-ltb (bitmapAt + k) bitmapAt (omega arith), lt-ltb (bitmapAt + k) setsAt (omega arith), e)
 
   pub at-set : (s j : ℕ) → s < setCount → j ≤ 2 → tableByte tb (setAt s + j) ≡ byte 2 (writeSet (tb .sets s)) j
   unfolding tableByte
   at-set s j h k =
       let i = setAt s + j in
-      let a : (i - 516) / 3 ≡ s = omega arith in
-      let b : (i - 516) % 3 ≡ j = omega arith in
-      rw (le-ltb i 4 (omega arith), le-ltb i 516 (omega arith), lt-ltb i 540 (omega arith), a, b)
+      let a : (i - setsAt) / setBytes ≡ s = omega arith in
+      let b : (i - setsAt) % setBytes ≡ j = omega arith in
+      rw (le-ltb i bitmapAt (omega arith), le-ltb i setsAt (omega arith), lt-ltb i filesAt (omega arith), a, b)
 
-  at-record : (f s j : ℕ) → f < fileCount → s < setCount → j < 132 → tableByte tb (fileAt f s + j) ≡ recordByte tb (s * fileCount + f) j
+  at-record : (f s j : ℕ) → f < fileCount → s < setCount → j < fileBytes → tableByte tb (fileAt f s + j) ≡ recordByte tb (s * fileCount + f) j
   unfolding tableByte
   at-record f s j hf hs h =
       let i = fileAt f s + j in
-      let a : (i - 540) / 132 ≡ s * fileCount + f = omega arith in
-      let b : (i - 540) % 132 ≡ j = omega arith in
-      rw (le-ltb i 4 (omega arith), le-ltb i 516 (omega arith), le-ltb i 540 (omega arith), a, b)
+      let a : (i - filesAt) / fileBytes ≡ s * fileCount + f = omega arith in
+      let b : (i - filesAt) % fileBytes ≡ j = omega arith in
+      rw (le-ltb i bitmapAt (omega arith), le-ltb i setsAt (omega arith), le-ltb i filesAt (omega arith), a, b)
 
   pub at-head : (f s j : ℕ) → f < fileCount → s < setCount → j ≤ 3 → tableByte tb (fileAt f s + j) ≡ byte 3 (writeHead (tb .files f s .state) (tb .files f s .size)) j
   unfolding recordByte
   at-head f s j hf hs h =
       let a : (s * fileCount + f) % fileCount ≡ f = omega arith in
       let b : (s * fileCount + f) / fileCount ≡ s = omega arith in
-      at-record f s j hf hs (omega arith) ∙ rw (lt-ltb j 4 (omega arith), a, b)
+      at-record f s j hf hs (omega arith) ∙ rw (lt-ltb j headBytes (omega arith), a, b)
 
   pub at-entry : (f s p j : ℕ) → f < fileCount → s < setCount → p < pageCount → j ≤ 1 → tableByte tb (entryAt f s p + j) ≡ byte 1 (writeEntry (tb .files f s .map p)) j
   unfolding recordByte
   at-entry f s p j hf hs hp h =
-      let k = 4 + p * 2 + j in
+      let k = headBytes + p * entryBytes + j in
       let a : (s * fileCount + f) % fileCount ≡ f = omega arith in
       let b : (s * fileCount + f) / fileCount ≡ s = omega arith in
-      let c : (k - 4) / 2 ≡ p = omega arith in
-      let d : (k - 4) % 2 ≡ j = omega arith in
+      let c : (k - headBytes) / entryBytes ≡ p = omega arith in
+      let d : (k - headBytes) % entryBytes ≡ j = omega arith in
       let e : entryAt f s p + j ≡ fileAt f s + k = omega arith in
-      ap (tableByte tb) e ∙ at-record f s k hf hs (omega arith) ∙ rw (le-ltb k 4 (omega arith), a, b, c, d)
+      ap (tableByte tb) e ∙ at-record f s k hf hs (omega arith) ∙ rw (le-ltb k headBytes (omega arith), a, b, c, d)
 
   -- ---- the words
 

@@ -7,10 +7,10 @@ use lib.ListN.{getD, set}
 use Rattle.packing.specs.Bitmap.{clearBit, setBit}
 use Rattle.packing.specs.Words.{Bytes, putWord}
 use Rattle.rules.specs.State.{Entry, SetRecord, State, Tables, fileCount, largestBlocks, pageCount, setCount}
-use Rattle.tables.proofs.Codes.{blocks-lt, entry-place, head-word, next-bytes}
+use Rattle.tables.proofs.Codes.{blocks-lt, head-word, next-bytes}
 use Rattle.tables.proofs.PackUnpack.{pack-unpack}
 use Rattle.tables.proofs.Stores.{clear-bit-turns, entry-turns, head-turns, next-turns, set-bit-turns, set-turns}
-use Rattle.tables.specs.Layout.{bitmapAt, fileAt, setAt, stateNumber, writeEntry, writeSet}
+use Rattle.tables.specs.Layout.{bitmapAt, entryAt, fileAt, setAt, stateNumber, writeEntry, writeSet}
 use Rattle.tables.specs.OneReading.{SetFits, blockFits}
 use Rattle.tables.specs.Packed.{pack, unpack}
 use Rattle.tables.specs.Views.{PackedTables, Turns, putBitIn, putEntryIn, putHeadIn, putNextIn, putSetIn}
@@ -25,9 +25,9 @@ turns-pack t t′ op bs h = sym (pack-unpack t′ (h .packed) bs) ∙ ap pack (h
 
 module _ (t t′ : List ℕ) where
   pub entry-written : (f s p w : ℕ) (e : Entry ℕ) → PackedTables t × (f < fileCount) × (s < setCount) × (p < pageCount) × blockFits e
-      → w ≡ writeEntry e → t′ ≡ putWord 1 t (544 + (s * 16 + f) * 132 + p * 2) w → Turns t t′ (putEntryIn f s p e)
+      → w ≡ writeEntry e → t′ ≡ putWord 1 t (entryAt f s p) w → Turns t t′ (putEntryIn f s p e)
   entry-written f s p w e h word put =
-      turns-of t _ t′ _ (put ∙ (λ i. putWord 1 t (entry-place f s p i) (word i))) (entry-turns t (h .0) f s p e (h .1) (h .2) (h .3) (h .4))
+      turns-of t _ t′ _ (put ∙ ap (putWord 1 t (entryAt f s p)) word) (entry-turns t (h .0) f s p e (h .1) (h .2) (h .3) (h .4))
 
   pub head-written : (f s k n : ℕ) (l : State) → PackedTables t × (f < fileCount) × (s < setCount) × (n < 65536)
       → k ≡ stateNumber l → t′ ≡ putWord 3 t (fileAt f s) ((k * 65536 + n) * 16384) → Turns t t′ (putHeadIn f s l n)

@@ -15,7 +15,7 @@ use Rattle.rules.specs.State.{absent, absentFile, fileCount, pageCount, setCoun
 use Rattle.tables.proofs.InRange.{page-in}
 use Rattle.tables.proofs.Layouts.{write-read-entry, write-read-head}
 use Rattle.tables.proofs.ReadParts.{map-default, read-map, read-size, read-state}
-use Rattle.tables.specs.Layout.{entryAt, entryWord, fileAt, headWidths, headWord, headerWidths, readBlocks, readEntry, readNext, readSet, readSize, readState, setWidths, writeEntry, writeHead}
+use Rattle.tables.specs.Layout.{entryAt, entryBytes, entryWord, fileAt, fileBytes, headBytes, headWidths, headWord, headerWidths, mapAt, mapBytes, readBlocks, readEntry, readNext, readSet, readSize, readState, setWidths, writeEntry, writeHead}
 use Rattle.tables.specs.Packed.{entryFormed, isPage, unpack}
 
 -- a word of zeros
@@ -43,9 +43,9 @@ unfolding readEntry
 zero-entry t = (refl, refl)
 
 -- a file whose entries are zero
-module _ (t : List ℕ) (f s : ℕ) (zeros : (j : ℕ) → j < 128 → getD t (544 + (s * 16 + f) * 132 + j) 0 ≡ 0) where
+module _ (t : List ℕ) (f s : ℕ) (zeros : (j : ℕ) → j < mapBytes → getD t (mapAt f s + j) 0 ≡ 0) where
   pub entry-zero : (p : ℕ) → p < pageCount → entryWord t f s p ≡ 0
-  entry-zero p hp = word-zero 1 t (entryAt f s p) (λ j k. let e : 544 + (s * 16 + f) * 132 + (p * 2 + j) ≡ entryAt f s p + j = omega arith in ap (λ i. getD t i 0) (sym e) ∙ zeros (p * 2 + j) (omega arith))
+  entry-zero p hp = word-zero 1 t (entryAt f s p) (λ j k. let e : mapAt f s + (p * entryBytes + j) ≡ entryAt f s p + j = omega arith in ap (λ i. getD t i 0) (sym e) ∙ zeros (p * entryBytes + j) (omega arith))
 
   pub map-zero : f < fileCount → s < setCount → (p : ℕ) → unpack t .files f s .map p ≡ unmapped
   map-zero hf hs p = test? (isPage f s p)
@@ -53,9 +53,9 @@ module _ (t : List ℕ) (f s : ℕ) (zeros : (j : ℕ) → j < 128 → getD t (5
       (λ e. map-default t f s p e)
 
 -- a file whose bytes are zero
-module _ (t : List ℕ) (f s : ℕ) (hf : f < fileCount) (hs : s < setCount) (zeros : (j : ℕ) → j < 132 → getD t (fileAt f s + j) 0 ≡ 0) where
-  pub entries-zero : (j : ℕ) → j < 128 → getD t (544 + (s * 16 + f) * 132 + j) 0 ≡ 0
-  entries-zero j l = let e : 544 + (s * 16 + f) * 132 + j ≡ fileAt f s + (4 + j) = omega arith in ap (λ i. getD t i 0) e ∙ zeros (4 + j) (omega arith)
+module _ (t : List ℕ) (f s : ℕ) (hf : f < fileCount) (hs : s < setCount) (zeros : (j : ℕ) → j < fileBytes → getD t (fileAt f s + j) 0 ≡ 0) where
+  pub entries-zero : (j : ℕ) → j < mapBytes → getD t (mapAt f s + j) 0 ≡ 0
+  entries-zero j l = let e : mapAt f s + j ≡ fileAt f s + (headBytes + j) = omega arith in ap (λ i. getD t i 0) e ∙ zeros (headBytes + j) (omega arith)
 
   pub head-zero : headWord t f s ≡ 0
   head-zero = word-zero 3 t (fileAt f s) (λ j k. zeros j (omega arith))
@@ -98,11 +98,11 @@ module _ (t : List ℕ) (bs : Bytes t) (f s : ℕ) (hf : f < fileCount) (hs : s 
   -- LAW: the bytes of an absent file whose words are well formed
   module _ (z : getField headWidths (headWord t f s) 2 ≡ 0) (k : (p : ℕ) → p < pageCount → entryFormed t (entryWord t f s p) ≡ true)
       (a : unpack t .files f s .state ≡ absent) (n : unpack t .files f s .size ≡ 0) (u : (p : ℕ) → p < pageCount → unpack t .files f s .map p ≡ unmapped) where
-    pub absent-bytes : (j : ℕ) → j < 132 → getD t (fileAt f s + j) 0 ≡ 0
-    absent-bytes j l = test? (ltb j 4)
-        (λ q. let b = ltb-true j 4 q in zero-bytes 3 t (fileAt f s) (absent-word z a n) j (omega arith))
-        (λ q. let b = ltb-false j 4 q in
-        let p = (j - 4) / 2 in
+    pub absent-bytes : (j : ℕ) → j < fileBytes → getD t (fileAt f s + j) 0 ≡ 0
+    absent-bytes j l = test? (ltb j headBytes)
+        (λ q. let b = ltb-true j headBytes q in zero-bytes 3 t (fileAt f s) (absent-word z a n) j (omega arith))
+        (λ q. let b = ltb-false j headBytes q in
+        let p = (j - headBytes) / entryBytes in
         let hp : p < 64 = omega arith in
-        let g : fileAt f s + j ≡ entryAt f s p + (j - 4) % 2 = omega arith in
-        ap (λ i. getD t i 0) g ∙ zero-bytes 1 t (entryAt f s p) (unmapped-word p hp (k p hp) (u p hp)) ((j - 4) % 2) (omega arith))
+        let g : fileAt f s + j ≡ entryAt f s p + (j - headBytes) % entryBytes = omega arith in
+        ap (λ i. getD t i 0) g ∙ zero-bytes 1 t (entryAt f s p) (unmapped-word p hp (k p hp) (u p hp)) ((j - headBytes) % entryBytes) (omega arith))

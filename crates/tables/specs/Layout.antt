@@ -5,27 +5,71 @@ use Rattle.base.specs.Logic.{digit}
 use Rattle.packing.specs.Bitmap.{isOne}
 use Rattle.packing.specs.Fields.{getField, join}
 use Rattle.packing.specs.Words.{getWord}
-use Rattle.rules.specs.State.{Entry, SetRecord, State, absent, fileCount, hole, marked, own, stored, unmapped, virgin}
+use Rattle.rules.specs.State.{Entry, SetRecord, State, absent, fileCount, hole, marked, own, pageCount, setCount, stored, unmapped, virgin}
 
--- "The tables are 17,436 bytes, in this order": header, bitmap, set records, file records
-abbrev pub tableBytes : ℕ
-tableBytes = 17436
-
+-- "in this order": each part stands behind the one before it. Every place and width of a part, in bytes, stands here and
+-- nowhere else in the definitions.
+-- "header, 4 bytes"
 abbrev pub headerAt : ℕ
 headerAt = 0
 
+abbrev pub headerBytes : ℕ
+headerBytes = 4
+
+-- "bitmap, 512 bytes"
 abbrev pub bitmapAt : ℕ
-bitmapAt = 4
+bitmapAt = headerAt + headerBytes
+
+abbrev pub bitmapBytes : ℕ
+bitmapBytes = 512
+
+-- "8 set records, 3 bytes each"
+abbrev pub setsAt : ℕ
+setsAt = bitmapAt + bitmapBytes
+
+abbrev pub setBytes : ℕ
+setBytes = 3
 
 abbrev pub setAt : ℕ → ℕ
-setAt s = 516 + s * 3
+setAt s = setsAt + s * setBytes
 
--- "at set × 16 + file"
+-- a file record: "state 2, size 16, zero 14", its head, "then 64 entries of kind 2 and block 14", its map
+abbrev pub headBytes : ℕ
+headBytes = 4
+
+abbrev pub entryBytes : ℕ
+entryBytes = 2
+
+abbrev pub mapBytes : ℕ
+mapBytes = pageCount * entryBytes
+
+abbrev pub fileBytes : ℕ
+fileBytes = headBytes + mapBytes
+
+-- the file records of a set
+abbrev pub setFilesBytes : ℕ
+setFilesBytes = fileCount * fileBytes
+
+-- "128 file records, 132 bytes each, at set × 16 + file"
+abbrev pub filesAt : ℕ
+filesAt = setsAt + setCount * setBytes
+
 abbrev pub fileAt : ℕ → ℕ → ℕ
-fileAt f s = 540 + (s * fileCount + f) * 132
+fileAt f s = filesAt + (s * fileCount + f) * fileBytes
+
+-- the maps stand as far apart as the records
+abbrev pub mapsAt : ℕ
+mapsAt = filesAt + headBytes
+
+abbrev pub mapAt : ℕ → ℕ → ℕ
+mapAt f s = mapsAt + (s * fileCount + f) * fileBytes
 
 abbrev pub entryAt : ℕ → ℕ → ℕ → ℕ
-entryAt f s p = fileAt f s + 4 + p * 2
+entryAt f s p = mapAt f s + p * entryBytes
+
+-- "The tables are 17,436 bytes"
+abbrev pub tableBytes : ℕ
+tableBytes = filesAt + setCount * setFilesBytes
 
 -- "block count B 13, next start 12, zero 7"
 abbrev pub headerWidths : List ℕ

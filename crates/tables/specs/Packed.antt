@@ -10,7 +10,7 @@ use Rattle.packing.specs.Fields.{getField}
 use Rattle.packing.specs.Words.{byte}
 use Rattle.rules.specs.State.{File, Tables, absent, fileCount, largestBlocks, pageCount, setCount, unmapped, unusedSet}
 use Rattle.rules.specs.WellFormed.{allFiles, allPages, allSets, blocksFormed, setsFormed}
-use Rattle.tables.specs.Layout.{bitmapAt, entryWidths, entryWord, headWidths, headWord, headerWidths, headerWord, readBlocks, readEntry, readNext, readSet, readSize, readState, setWidths, setWord, tableBytes, writeEntry, writeHead, writeHeader, writeSet}
+use Rattle.tables.specs.Layout.{bitmapAt, entryBytes, entryWidths, entryWord, fileBytes, filesAt, headBytes, headWidths, headWord, headerWidths, headerWord, readBlocks, readEntry, readNext, readSet, readSize, readState, setBytes, setWidths, setWord, setsAt, tableBytes, writeEntry, writeHead, writeHeader, writeSet}
 
 -- is there such a file, such a page of it
 abbrev pub isFile : ℕ → ℕ → Bool
@@ -37,15 +37,16 @@ unpack t = record {
 unfoldable pub recordByte : Tables → ℕ → ℕ → ℕ
 recordByte tb n j =
     let x : File ℕ = tb .files (n % fileCount) (n / fileCount) in
-    cond (ltb j 4) (byte 3 (writeHead (x .state) (x .size)) j) (byte 1 (writeEntry (x .map ((j - 4) / 2))) ((j - 4) % 2))
+    cond (ltb j headBytes) (byte 3 (writeHead (x .state) (x .size)) j)
+    (byte 1 (writeEntry (x .map ((j - headBytes) / entryBytes))) ((j - headBytes) % entryBytes))
 
 -- byte i of the tables
 unfoldable pub tableByte : Tables → ℕ → ℕ
 tableByte tb i =
-    cond (ltb i 4) (byte 3 (writeHeader (tb .blocks) (tb .next)) i)
-    (cond (ltb i 516) (mapByte (tb .bits) (i - 4))
-    (cond (ltb i 540) (byte 2 (writeSet (tb .sets ((i - 516) / 3))) ((i - 516) % 3))
-    (recordByte tb ((i - 540) / 132) ((i - 540) % 132))))
+    cond (ltb i bitmapAt) (byte 3 (writeHeader (tb .blocks) (tb .next)) i)
+    (cond (ltb i setsAt) (mapByte (tb .bits) (i - bitmapAt))
+    (cond (ltb i filesAt) (byte 2 (writeSet (tb .sets ((i - setsAt) / setBytes))) ((i - setsAt) % setBytes))
+    (recordByte tb ((i - filesAt) / fileBytes) ((i - filesAt) % fileBytes))))
 
 -- THE TABLES of a state
 unfoldable pub pack : Tables → List ℕ

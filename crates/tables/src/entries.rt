@@ -13,6 +13,9 @@ ghost use Rattle.tables.specs.OneReading.{blockFits};
 ghost use Rattle.tables.specs.Views.{PackedTables, Turns, putEntryIn, putBitIn, HeaderIn, Took, allHoles, entriesOf, pendingOf, nonePending};
 ghost use Rattle.tables.specs.Meaning.{entryMeant};
 use crate::header;
+use crate::places::BITMAP_AT;
+use crate::places::FILE_BYTES;
+use crate::places::MAPS_AT;
 use packing::bitmap;
 use packing::bitmap::Found;
 use packing::words;
@@ -79,7 +82,7 @@ pub fn entry_at(t: &[u8], f: usize, s: usize, page: Page) -> Entry
     requires { ⌜ (length (now t) ≡ tableBytes) × (f < 16) × (s < 8) × (page .0 < 64) ⌝ }
     ensures { λ r. ⌜ entryMeant r ≡ unpack (now (t .entry)) .files f s .map (page .0) ⌝ }
 {
-    decode(words::read16(t, 544 + (s * 16 + f) * 132 + page.0 * 2))
+    decode(words::read16(t, MAPS_AT + (s * 16 + f) * FILE_BYTES + page.0 * 2))
 }
 
 pub fn put_entry(t: &mut [u8], f: usize, s: usize, page: Page, e: Entry)
@@ -87,7 +90,7 @@ pub fn put_entry(t: &mut [u8], f: usize, s: usize, page: Page, e: Entry)
     ensures { λ _. ⌜ Turns (now (t .entry)) (now (t .exit)) (putEntryIn f s (page .0) (entryMeant e)) ⌝ }
 {
     let w = encode(e);
-    words::write16(t, 544 + (s * 16 + f) * 132 + page.0 * 2, w);
+    words::write16(t, MAPS_AT + (s * 16 + f) * FILE_BYTES + page.0 * 2, w);
 }
 
 pub fn is_unmapped(e: Entry) -> bool
@@ -128,10 +131,10 @@ pub fn take_block(t: &mut [u8]) -> Block
 {
     let limit = header::block_count(&*t);
     let start = header::next_start(&*t);
-    let Found::At(b) = bitmap::first_free(&*t, 4, start, limit) else {
+    let Found::At(b) = bitmap::first_free(&*t, BITMAP_AT, start, limit) else {
         return Block(0);
     };
-    bitmap::set_bit(t, 4, b);
+    bitmap::set_bit(t, BITMAP_AT, b);
     header::put_next(t, after(b, limit));
     Block(b as u16)
 }
@@ -141,7 +144,7 @@ pub fn release_block(t: &mut [u8], b: Block)
     requires { ⌜ PackedTables (now t) × (b .0 < 4096) ⌝ }
     ensures { λ _. ⌜ Turns (now (t .entry)) (now (t .exit)) (putBitIn (b .0) false) ⌝ }
 {
-    bitmap::clear_bit(t, 4, b.0 as usize);
+    bitmap::clear_bit(t, BITMAP_AT, b.0 as usize);
 }
 
 // No block is pending.
@@ -186,7 +189,7 @@ pub fn keep_entry(t: &[u8], f: usize, s: usize, page: Page, kept: &mut [u16; 64]
     ensures { λ _. ⌜ (entriesOf (now (kept .exit)) ≡ upd (entriesOf (now (kept .entry))) (page .0) (unpack (now (t .entry)) .files f s .map (page .0))) × (length (now (kept .exit)) ≡ 64) ⌝ }
 {
     let i = page.0;
-    kept[i] = words::read16(t, 544 + (s * 16 + f) * 132 + i * 2);
+    kept[i] = words::read16(t, MAPS_AT + (s * 16 + f) * FILE_BYTES + i * 2);
 }
 
 // The entry that is kept for a page.

@@ -7,6 +7,8 @@ ghost use Rattle.tables.specs.Layout.{tableBytes, stateOf, stateNumber};
 ghost use Rattle.tables.specs.Packed.{unpack};
 ghost use Rattle.tables.specs.Views.{PackedTables, Turns, putHeadIn};
 ghost use Rattle.tables.specs.Meaning.{stateMeant};
+use crate::places::FILE_BYTES;
+use crate::places::FILES_AT;
 use packing::words;
 
 pub enum State {
@@ -46,14 +48,14 @@ pub fn state_at(t: &[u8], f: usize, s: usize) -> State
     requires { ⌜ (length (now t) ≡ tableBytes) × (f < 16) × (s < 8) ⌝ }
     ensures { λ r. ⌜ stateMeant r ≡ unpack (now (t .entry)) .files f s .state ⌝ }
 {
-    state_of(words::read32(t, 540 + (s * 16 + f) * 132) / 1073741824)
+    state_of(words::read32(t, FILES_AT + (s * 16 + f) * FILE_BYTES) / 1073741824)
 }
 
 pub fn size_at(t: &[u8], f: usize, s: usize) -> usize
     requires { ⌜ (length (now t) ≡ tableBytes) × (f < 16) × (s < 8) ⌝ }
     ensures { λ r. ⌜ (r ≡ unpack (now (t .entry)) .files f s .size) × (r < 65536) ⌝ }
 {
-    (words::read32(t, 540 + (s * 16 + f) * 132) / 16384 % 65536) as usize
+    (words::read32(t, FILES_AT + (s * 16 + f) * FILE_BYTES) / 16384 % 65536) as usize
 }
 
 pub fn put_head(t: &mut [u8], f: usize, s: usize, l: State, n: usize)
@@ -61,7 +63,11 @@ pub fn put_head(t: &mut [u8], f: usize, s: usize, l: State, n: usize)
     ensures { λ _. ⌜ Turns (now (t .entry)) (now (t .exit)) (putHeadIn f s (stateMeant l) n) ⌝ }
 {
     let k = number_of(l);
-    words::write32(t, 540 + (s * 16 + f) * 132, (k * 65536 + n as u32) * 16384);
+    words::write32(
+        t,
+        FILES_AT + (s * 16 + f) * FILE_BYTES,
+        (k * 65536 + n as u32) * 16384,
+    );
 }
 
 // "own or virgin"

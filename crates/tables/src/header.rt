@@ -8,6 +8,7 @@ ghost use Rattle.base.specs.Count.{count};
 ghost use Rattle.tables.specs.Layout.{tableBytes};
 ghost use Rattle.tables.specs.Packed.{unpack};
 ghost use Rattle.tables.specs.Views.{PackedTables, Turns, putNextIn};
+use crate::places::BITMAP_AT;
 use packing::bitmap;
 
 // A byte as a wider number.
@@ -53,7 +54,7 @@ pub fn has_free(t: &[u8], need: u32) -> bool
     }
     let b = block_count(t);
     let words = (b + 63) / 64;
-    bitmap::has_clear(t, 4, words, need as usize + (words * 64 - b))
+    bitmap::has_clear(t, BITMAP_AT, words, need as usize + (words * 64 - b))
 }
 
 // How many blocks are free, where no bit is set from B on.
@@ -62,5 +63,5 @@ pub fn free_blocks(t: &[u8]) -> u32
     ensures { λ r. ⌜ (r ≡ count (unpack (now (t .entry)) .blocks) (λ b. not (unpack (now (t .entry)) .bits b))) × (r ≤ 4096) ⌝ }
 {
     let b = block_count(t);
-    b as u32 - bitmap::count_set(t, 4, (b + 63) / 64)
+    b as u32 - bitmap::count_set(t, BITMAP_AT, (b + 63) / 64)
 }

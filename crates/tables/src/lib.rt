@@ -3,4 +3,5 @@
 pub mod entries;
 pub mod files;
 pub mod header;
+pub mod places;
 pub mod sets;

@@ -8,6 +8,8 @@ ghost use Rattle.tables.specs.Packed.{unpack};
 ghost use Rattle.tables.specs.OneReading.{SetFits};
 ghost use Rattle.tables.specs.Views.{PackedTables, Turns, putSetIn};
 ghost use Rattle.tables.specs.Meaning.{setMeant};
+use crate::places::SET_BYTES;
+use crate::places::SETS_AT;
 use packing::words;
 
 pub struct SetRecord {
@@ -23,7 +25,7 @@ pub fn set_at(t: &[u8], s: usize) -> SetRecord
     requires { ⌜ (length (now t) ≡ tableBytes) × (s < 8) ⌝ }
     ensures { λ r. ⌜ (setMeant r ≡ unpack (now (t .entry)) .sets s) × SetFits (setMeant r) ⌝ }
 {
-    let w = words::read24(t, 516 + s * 3);
+    let w = words::read24(t, SETS_AT + s * SET_BYTES);
     SetRecord {
         used: w / 8388608 == 1,
         writeable: w / 4194304 % 2 == 1,
@@ -38,28 +40,28 @@ pub fn parent_of(t: &[u8], s: usize) -> usize
     requires { ⌜ (length (now t) ≡ tableBytes) × (s < 8) ⌝ }
     ensures { λ r. ⌜ (r ≡ unpack (now (t .entry)) .sets s .parent) × (r < 16) ⌝ }
 {
-    (words::read24(t, 516 + s * 3) / 32768 % 16) as usize
+    (words::read24(t, SETS_AT + s * SET_BYTES) / 32768 % 16) as usize
 }
 
 pub fn level_of(t: &[u8], s: usize) -> usize
     requires { ⌜ (length (now t) ≡ tableBytes) × (s < 8) ⌝ }
     ensures { λ r. ⌜ (r ≡ unpack (now (t .entry)) .sets s .level) × (r < 8) ⌝ }
 {
-    (words::read24(t, 516 + s * 3) / 524288 % 8) as usize
+    (words::read24(t, SETS_AT + s * SET_BYTES) / 524288 % 8) as usize
 }
 
 pub fn first_child_of(t: &[u8], s: usize) -> usize
     requires { ⌜ (length (now t) ≡ tableBytes) × (s < 8) ⌝ }
     ensures { λ r. ⌜ (r ≡ unpack (now (t .entry)) .sets s .firstChild) × (r < 16) ⌝ }
 {
-    (words::read24(t, 516 + s * 3) / 2048 % 16) as usize
+    (words::read24(t, SETS_AT + s * SET_BYTES) / 2048 % 16) as usize
 }
 
 pub fn next_sibling_of(t: &[u8], s: usize) -> usize
     requires { ⌜ (length (now t) ≡ tableBytes) × (s < 8) ⌝ }
     ensures { λ r. ⌜ (r ≡ unpack (now (t .entry)) .sets s .nextSibling) × (r < 16) ⌝ }
 {
-    (words::read24(t, 516 + s * 3) / 128 % 16) as usize
+    (words::read24(t, SETS_AT + s * SET_BYTES) / 128 % 16) as usize
 }
 
 fn digit(b: bool) -> u32
@@ -87,5 +89,5 @@ pub fn put_set(t: &mut [u8], s: usize, r: SetRecord)
     ensures { λ _. ⌜ Turns (now (t .entry)) (now (t .exit)) (putSetIn s (setMeant r)) ⌝ }
 {
     let w = word_of(r);
-    words::write24(t, 516 + s * 3, w);
+    words::write24(t, SETS_AT + s * SET_BYTES, w);
 }
