@@ -8,7 +8,7 @@ use setcheck::header::header_zero;
 use setcheck::tree::sets_formed;
 
 pub mod alone;
-pub mod file;
+pub mod heads;
 pub mod linked;
 pub mod passing;
 pub mod places;
