@@ -26,7 +26,7 @@ returns : tie.Need-returns Inv-loop μ-loop
 returns c =
     let l = c .before .before .before .loop in
     let r = c .before .set-at in
-    record { most = l .inv .0; after = l .inv .1; last = λ h. sym (ap (λ (x : SetRecord). x .used) (r .ensures .0)) ∙ c .if1 .taken }
+    record { most = omega (arith, l .inv .0); after = λ s a b. l .inv .1 s (omega (arith, l .inv .0)) b; last = λ h. sym (ap (λ (x : SetRecord). x .used) (r .ensures .0)) ∙ c .if1 .taken }
 
 loop-again : tie.Need-loop-again Inv-loop μ-loop
 loop-again c =
