@@ -18,7 +18,7 @@ use Rattle.masks.specs.Pages.{pages}
 use Rattle.entrycheck.proofs.Counts.{counts-none, counts-some}
 use Rattle.entrycheck.proofs.EntriesFormed.{file-counts, good, hit}
 use Rattle.entrycheck.proofs.MovedPages.{moved-ok, moved-then, times-none}
-use Rattle.entrycheck.specs.Seeing.{FileSeen, Sees, seeFile}
+use Rattle.entrycheck.specs.Seeing.{FileSeen, noneSeen, seeFile}
 use Rattle.entrycheck.specs.Moving.{Moved, blockAt, noPage, timesLeft}
 use Rattle.packing.specs.Bitmap.{bitAt, isOne}
 use Rattle.packing.specs.Words.{Bytes, getWord}
@@ -29,7 +29,7 @@ use Rattle.rules.specs.WellFormed.{blockBelow, names}
 use Rattle.tables.proofs.Codes.{word-hole, word-stored, word-unmapped}
 use Rattle.tables.specs.Layout.{entryWord, mapAt, readEntry}
 use Rattle.tables.specs.Packed.{entryFormed, unpack}
-use Rattle.entrycheck.specs.declared.Masks.{Masks}
+use Rattle.entrycheck.specs.declared.seeing.Masks.{Masks}
 use Rattle.entrycheck.specs.declared.seeing.Left.{Left}
 
 -- ---- one entry, by its word
@@ -128,16 +128,25 @@ module _ (limit : ℕ) (t : List ℕ) (bs : Bytes t) (f s : ℕ) (l : List ℕ) 
   abbrev Once : Type 0
   Once = (b : ℕ) → digit (bitAt l 0 b) + sum 64 (λ p. hit t b f s p) ≤ 1
 
+  -- the masks of a file that does not pass
+  abbrev refused : Masks
+  refused = record { ok = false; stored = 0; unmapped = 0 }
+
+  -- what is left then
+  abbrev Nothing : Masks → List ℕ → Type 0
+  Nothing r l′ = (r ≡ refused) × (length l′ ≡ 512) × (bitAt l′ 0 ≡ noneSeen)
+
   -- the file does not pass
-  fails : (l′ : List ℕ) → length l′ ≡ 512 → (AllGood → Once → ⊥) → FileSeen limit t f s l l′ (record { ok = false; stored = 0; unmapped = 0 })
-  fails l′ len′ h = record {
+  fails : (r : Masks) (l′ : List ℕ) → Nothing r l′ → (AllGood → Once → ⊥) → FileSeen limit t f s l l′ r
+  fails r l′ n h = subst (FileSeen limit t f s l l′) (sym (n .0)) (record {
     passes = record {
       sees = counts-none limit (seeFile limit t f s) _ _ (file-counts t limit f s) (bitAt l 0) (λ g o. h (λ p k. sym (good-is p) ∙ all-at 64 (good t limit f s) g p k) o);
-      len = len′;
+      len = n .1;
     };
     stored-is = λ o. absurd (true≢false (sym o));
     unmapped-is = λ o. absurd (true≢false (sym o));
-  }
+    refused = λ o. (refl, n .2);
+  })
 
   abbrev S : ℕ
   S = storedOf (wordsAt t at)
@@ -149,13 +158,13 @@ module _ (limit : ℕ) (t : List ℕ) (bs : Bytes t) (f s : ℕ) (l : List ℕ) 
   below-three g p k = test? (ltb (word p) 49152) (λ e. ltb-true (word p) 49152 e) (λ e. absurd (not-three limit (word p) (ltb-false (word p) 49152 e) (g p k)))
 
   -- LAW: a page is of kind 3
-  three-file : (bitAnd S H ≡ 0 → ⊥) → FileSeen limit t f s l l (record { ok = false; stored = 0; unmapped = 0 })
-  three-file h = fails l len (λ g o. h (some-three t bs at (below-three g)))
+  three-file : (bitAnd S H ≡ 0 → ⊥) → (r : Masks) (l′ : List ℕ) → Nothing r l′ → FileSeen limit t f s l l′ r
+  three-file h r l′ n = fails r l′ n (λ g o. h (some-three t bs at (below-three g)))
 
   -- LAW: a block is not plain
-  plain-file : limit ≤ 4096 → all 64 (plainAt t at) ≡ false → FileSeen limit t f s l l (record { ok = false; stored = 0; unmapped = 0 })
-  plain-file most h =
-      fails l len (λ g o. true≢false (sym (all-of 64 (plainAt t at) (λ p k. test? (plain (word p)) (λ e. e) (λ e. absurd (not-plain limit (word p) most e (g p k))))) ∙ h))
+  plain-file : limit ≤ 4096 → all 64 (plainAt t at) ≡ false → (r : Masks) (l′ : List ℕ) → Nothing r l′ → FileSeen limit t f s l l′ r
+  plain-file most h r l′ n =
+      fails r l′ n (λ g o. true≢false (sym (all-of 64 (plainAt t at) (λ p k. test? (plain (word p)) (λ e. e) (λ e. absurd (not-plain limit (word p) most e (g p k))))) ∙ h))
 
   -- LAW: all bytes are zero
   module _ (z : zeroBytes t at 128 ≡ true) where
@@ -180,6 +189,7 @@ module _ (limit : ℕ) (t : List ℕ) (bs : Bytes t) (f s : ℕ) (l : List ℕ) 
       };
       stored-is = λ o. sym (eqb-true _ 0 (mask-none isStored (unpack t .files f s .map) ∙ all-of 64 _ (λ p k. ap (λ e. not (isStored e)) (page-unmapped p k))));
       unmapped-is = λ o. sym (eqb-true _ 18446744073709551615 (mask-all isUnmapped (unpack t .files f s .map) ∙ all-of 64 _ (λ p k. ap isUnmapped (page-unmapped p k))));
+      refused = λ o. absurd (true≢false o);
     }
 
   -- ---- no kind is 3, and the blocks are plain
@@ -200,9 +210,9 @@ module _ (limit : ℕ) (t : List ℕ) (bs : Bytes t) (f s : ℕ) (l : List ℕ) 
         ∙ ap (λ w. digit (names b (readEntry w))) (sym (entry-is p)))
 
     -- LAW: a block is seen already, or is not below the limit
-    moved-fails : (l′ : List ℕ) (left : ℕ → Bool) → Moved limit (blockAt t at) l l′ (pages S) left false → FileSeen limit t f s l l′ (record { ok = false; stored = 0; unmapped = 0 })
-    moved-fails l′ left m =
-        fails l′ (m .len) (λ g o. m .fails refl (record {
+    moved-fails : (l′ : List ℕ) (left : ℕ → Bool) → Moved limit (blockAt t at) l l′ (pages S) left false → (r : Masks) (l⁺ : List ℕ) → Nothing r l⁺ → FileSeen limit t f s l l⁺ r
+    moved-fails l′ left m r l⁺ n =
+        fails r l⁺ n (λ g o. m .fails refl (record {
           low = λ p k e.
               let h : 32768 ≤ word p = stored-from (word p) (sym (page-is p k) ∙ e) in
               let b = ltb-true (word p % 16384) limit (sym (ap (blockBelow limit) (word-stored (word p) h)) ∙ and-right (entryFormed [] (word p)) _ (g p k)) in
@@ -213,47 +223,51 @@ module _ (limit : ℕ) (t : List ℕ) (bs : Bytes t) (f s : ℕ) (l : List ℕ) 
         stored-from : (w : ℕ) → isOne (w / 32768) ≡ true → 32768 ≤ w
         stored-from w e = test? (ltb w 32768) (λ d. let k = ltb-true w 32768 d in let z : w / 32768 ≡ 0 = omega arith in absurd (true≢false (sym e ∙ ap isOne z))) (λ d. ltb-false w 32768 d)
 
-    masks-are : (l′ : List ℕ) (ok : Bool) → Sees (seeFile limit t f s) l l′ ok → FileSeen limit t f s l l′ (record { ok = ok; stored = S; unmapped = 18446744073709551615 - bitOr S H })
-    masks-are l′ ok m = record { passes = m; stored-is = λ o. stored-mask t bs f s hf hs; unmapped-is = λ o. unmapped-mask t bs f s hf hs }
-
     -- LAW: every block is new and below the limit, and is seen now
-    moved-whole : (l′ : List ℕ) (ok : Bool) → Moved limit (blockAt t at) l l′ (pages S) noPage ok
-        → FileSeen limit t f s l l′ (record { ok = ok; stored = S; unmapped = 18446744073709551615 - bitOr S H })
-    moved-whole l′ true m = masks-are l′ true (record {
-      sees = counts-some limit (seeFile limit t f s) _ _ (file-counts t limit f s) (bitAt l 0) (bitAt l′ 0)
-          (all-of 64 (good t limit f s) (λ p k. good-is p ∙ is-good limit (word p) (no-three t bs at three p k) (plain-at p k) (λ e. m .low refl p k (page-is p k ∙ e) refl)))
-          (λ b. let q = times-hit b in let z = times-none (blockAt t at) noPage (λ p k. refl) b in omega (arith, m .counts refl b));
-      len = m .len;
-    })
-    moved-whole l′ false m = masks-are l′ false (moved-fails l′ noPage m .passes)
+    moved-whole : (l′ : List ℕ) → Moved limit (blockAt t at) l l′ (pages S) noPage true → FileSeen limit t f s l l′ (record { ok = true; stored = S; unmapped = 18446744073709551615 - bitOr S H })
+    moved-whole l′ m = record {
+      passes = record {
+        sees = counts-some limit (seeFile limit t f s) _ _ (file-counts t limit f s) (bitAt l 0) (bitAt l′ 0)
+            (all-of 64 (good t limit f s) (λ p k. good-is p ∙ is-good limit (word p) (no-three t bs at three p k) (plain-at p k) (λ e. m .low refl p k (page-is p k ∙ e) refl)))
+            (λ b. let q = times-hit b in let z = times-none (blockAt t at) noPage (λ p k. refl) b in omega (arith, m .counts refl b));
+        len = m .len;
+      };
+      stored-is = λ o. stored-mask t bs f s hf hs;
+      unmapped-is = λ o. unmapped-mask t bs f s hf hs;
+      refused = λ o. absurd (true≢false o);
+    }
 
   -- ---- what the code learns: x and y are the masks that it computed
 
   module _ (x y : ℕ) (ex : x ≡ S) (ey : y ≡ H) where
-    abbrev refused : Masks
-    refused = record { ok = false; stored = 0; unmapped = 0 }
-
     both-is : bitAnd x y ≡ bitAnd S H
     both-is = ap₂ bitAnd ex ey
 
-    pub reads-three : (bitAnd x y ≡ 0 → ⊥) → (r : Masks) → r ≡ refused → FileSeen limit t f s l l r
-    reads-three h r e = subst (FileSeen limit t f s l l) (sym e) (three-file (λ q. h (both-is ∙ q)))
+    pub reads-three : (bitAnd x y ≡ 0 → ⊥) → (r : Masks) (l′ : List ℕ) → Nothing r l′ → FileSeen limit t f s l l′ r
+    reads-three h = three-file (λ q. h (both-is ∙ q))
 
     module _ (apart : bitAnd x y ≡ 0) (ok : Bool) (said : ok ≡ all 64 (plainAt t at)) where
-      pub reads-block : limit ≤ 4096 → ok ≡ false → (r : Masks) → r ≡ refused → FileSeen limit t f s l l r
-      reads-block most h r e = subst (FileSeen limit t f s l l) (sym e) (plain-file most (sym said ∙ h))
+      pub reads-block : limit ≤ 4096 → ok ≡ false → (r : Masks) (l′ : List ℕ) → Nothing r l′ → FileSeen limit t f s l l′ r
+      reads-block most h = plain-file most (sym said ∙ h)
 
       module _ (plain-ok : ok ≡ true) (l′ : List ℕ) (left : Left) (m : Moved limit (blockAt t at) l l′ (pages x) (pages (left .pages)) (left .ok)) where
         rows-moved : (o : Bool) → left .ok ≡ o → Moved limit (blockAt t at) l l′ (pages S) (pages (left .pages)) o
         rows-moved o e = moved-ok limit (blockAt t at) l l′ (pages S) (pages (left .pages)) (left .ok) o e (subst (λ z. Moved limit (blockAt t at) l l′ (pages z) (pages (left .pages)) (left .ok)) ex m)
 
-        pub reads-rows : left .ok ≡ false → (r : Masks) → r ≡ refused → FileSeen limit t f s l l′ r
-        reads-rows h r e = subst (FileSeen limit t f s l l′) (sym e) (moved-fails (sym both-is ∙ apart) (sym said ∙ plain-ok) l′ (pages (left .pages)) (rows-moved false h))
+        pub reads-rows : left .ok ≡ false → (r : Masks) (l⁺ : List ℕ) → Nothing r l⁺ → FileSeen limit t f s l l⁺ r
+        reads-rows h = moved-fails (sym both-is ∙ apart) (sym said ∙ plain-ok) l′ (pages (left .pages)) (rows-moved false h)
 
-        pub reads-whole : left .ok ≡ true → (l″ : List ℕ) (o : Bool) → Moved limit (blockAt t at) l′ l″ (pages (left .pages)) noPage o
-            → FileSeen limit t f s l l″ (record { ok = o; stored = x; unmapped = 18446744073709551615 - bitOr x y })
-        reads-whole h l″ o n =
-            subst (λ z. FileSeen limit t f s l l″ (record { ok = o; stored = z; unmapped = 18446744073709551615 - bitOr z y })) (sym ex)
-            (subst (λ z. FileSeen limit t f s l l″ (record { ok = o; stored = S; unmapped = 18446744073709551615 - bitOr S z })) (sym ey)
-            (moved-whole (sym both-is ∙ apart) (sym said ∙ plain-ok) l″ o
-            (moved-then limit (blockAt t at) l l′ l″ (pages S) (pages (left .pages)) noPage o (rows-moved true h) n)))
+        module _ (h : left .ok ≡ true) (l″ : List ℕ) (o : Bool) (n : Moved limit (blockAt t at) l′ l″ (pages (left .pages)) noPage o) where
+          pages-moved : (o′ : Bool) → o ≡ o′ → Moved limit (blockAt t at) l l″ (pages S) noPage o′
+          pages-moved o′ e =
+              moved-ok limit (blockAt t at) l l″ (pages S) noPage o o′ e
+              (moved-then limit (blockAt t at) l l′ l″ (pages S) (pages (left .pages)) noPage o (rows-moved true h) n)
+
+          pub reads-page : o ≡ false → (r : Masks) (l⁺ : List ℕ) → Nothing r l⁺ → FileSeen limit t f s l l⁺ r
+          reads-page e = moved-fails (sym both-is ∙ apart) (sym said ∙ plain-ok) l″ noPage (pages-moved false e)
+
+          pub reads-whole : o ≡ true → FileSeen limit t f s l l″ (record { ok = true; stored = x; unmapped = 18446744073709551615 - bitOr x y })
+          reads-whole e =
+              subst (λ z. FileSeen limit t f s l l″ (record { ok = true; stored = z; unmapped = 18446744073709551615 - bitOr z y })) (sym ex)
+              (subst (λ z. FileSeen limit t f s l l″ (record { ok = true; stored = S; unmapped = 18446744073709551615 - bitOr S z })) (sym ey)
+              (moved-whole (sym both-is ∙ apart) (sym said ∙ plain-ok) l″ (pages-moved true e)))

@@ -14,7 +14,7 @@ use Rattle.packing.specs.Bitmap.{bitAt}
 use Rattle.rules.specs.State.{Entry, fileCount, hole, isStored, isUnmapped, largestBlocks, pageCount, setCount, stored, unmapped}
 use Rattle.tables.specs.Layout.{entryWord, readEntry}
 use Rattle.tables.specs.Packed.{entryFormed, unpack}
-use Rattle.entrycheck.specs.declared.Masks.{Masks}
+use Rattle.entrycheck.specs.declared.seeing.Masks.{Masks}
 
 -- which blocks are seen
 abbrev pub Seen : Type 0
@@ -114,8 +114,9 @@ pub record Sees (pass : Pass) (seen seen′ : List ℕ) (ok : Bool) : Type 0 whe
   pub sees : pass (bitAt seen 0) ≡ outcome ok (bitAt seen′ 0)
   pub len : length seen′ ≡ 512
 
--- the entries of file f in set s: what is seen, and which pages are stored and which unmapped
+-- the entries of file f in set s: what is seen, and which pages are stored and which unmapped; no block and no page where an entry does not pass
 pub record FileSeen (limit : ℕ) (t : List ℕ) (f s : ℕ) (seen seen′ : List ℕ) (r : Masks) : Type 0 where
   pub passes : Sees (seeFile limit t f s) seen seen′ (r .ok)
   pub stored-is : r .ok ≡ true → r .stored ≡ pageMask isStored (unpack t .files f s .map)
   pub unmapped-is : r .ok ≡ true → r .unmapped ≡ pageMask isUnmapped (unpack t .files f s .map)
+  pub refused : r .ok ≡ false → (r ≡ record { ok = false; stored = 0; unmapped = 0 }) × (bitAt seen′ 0 ≡ noneSeen)

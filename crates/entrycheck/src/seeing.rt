@@ -1,16 +1,24 @@
-// The blocks of the pages that a mask has, against the map of the blocks seen so far: first the words of four entries that
-// name four blocks in a row, then the other pages one by one. A block is what the 12 low bits of an entry say.
-ghost use mathlib.Core.Bool.{true};
+// The entries of a file against the map of the blocks seen so far: the kinds, then the blocks of the stored pages, first the
+// words of four entries that name four blocks in a row, then the other pages one by one. A block is what the 12 low bits of
+// an entry say.
+ghost use mathlib.Core.Bool.{false, true};
 ghost use mathlib.Core.Path.{_≡_};
 ghost use Prim.Native.Nat.{_+_, _%_, _<_, _≤_};
 ghost use lib.ListN.{length};
 ghost use Rattle.rules.specs.State.{stored};
+ghost use Rattle.packing.specs.Bitmap.{bitAt};
 ghost use Rattle.packing.specs.Words.{getWord};
-ghost use Rattle.entrycheck.specs.Seeing.{Sees, seeNamed, through};
+ghost use Rattle.tables.specs.Layout.{tableBytes};
+ghost use Rattle.entrycheck.specs.Seeing.{FileSeen, Sees, noneSeen, seeNamed, through};
 ghost use Rattle.masks.specs.Pages.{pages};
 ghost use Rattle.entrycheck.specs.Moving.{FourInARow, Full, Moved, RowMoved, blockAt, noPage, rows};
+use crate::no_bits;
+use crate::plain::blocks_plain;
+use masks::kinds::kind_masks;
 use masks::lowest;
 use packing::words;
+use tables::places::FILE_BYTES;
+use tables::places::MAPS_AT;
 
 fn wide(x: u16) -> usize
     requires { ⌜ x < 65536 ⌝ }
@@ -46,7 +54,7 @@ fn see_block(seen: &mut [u8], b: usize, limit: usize) -> bool
 }
 
 // The pages of the mask m one by one.
-pub fn see_pages(t: &[u8], seen: &mut [u8; 512], at: usize, m: u64, limit: usize) -> bool
+fn see_pages(t: &[u8], seen: &mut [u8; 512], at: usize, m: u64, limit: usize) -> bool
     requires { ⌜ (at + 128 ≤ length (now t)) × (length (now seen) ≡ 512) ⌝ }
     ensures { λ r. ⌜ Moved limit (blockAt (now (t .entry)) at) (now (seen .entry)) (now (seen .exit)) (pages m) noPage r ⌝ }
 {
@@ -99,7 +107,7 @@ fn in_row(t: &[u8], at: usize) -> bool
 }
 
 // Whether the blocks are new and below the limit, and the pages that are left.
-pub struct Left {
+struct Left {
     pub ok: bool,
     pub pages: u64,
 }
@@ -135,7 +143,7 @@ fn rows_of(m: u64) -> u64
 }
 
 // The words of four pages of the mask m that name blocks in a row.
-pub fn see_rows(t: &[u8], seen: &mut [u8; 512], at: usize, m: u64, limit: usize) -> Left
+fn see_rows(t: &[u8], seen: &mut [u8; 512], at: usize, m: u64, limit: usize) -> Left
     requires { ⌜ (at + 128 ≤ length (now t)) × (length (now seen) ≡ 512) ⌝ }
     ensures { λ r. ⌜ Moved limit (blockAt (now (t .entry)) at) (now (seen .entry)) (now (seen .exit)) (pages m) (pages (r .pages)) (r .ok) ⌝ }
 {
@@ -150,4 +158,50 @@ pub fn see_rows(t: &[u8], seen: &mut [u8; 512], at: usize, m: u64, limit: usize)
         q = q & (q - 1);
     }
     left
+}
+
+// Whether every entry passes; and then which pages are stored and which unmapped, each later page a less significant bit.
+pub struct Masks {
+    pub ok: bool,
+    pub stored: u64,
+    pub unmapped: u64,
+}
+
+// An entry does not pass: the masks have no page, and the map no block, whichever entry it is.
+fn not_passed(seen: &mut [u8; 512]) -> Masks
+    ensures { λ r. ⌜ (r ≡ record { ok = false; stored = 0; unmapped = 0 }) × (length (now (seen .exit)) ≡ 512) × (bitAt (now (seen .exit)) 0 ≡ noneSeen) ⌝ }
+{
+    *seen = no_bits();
+    Masks {
+        ok: false,
+        stored: 0,
+        unmapped: 0,
+    }
+}
+
+// The entries of file f in set s.
+pub fn file_entries(t: &[u8], seen: &mut [u8; 512], f: usize, s: usize, limit: usize) -> Masks
+    requires { ⌜ (length (now t) ≡ tableBytes) × (length (now seen) ≡ 512) × (f < 16) × (s < 8) × (limit ≤ 4096) ⌝ }
+    ensures { λ r. ⌜ FileSeen limit (now (t .entry)) f s (now (seen .entry)) (now (seen .exit)) r ⌝ }
+{
+    let at = MAPS_AT + (s * 16 + f) * FILE_BYTES;
+    let k = kind_masks(t, at);
+    if k.stored & k.holes != 0 {
+        return not_passed(seen);
+    }
+    if !blocks_plain(t, at) {
+        return not_passed(seen);
+    }
+    let left = see_rows(t, seen, at, k.stored, limit);
+    if !left.ok {
+        return not_passed(seen);
+    }
+    if !see_pages(t, seen, at, left.pages, limit) {
+        return not_passed(seen);
+    }
+    Masks {
+        ok: true,
+        stored: k.stored,
+        unmapped: !(k.stored | k.holes),
+    }
 }

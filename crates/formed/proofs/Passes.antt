@@ -13,7 +13,7 @@ use borrow.Author.Tests.{ltb-false, ltb-true, not-false, not-true}
 use Rattle.base.specs.Count.{all, all-more, all-none}
 use Rattle.base.specs.Logic.{same?, test?}
 use Rattle.entrycheck.proofs.Through.{through-next, through-refused}
-use Rattle.entrycheck.specs.declared.Masks.{Masks}
+use Rattle.entrycheck.specs.declared.seeing.Masks.{Masks}
 use Rattle.entrycheck.specs.Seeing.{FileSeen, Sees, Pass, Seen, andThen, seeAll, seeFile, seeNumber, outcome, through, through-more, through-none}
 use Rattle.masks.specs.Pages.{pageMask}
 use Rattle.packing.specs.Words.{lowWord}

@@ -13,7 +13,7 @@ use borrow.Author.Tests.{ltb-false, ltb-true, ne-eqb, not-false, not-true}
 use Rattle.base.specs.Logic.{or-false, same?, test?}
 use Rattle.formed.proofs.AloneRules.{size-field}
 use Rattle.formed.proofs.Resolved.{digit-or}
-use Rattle.formed.specs.Files.{LivesTo, Places, endOf, placeDigit, placeOf}
+use Rattle.formed.specs.Files.{LivesTo, Places, PlacesPut, endOf, placeDigit, placeOf}
 use Rattle.formed.specs.Pass.{EachIs, UnusedFrom}
 use Rattle.packing.specs.Bitmap.{isOne}
 use Rattle.packing.specs.Bits.{bit, bit-none, bit-pow-other, bit-pow-same}
@@ -116,44 +116,53 @@ module _ (w : ℕ) where
 
 -- ---- digits and parents of the sets
 -- of the sets before set s
-pub record PlacesTo (sets : ℕ → SetRecord) (digits parents : List ℕ) (s : ℕ) : Type 0 where
+pub record PlacesTo (sets : ℕ → SetRecord) (parents₀ digits parents : List ℕ) (s : ℕ) : Type 0 where
   pub digits-len : length digits ≡ 8
   pub parents-len : length parents ≡ 8
   pub digits-are : (x : ℕ) → x < s → getD digits x 0 ≡ placeDigit (sets x) x
   pub parents-are : (x : ℕ) → x < s → getD parents x 0 ≡ sets x .parent
-  -- the digits of the others are not there yet
+  -- those of the others are as they were
   pub rest : (x : ℕ) → s ≤ x → x < 8 → getD digits x 0 ≡ 0
+  pub rest-parents : (x : ℕ) → s ≤ x → x < 8 → getD parents x 0 ≡ getD parents₀ x 0
 
+-- LAW: of no set
 module _ (sets : ℕ → SetRecord) (digits parents : List ℕ) where
-  -- LAW: of no set
-  pub places-start : EachIs digits 0 → length parents ≡ 8 → PlacesTo sets digits parents 0
+  pub places-start : EachIs digits 0 → length parents ≡ 8 → PlacesTo sets parents digits parents 0
   places-start a b = record {
     digits-len = a .0;
     parents-len = b;
     digits-are = λ x l. absurd (omega arith);
     parents-are = λ x l. absurd (omega arith);
     rest = λ x l m. a .1 x m;
+    rest-parents = λ x l m. refl;
   }
 
-  module _ (s : ℕ) (k : PlacesTo sets digits parents s) where
-    -- LAW: of one set more, whose record is r
-    pub places-next : s < 8 → (r : SetRecord) (d : ℕ) → r ≡ sets s → d ≡ placeDigit r s → PlacesTo sets (set digits s d) (set parents s (r .parent)) (s + 1)
-    places-next ls r d e h = record {
-      digits-len = length-set digits s d ∙ k .digits-len;
-      parents-len = length-set parents s (r .parent) ∙ k .parents-len;
-      digits-are = put-value digits s d (λ x. placeDigit (sets x) x) (k .digits-len) ls (k .digits-are) (h ∙ ap (λ y. placeDigit y s) e);
-      parents-are = put-value parents s (r .parent) (λ x. sets x .parent) (k .parents-len) ls (k .parents-are) (ap (λ (y : SetRecord). y .parent) e);
-      rest = λ x l m. getD-set-other digits s x d 0 (λ q. omega arith) ∙ k .rest x (omega arith) m;
-    }
+module _ (sets : ℕ → SetRecord) (parents₀ digits parents : List ℕ) (s : ℕ) (k : PlacesTo sets parents₀ digits parents s) where
+  -- LAW: of one set more, whose record is r
+  pub places-next : s < 8 → (r : SetRecord) (d : ℕ) → r ≡ sets s → d ≡ placeDigit r s → PlacesTo sets parents₀ (set digits s d) (set parents s (r .parent)) (s + 1)
+  places-next ls r d e h = record {
+    digits-len = length-set digits s d ∙ k .digits-len;
+    parents-len = length-set parents s (r .parent) ∙ k .parents-len;
+    digits-are = put-value digits s d (λ x. placeDigit (sets x) x) (k .digits-len) ls (k .digits-are) (h ∙ ap (λ y. placeDigit y s) e);
+    parents-are = put-value parents s (r .parent) (λ x. sets x .parent) (k .parents-len) ls (k .parents-are) (ap (λ (y : SetRecord). y .parent) e);
+    rest = λ x l m. getD-set-other digits s x d 0 (λ q. omega arith) ∙ k .rest x (omega arith) m;
+    rest-parents = λ x l m. getD-set-other parents s x (r .parent) 0 (λ q. omega arith) ∙ k .rest-parents x (omega arith) m;
+  }
 
-    -- LAW: of all sets: those from set n on are unused
-    pub places-done : (n : ℕ) → s ≡ n → UnusedFrom sets n → Places sets digits parents
-    unfolding placeDigit
-    places-done n e u = record {
-      digits-are = λ x l. test? (ltb x s)
-          (λ q. k .digits-are x (ltb-true x s q))
-          (λ q. let m = ltb-false x s q in k .rest x m l ∙ sym (ap (λ b. cond b (2 ^ placeOf sets x) 0) (u x (omega arith) l)));
-      parents-are = λ x l h. test? (ltb x s)
-          (λ q. k .parents-are x (ltb-true x s q))
-          (λ q. let m = ltb-false x s q in absurd (true≢false (sym h ∙ u x (omega arith) l)));
-    }
+  -- LAW: of all sets: those from set n on are unused
+  pub places-done : (n : ℕ) → s ≡ n → UnusedFrom sets n → PlacesPut sets n parents₀ digits parents
+  unfolding placeDigit
+  places-done n e u = record {
+    digits-are = λ x l. test? (ltb x s)
+        (λ q. k .digits-are x (ltb-true x s q))
+        (λ q. let m = ltb-false x s q in k .rest x m l ∙ sym (ap (λ b. cond b (2 ^ placeOf sets x) 0) (u x (omega arith) l)));
+    parents-are = λ x l. k .parents-are x (omega arith);
+    parents-kept = λ x l m. k .rest-parents x (omega arith) m;
+  }
+
+-- LAW: which has the parents of the used sets
+pub places-are : (sets : ℕ → SetRecord) (n : ℕ) (parents digits′ parents′ : List ℕ) → UnusedFrom sets n → PlacesPut sets n parents digits′ parents′ → Places sets digits′ parents′
+places-are sets n parents digits′ parents′ u k = record {
+  digits-are = k .digits-are;
+  parents-are = λ x l h. test? (ltb x n) (λ q. k .parents-are x (ltb-true x n q)) (λ q. absurd (true≢false (sym h ∙ u x (ltb-false x n q) l)));
+}

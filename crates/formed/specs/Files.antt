@@ -2,7 +2,7 @@
 use mathlib.Core.Bool.{_&&_, Bool, cond, not, true, _||_}
 use mathlib.Core.List.{List}
 use mathlib.Core.Path.{_≡_}
-use Prim.Native.Nat.{_%_, _*_, _+_, _/_, _<_, _^_, suc, ℕ}
+use Prim.Native.Nat.{_%_, _*_, _+_, _/_, _<_, _^_, suc, ℕ, _≤_}
 use lib.Dec.{eqb, leb, ltb}
 use lib.ListN.{getD, length, set}
 use Rattle.base.specs.Count.{all}
@@ -92,6 +92,12 @@ DigitsAre sets digits = (s : ℕ) → s < setCount → getD digits s 0 ≡ place
 pub record Places (sets : ℕ → SetRecord) (digits parents : List ℕ) : Type 0 where
   pub digits-are : DigitsAre sets digits
   pub parents-are : (s : ℕ) → s < setCount → sets s .used ≡ true → getD parents s 0 ≡ sets s .parent
+
+-- the digits of the sets and the parents of the first n have been put; the parents of the others are as they were
+pub record PlacesPut (sets : ℕ → SetRecord) (n : ℕ) (parents digits′ parents′ : List ℕ) : Type 0 where
+  pub digits-are : DigitsAre sets digits′
+  pub parents-are : (s : ℕ) → s < n → getD parents′ s 0 ≡ sets s .parent
+  pub parents-kept : (s : ℕ) → n ≤ s → s < setCount → getD parents′ s 0 ≡ getD parents s 0
 
 -- of the first n sets those with an own or virgin file, each by its digit
 pub record LivesTo (sets : ℕ → SetRecord) (files : Files ℕ) (n lives : ℕ) : Type 0 where

@@ -3,7 +3,7 @@ use mathlib.Core.Bool.{Bool, cond, false, not, true}
 use mathlib.Core.List.{List}
 use mathlib.Core.Option.{none}
 use mathlib.Core.Path.{_≡_}
-use Prim.Native.Nat.{_*_, _+_, _/_, _<_, ℕ, _≤_}
+use Prim.Native.Nat.{_*_, _+_, _-_, _/_, _<_, ℕ, _≤_}
 use lib.Bits.{bitOr}
 use lib.Dec.{eqb}
 use lib.ListN.{getD, length, set}
@@ -35,6 +35,12 @@ module _ (limit : ℕ) (t : List ℕ) where
 -- sets from n on are unused
 abbrev pub UnusedFrom : (ℕ → SetRecord) → ℕ → Type 0
 UnusedFrom sets n = (s : ℕ) → n ≤ s → s < setCount → sets s .used ≡ false
+
+-- n is the number after that of the last used set, or 0 where no set is used
+pub record UsedTo (sets : ℕ → SetRecord) (n : ℕ) : Type 0 where
+  pub most : n ≤ setCount
+  pub after : UnusedFrom sets n
+  pub last : 0 < n → sets (n - 1) .used ≡ true
 
 -- every byte of the file records of the sets from n on is zero
 pub record BlankFrom (t : List ℕ) (n : ℕ) : Type 0 where

@@ -9,7 +9,7 @@ use setcheck::tree::sets_formed;
 use tables::places::TABLE_BYTES;
 
 pub mod alone;
-pub mod file;
+pub mod heads;
 pub mod linked;
 pub mod passing;
 pub mod places;

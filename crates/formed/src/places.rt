@@ -6,8 +6,8 @@ ghost use lib.ListN.{length};
 ghost use Rattle.tables.specs.Layout.{tableBytes};
 ghost use Rattle.tables.specs.Meaning.{setMeant};
 ghost use Rattle.tables.specs.Packed.{unpack};
-ghost use Rattle.formed.specs.Files.{Places, placeDigit};
-ghost use Rattle.formed.specs.Pass.{EachIs, UnusedFrom};
+ghost use Rattle.formed.specs.Files.{PlacesPut, placeDigit};
+ghost use Rattle.formed.specs.Pass.{EachIs, UnusedFrom, UsedTo};
 use tables::sets::SetRecord;
 use tables::sets::set_at;
 
@@ -39,7 +39,7 @@ fn digit_of(r: SetRecord, s: usize) -> u64
 // The digits and the parents of the sets: those from set n on are unused.
 pub fn put_places(t: &[u8], digits: &mut [u64; 8], parents: &mut [usize; 8], n: usize)
     requires { ⌜ (length (now t) ≡ tableBytes) × EachIs (now digits) 0 × (length (now parents) ≡ 8) × (n ≤ 8) × UnusedFrom (unpack (now t) .sets) n ⌝ }
-    ensures { λ _. ⌜ Places (unpack (now (t .entry)) .sets) (now (digits .exit)) (now (parents .exit)) ⌝ }
+    ensures { λ _. ⌜ PlacesPut (unpack (now (t .entry)) .sets) n (now (parents .entry)) (now (digits .exit)) (now (parents .exit)) ⌝ }
 {
     for s in 0..n {
         let r = set_at(t, s);
@@ -51,7 +51,7 @@ pub fn put_places(t: &[u8], digits: &mut [u64; 8], parents: &mut [usize; 8], n: 
 // The number after that of the last used set.
 pub fn used_to(t: &[u8]) -> usize
     requires { ⌜ length (now t) ≡ tableBytes ⌝ }
-    ensures { λ r. ⌜ (r ≤ 8) × UnusedFrom (unpack (now (t .entry)) .sets) r ⌝ }
+    ensures { λ r. ⌜ UsedTo (unpack (now (t .entry)) .sets) r ⌝ }
 {
     let mut n: usize = 8;
     while 0 < n {

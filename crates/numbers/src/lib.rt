@@ -108,7 +108,7 @@ fn missing(e: Entry) -> u32
 }
 
 // "Own need is the touched pages not stored in this file's map": m pages, the first of them `first`.
-pub fn own_need(t: &[u8], f: usize, s: usize, first: usize, m: usize) -> u32
+fn own_need(t: &[u8], f: usize, s: usize, first: usize, m: usize) -> u32
     requires { ⌜ (length (now t) ≡ tableBytes) × (f < 16) × (s < 8) × (first + m ≤ 64) ⌝ }
     ensures { λ r. ⌜ r ≡ ownNeed real s (from first m) (unpack (now (t .entry)) .files f) ⌝ }
 {
@@ -123,7 +123,7 @@ pub fn own_need(t: &[u8], f: usize, s: usize, first: usize, m: usize) -> u32
 }
 
 // The own need of a write of n bytes from `off` on.
-pub fn write_need(t: &[u8], f: usize, s: usize, off: usize, n: usize) -> u32
+fn write_need(t: &[u8], f: usize, s: usize, off: usize, n: usize) -> u32
     requires { ⌜ (length (now t) ≡ tableBytes) × (f < 16) × (s < 8) × (off + n ≤ 32768) ⌝ }
     ensures { λ r. ⌜ r ≡ ownNeed real s (touched off n) (unpack (now (t .entry)) .files f) ⌝ }
 {
@@ -135,7 +135,7 @@ pub fn write_need(t: &[u8], f: usize, s: usize, off: usize, n: usize) -> u32
 
 // "Own need is 1 if t is no multiple of 512 and its page resolves to stored but is not stored in this map, else 0." It is 0
 // too where n is not below the size.
-pub fn truncate_need(t: &[u8], f: usize, s: usize, n: usize) -> u32
+fn truncate_need(t: &[u8], f: usize, s: usize, n: usize) -> u32
     requires { ⌜ (length (now t) ≡ tableBytes) × (f < 16) × (s < 8) × (n ≤ 32768) ⌝ }
     ensures { λ r. ⌜ r ≡ truncateNeed real (treeOf (unpack (now (t .entry)) .sets)) s n (unpack (now (t .entry)) .files f) ⌝ }
 {

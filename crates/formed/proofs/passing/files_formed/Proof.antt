@@ -2,6 +2,7 @@
 use Prim.Native.Nat.{_-_, _≤_}
 use native.Mathlib.Omega.{arith}
 use Rattle.formed.proofs.Blank.{blank-from, blank-refused}
+use Rattle.formed.proofs.PlaceDigits.{places-are}
 use Rattle.formed.proofs.Whole.{FilesPassed, files-done, files-next, files-refused, files-start}
 use Rattle.formed.proofs.passing.files_formed.Statement.{statement}
 use Rattle.formed.proofs.passing.files_formed.Tie as tie
@@ -16,13 +17,13 @@ returns : tie.Need-returns Inv-loop μ-loop
 returns c =
     let z = c .before in
     let u = z .before in
-    blank-refused _ _ (u .used-to .ensures .0) _ (λ i. u .before .before .shared-slice-known .given i .fits) (u .used-to .ensures .1) (z .all-zero .ensures) (c .if1 .taken)
+    blank-refused _ _ (u .used-to .ensures .most) _ (λ i. u .before .before .shared-slice-known .given i .fits) (u .used-to .ensures .after) (z .all-zero .ensures) (c .if1 .taken)
 
 put-places-requires : tie.Need-put-places-requires Inv-loop μ-loop
 put-places-requires c κs =
     let x = c .before .before in
     let u = x .before .before .before .before in
-    (u .before .before .before .pre .0, x .before .masks-of .ensures, x .numbers-of .ensures .0, u .used-to .ensures .0, u .used-to .ensures .1)
+    (u .before .before .before .pre .0, x .before .masks-of .ensures, x .numbers-of .ensures .0, u .used-to .ensures .most, u .used-to .ensures .after)
 
 loop-holds : tie.Need-loop-holds Inv-loop μ-loop
 loop-holds c = (omega arith, files-start _ _ _ (c .no-bits .ensures .0) (c .no-bits .ensures .1))
@@ -38,9 +39,9 @@ pass-number-requires c κs =
       p .0,
       p .1,
       l .loop .inv .1 .len,
-      x .put-places .ensures,
+      places-are _ _ _ _ _ (u .used-to .ensures .after) (x .put-places .ensures),
       omega arith,
-      blank-from _ _ (u .used-to .ensures .0) _ (i .before .all-zero .ensures) (i .if1 .left),
+      blank-from _ _ (u .used-to .ensures .most) _ (i .before .all-zero .ensures) (i .if1 .left),
       omega (arith, b .block-count .ensures .0, p .2),
     )
 
@@ -69,6 +70,6 @@ returns-3 c =
     files-done _ _ (b .block-count .ensures .0) (b .before .before .pre .2) _ _ (l .loop .inv .1) _ (omega arith) (c .maps-equal .ensures)
 
 pub files-formed-spec : {M : Type 1} → statement M
-files-formed-spec = tie.close (tie.spec Inv-loop μ-loop (λ c κs. c .before .pre .0) (λ c κs. c .before .before .pre .0) (λ c. omega (arith, c .used-to .ensures .0)) (λ c. omega (arith, c .used-to .ensures .0)) (λ c. omega (arith, c .used-to .ensures .0)) (λ c. omega (arith, c .used-to .ensures .0))
-    (λ c κs. omega (arith, c .used-to .ensures .0, c .before .before .before .pre .0)) returns (λ c κs. tt) (λ c κs. tt) put-places-requires (λ c κs. tt) loop-holds pass-number-requires returns-2 (λ c. omega arith)
+files-formed-spec = tie.close (tie.spec Inv-loop μ-loop (λ c κs. c .before .pre .0) (λ c κs. c .before .before .pre .0) (λ c. omega (arith, c .used-to .ensures .most)) (λ c. omega (arith, c .used-to .ensures .most)) (λ c. omega (arith, c .used-to .ensures .most)) (λ c. omega (arith, c .used-to .ensures .most))
+    (λ c κs. omega (arith, c .used-to .ensures .most, c .before .before .before .pre .0)) returns (λ c κs. tt) (λ c κs. tt) put-places-requires (λ c κs. tt) loop-holds pass-number-requires returns-2 (λ c. omega arith)
     (λ c. omega arith) loop-again (λ c. omega arith) maps-equal-requires returns-3)

@@ -8,7 +8,7 @@ use Rattle.formed.proofs.places.put_places.Statement.{statement}
 use Rattle.formed.proofs.places.put_places.Tie as tie
 
 abbrev Inv-loop : tie.InvT-loop
-Inv-loop t digits₀ parents₀ n s₀ digits parents s = (s ≤ n) × PlacesTo (unpack t .sets) digits parents s
+Inv-loop t digits₀ parents₀ n s₀ digits parents s = (s ≤ n) × PlacesTo (unpack t .sets) parents₀ digits parents s
 
 abbrev μ-loop : tie.MeasureT-loop
 μ-loop t digits₀ parents₀ n s₀ digits parents s = n - s
@@ -26,10 +26,10 @@ loop-again : tie.Need-loop-again Inv-loop μ-loop
 loop-again c =
     let r = c .before in
     let l = r .before .before in
-    (omega arith, places-next _ _ _ _ (l .loop .inv .1) (omega arith) (setMeant (r .set-at .result)) _ (r .set-at .ensures .0) (c .digit-of .ensures))
+    (omega arith, places-next _ _ _ _ _ (l .loop .inv .1) (omega arith) (setMeant (r .set-at .result)) _ (r .set-at .ensures .0) (c .digit-of .ensures))
 
 returns : tie.Need-returns Inv-loop μ-loop
-returns c = places-done _ _ _ _ (c .before .loop .inv .1) _ (omega arith) (c .before .before .before .pre .4)
+returns c = places-done _ _ _ _ _ (c .before .loop .inv .1) _ (omega arith) (c .before .before .before .pre .4)
 
 pub put-places-spec : {M : Type 1} → statement M
 put-places-spec = tie.close (tie.spec Inv-loop μ-loop loop-holds set-at-requires (λ c. omega arith) (λ c. omega arith) digit-of-requires (λ c. omega arith) (λ c. omega arith) (λ c. omega arith) (λ c. omega arith) loop-again returns)

@@ -1,9 +1,9 @@
--- `formed::file::pass_file` meets its contract. Assumes nothing.
+-- `formed::passing::pass_file` meets its contract. Assumes nothing.
 use borrow.Author.Needs.{needs}
 use Rattle.entrycheck.proofs.FileEntries.{zero-file}
 use Rattle.formed.proofs.Passes.{file-blank}
-use Rattle.formed.proofs.file.pass_file.Statement.{statement}
-use Rattle.formed.proofs.file.pass_file.Tie as tie
+use Rattle.formed.proofs.passing.pass_file.Statement.{statement}
+use Rattle.formed.proofs.passing.pass_file.Tie as tie
 
 pass-blank-requires : tie.Need-pass-blank-requires
 pass-blank-requires c κs = let i = c .before in i .before .is-blank .ensures (i .if1 .taken) .0

@@ -1,8 +1,8 @@
--- `formed::file::end_of` meets its contract. Assumes nothing.
+-- `formed::heads::end_of` meets its contract. Assumes nothing.
 use borrow.Author.Needs.{needs}
 use Rattle.formed.proofs.PlaceDigits.{end-other, end-own}
-use Rattle.formed.proofs.file.end_of.Statement.{statement}
-use Rattle.formed.proofs.file.end_of.Tie as tie
+use Rattle.formed.proofs.heads.end_of.Statement.{statement}
+use Rattle.formed.proofs.heads.end_of.Tie as tie
 
 returns : tie.Need-returns
 returns c = end-other (c .before .args .w) (c .if1 .taken)

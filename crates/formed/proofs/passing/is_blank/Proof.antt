@@ -1,10 +1,10 @@
--- `formed::file::is_blank` meets its contract. Assumes nothing.
+-- `formed::passing::is_blank` meets its contract. Assumes nothing.
 use mathlib.Core.Bool.{true≢false}
 use mathlib.Core.Path.{sym, _∙_}
 use borrow.Author.Needs.{needs}
 use Rattle.formed.proofs.FileHead.{blank-head}
-use Rattle.formed.proofs.file.is_blank.Statement.{statement}
-use Rattle.formed.proofs.file.is_blank.Tie as tie
+use Rattle.formed.proofs.passing.is_blank.Statement.{statement}
+use Rattle.formed.proofs.passing.is_blank.Tie as tie
 
 returns : tie.Need-returns
 returns c = λ h. absurd (true≢false (sym h))

@@ -1,8 +1,8 @@
--- `formed::file::head_of` meets its contract. Assumes nothing.
+-- `formed::heads::head_of` meets its contract. Assumes nothing.
 use borrow.Author.Needs.{needs}
 use Rattle.formed.proofs.FileHead.{head-low}
-use Rattle.formed.proofs.file.head_of.Statement.{statement}
-use Rattle.formed.proofs.file.head_of.Tie as tie
+use Rattle.formed.proofs.heads.head_of.Statement.{statement}
+use Rattle.formed.proofs.heads.head_of.Tie as tie
 
 returns : tie.Need-returns
 returns c = head-low (c .args .v)

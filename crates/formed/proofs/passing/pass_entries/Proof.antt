@@ -1,4 +1,4 @@
--- `formed::file::pass_entries` meets its contract. Assumes nothing.
+-- `formed::passing::pass_entries` meets its contract. Assumes nothing.
 use mathlib.Core.Path.{refl, _∙_}
 use borrow.Author.Needs.{needs}
 use borrow.Author.Tests.{not-false}
@@ -6,8 +6,8 @@ use Rattle.formed.proofs.AloneRules.{alone-head}
 use Rattle.formed.proofs.FileHead.{head-turned}
 use Rattle.formed.proofs.Passes.{ends-by-head, file-decided, file-refused, lives-by-head}
 use Rattle.formed.proofs.PlaceDigits.{digit-used}
-use Rattle.formed.proofs.file.pass_entries.Statement.{statement}
-use Rattle.formed.proofs.file.pass_entries.Tie as tie
+use Rattle.formed.proofs.passing.pass_entries.Statement.{statement}
+use Rattle.formed.proofs.passing.pass_entries.Tie as tie
 
 returns : tie.Need-returns
 returns c = file-refused _ _ _ _ _ _ _ _ (c .before .before .file-entries .ensures) _ _ _ _ _ _ _ _ (c .if1 .taken)

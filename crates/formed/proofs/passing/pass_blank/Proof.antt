@@ -1,8 +1,8 @@
--- `formed::file::pass_blank` meets its contract. Assumes nothing.
+-- `formed::passing::pass_blank` meets its contract. Assumes nothing.
 use native.Mathlib.Omega.{arith}
 use Rattle.formed.proofs.FileHead.{blank-absent, blank-root, blank-unused, blank-virgin}
-use Rattle.formed.proofs.file.pass_blank.Statement.{statement}
-use Rattle.formed.proofs.file.pass_blank.Tie as tie
+use Rattle.formed.proofs.passing.pass_blank.Statement.{statement}
+use Rattle.formed.proofs.passing.pass_blank.Tie as tie
 
 returns : tie.Need-returns
 returns c = blank-absent _ _ _ _ (c .if1 .taken)

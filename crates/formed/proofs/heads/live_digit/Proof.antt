@@ -1,11 +1,11 @@
--- `formed::file::live_digit` meets its contract. Assumes nothing.
+-- `formed::heads::live_digit` meets its contract. Assumes nothing.
 use mathlib.Core.Bool.{cond}
 use mathlib.Core.Path.{ap, sym}
 use Rattle.rules.specs.State.{live}
 use Rattle.tables.specs.Layout.{stateOf}
 use Rattle.formed.proofs.PlaceDigits.{dead-state}
-use Rattle.formed.proofs.file.live_digit.Statement.{statement}
-use Rattle.formed.proofs.file.live_digit.Tie as tie
+use Rattle.formed.proofs.heads.live_digit.Statement.{statement}
+use Rattle.formed.proofs.heads.live_digit.Tie as tie
 
 returns : tie.Need-returns
 returns c = sym (ap (λ k. cond (live (stateOf k)) (c .before .args .digit) 0) (c .if1 .taken))
