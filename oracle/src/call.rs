@@ -94,7 +94,7 @@ macro_rules! calls {
                 let mut numbers = [0; MOST_NUMBERS];
                 match *self {
                     $(Call::$call { $($told,)* .. } => {
-                        let told: &[u32] = &[$($told),*];
+                        let told: &[u32] = &[$(u32::from($told)),*];
                         numbers[..told.len()].copy_from_slice(told);
                     })*
                 }

@@ -66,7 +66,8 @@ struct function {
     /* Sets to 1 the places of a buffer whose bytes an accepted call leaves free: buffers as the judge left them. They are not
      * compared, and the judge goes on with the store's. */
     void (*leaves)(const struct call *after, enum buffer buffer, uint8_t *free);
-    int copies; /* whether its second and third counts are copies and files marked */
+    int copies;    /* whether its second and third counts are copies and files marked */
+    int unchecked; /* whether it can give another number than 1 on tables that are not well formed, format apart */
 
     unsigned slots; /* how often lists have it: so many of the values of a byte */
     /* Gives buffers other lengths and contents before the call. */

@@ -251,7 +251,7 @@ void run_list(const uint8_t *data, size_t length, caller how)
         /* a store that was damaged, or told with wrong lengths, is put back */
         if (answer.number == SWEEP_BAD_TABLES)
             copy_buffers(&world, &kept);
-        else
+        else if (!exported.functions[kind - CHANGES].unchecked)
             copy_buffers(&kept, &world);
     }
 }
