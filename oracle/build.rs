@@ -1,18 +1,20 @@
 //! Tells the build which calls of the library under comparison to link: the
 //! variable SWEEP_LIB names the folder of libsweep.a, SWEEP_CALLS the calls
-//! in it (a comma list; all ten when it is not set or empty).
+//! in it (a comma list; all when it is not set or empty).
 
 use std::env;
 
-const CALLS: [&str; 10] =
-    ["format", "create", "write", "read", "truncate", "delete", "make", "remove", "size", "free"];
+#[path = "src/names.rs"]
+mod names;
+use names::CALL_NAMES;
 
 fn main() {
     println!("cargo:rerun-if-changed=build.rs");
+    println!("cargo:rerun-if-changed=src/names.rs");
     println!("cargo:rerun-if-env-changed=SWEEP_LIB");
     println!("cargo:rerun-if-env-changed=SWEEP_CALLS");
     println!("cargo:rustc-check-cfg=cfg(have_sweep)");
-    for call in CALLS {
+    for call in CALL_NAMES {
         println!("cargo:rustc-check-cfg=cfg(sweep_{call})");
     }
     let Ok(folder) = env::var("SWEEP_LIB") else { return };
@@ -31,11 +33,11 @@ fn main() {
 fn wanted_calls() -> Vec<String> {
     let list = env::var("SWEEP_CALLS").unwrap_or_default();
     if list.trim().is_empty() {
-        return CALLS.iter().map(|call| call.to_string()).collect();
+        return CALL_NAMES.iter().map(|call| call.to_string()).collect();
     }
     let calls: Vec<String> = list.split(',').map(|call| call.trim().to_string()).collect();
     for call in &calls {
-        assert!(CALLS.contains(&call.as_str()), "SWEEP_CALLS: unknown call '{call}'");
+        assert!(CALL_NAMES.contains(&call.as_str()), "SWEEP_CALLS: unknown call '{call}'");
     }
     calls
 }

@@ -6,6 +6,7 @@ use crate::agree::agree;
 use crate::call::*;
 use crate::check::{check_state, Rule};
 use crate::judge::{format_blocks, Beside};
+use crate::lent::{check_unchanged, Buffer::*, Buffers, Guarded};
 use crate::state::State;
 use crate::store;
 use std::collections::BTreeMap;
@@ -17,10 +18,8 @@ pub trait Other {
     /// `CALL_NAMES`.
     fn has(&self, index: usize) -> bool;
 
-    /// Does a call that it has on the buffers. `bytes` is the data of a write
-    /// or the buffer of a read.
-    fn run(&mut self, call: &Call, tables: &mut [u8], pages: &mut [u8], bytes: &mut [u8])
-        -> Answer;
+    /// Does a call that it has, with these numbers on these buffers.
+    fn run(&mut self, index: usize, numbers: &Numbers, lent: Lent) -> Answer;
 }
 
 /// No other implementation: the oracle alone.
@@ -31,7 +30,7 @@ impl Other for NoOther {
         false
     }
 
-    fn run(&mut self, _: &Call, _: &mut [u8], _: &mut [u8], _: &mut [u8]) -> Answer {
+    fn run(&mut self, _: usize, _: &Numbers, _: Lent) -> Answer {
         unreachable!("it has no calls")
     }
 }
@@ -40,11 +39,11 @@ impl Other for NoOther {
 #[derive(Default, Clone)]
 pub struct Counts {
     /// By the place of the call in `CALL_NAMES`.
-    pub calls: [u64; 10],
+    pub calls: [u64; CALLS],
     /// The same, of the other implementation.
-    pub linked: [u64; 10],
+    pub linked: [u64; CALLS],
     /// By the number given.
-    pub numbers: [u64; 13],
+    pub numbers: [u64; NUMBERS],
     pub copies: u64,
     pub files_marked: u64,
     /// Reads whose second count was, and was not, the oracle's.
@@ -54,23 +53,15 @@ pub struct Counts {
     pub flips: u64,
 }
 
-/// The three buffers of a call.
-#[derive(Clone, PartialEq, Eq)]
-struct Buffers {
-    tables: Vec<u8>,
-    pages: Vec<u8>,
-    bytes: Vec<u8>,
-}
-
 const BUFFER_FILL: u8 = 0xB7;
 const OLD_PAGE_FILL: u8 = 0xA5;
 const OLD_TABLE_FILL: u8 = 0x5A;
 
 pub struct Bench {
-    pub tables: Vec<u8>,
-    pub pages: Vec<u8>,
+    /// What the caller holds from call to call.
+    buffers: Buffers,
     /// Plain store and tally; none before an accepted format and after a
-    /// change made from outside.
+    /// change of tables or pages made from outside.
     pub beside: Option<Beside>,
     pub counts: Counts,
 }
@@ -83,58 +74,76 @@ impl Default for Bench {
 
 impl Bench {
     pub fn new() -> Bench {
-        Bench {
-            tables: vec![OLD_TABLE_FILL; TABLES_BYTES],
-            pages: Vec::new(),
-            beside: None,
-            counts: Counts::default(),
-        }
+        Bench::with(vec![OLD_TABLE_FILL; TABLES_BYTES], Vec::new())
     }
 
     /// A bench on given tables and pages, without plain store and tally.
     pub fn with(tables: Vec<u8>, pages: Vec<u8>) -> Bench {
-        Bench { tables, pages, ..Bench::new() }
+        let mut buffers = Buffers::default();
+        buffers[Tables] = tables;
+        buffers[Pages] = pages;
+        Bench { buffers, beside: None, counts: Counts::default() }
+    }
+
+    pub fn tables(&self) -> &[u8] {
+        &self.buffers[Tables]
+    }
+
+    pub fn pages(&self) -> &[u8] {
+        &self.buffers[Pages]
     }
 
     /// Does one line of a script. An error says the first difference.
     pub fn step(&mut self, item: &Item, other: &mut dyn Other) -> Result<Option<Answer>, String> {
-        match *item {
+        let changed = match *item {
             Item::Call(ref call) => return self.call(call, other).map(Some),
-            Item::Poke { at, value } => put_byte(&mut self.tables, at, value),
-            Item::PokePage { at, value } => put_byte(&mut self.pages, at, value),
-            Item::Tables { length } => self.tables.resize(length, 0),
-            Item::Pages { length } => self.pages.resize(length, 0),
+            Item::Poke { buffer, at, value } => {
+                put_byte(&mut self.buffers[buffer], at, value);
+                buffer
+            }
+            Item::Length { buffer, length } => {
+                self.buffers[buffer].resize(length, 0);
+                buffer
+            }
+        };
+        if matches!(changed, Tables | Pages) {
+            self.beside = None;
         }
-        self.beside = None;
         Ok(None)
     }
 
     pub fn call(&mut self, call: &Call, other: &mut dyn Other) -> Result<Answer, String> {
         let before = self.buffers_of(call);
         let mut after = before.clone();
-        let answer = store::run(call, &mut after.tables, &mut after.pages, &mut after.bytes);
+        let answer = store::run(call.index(), &call.numbers(), after.lend());
         self.count(call, &answer);
-        check_unchanged(call, &answer, &before, &after)?;
-        self.compare_other(call, &answer, &before, &after, other)?;
+        check_unchanged(call.row(), &answer, &before, &after)?;
+        self.compare_other(call, &answer, &before, &mut after, other)?;
         self.compare_beside(call, &answer, &before, &after)?;
         // The buffer of a refused format is not the store's.
         if !matches!(call, Call::Format { .. }) || answer.number == 0 {
-            self.tables = after.tables;
-            self.pages = after.pages;
+            self.keep(call, after);
         }
         Ok(answer)
     }
 
     fn buffers_of(&self, call: &Call) -> Buffers {
-        let mut pages = self.pages.clone();
-        let mut bytes = Vec::new();
+        let mut buffers = self.buffers.lent_by(call.row());
         match *call {
-            Call::Format { pages_length } => pages.resize(pages_length, OLD_PAGE_FILL),
-            Call::Write { length, seed, .. } => bytes = data_bytes(length, seed),
-            Call::Read { length, .. } => bytes = vec![BUFFER_FILL; length],
+            Call::Format { pages_length } => buffers[Pages].resize(pages_length, OLD_PAGE_FILL),
+            Call::Write { length, seed, .. } => buffers[Bytes] = data_bytes(length, seed),
+            Call::Read { length, .. } => buffers[Bytes] = vec![BUFFER_FILL; length],
             _ => {}
         }
-        Buffers { tables: self.tables.clone(), pages, bytes }
+        buffers
+    }
+
+    /// The next call gets the buffers as this one left them; data and read
+    /// buffer belong to one call.
+    fn keep(&mut self, call: &Call, mut after: Buffers) {
+        for buffer in call.row().lent().filter(|buffer| *buffer != Bytes) {
+            std::mem::swap(&mut self.buffers[buffer], &mut after[buffer]);
+        }
     }
 
     fn count(&mut self, call: &Call, answer: &Answer) {
@@ -166,17 +175,17 @@ impl Bench {
             return Err(format!("the answer is {answer}; by plain store and tally {wanted}"));
         }
         if matches!(call, Call::Read { .. }) && answer.number == 0 {
-            check_read(&read, &after.bytes)?;
+            check_read(&read, &after[Bytes])?;
         }
         // Bytes that did not change need not be compared once more.
-        if after.tables == before.tables && after.pages == before.pages {
+        if after[Tables] == before[Tables] && after[Pages] == before[Pages] {
             return Ok(());
         }
-        let state = State::unpack(&after.tables);
-        if let Some(broken) = check_state(&state, after.pages.len()).first() {
+        let state = State::unpack(&after[Tables]);
+        if let Some(broken) = check_state(&state, after[Pages].len()).first() {
             return Err(format!("the tables are not well formed: {broken}"));
         }
-        agree(&state, &after.pages, beside)
+        agree(&state, &after[Pages], beside)
     }
 
     fn compare_other(
@@ -184,26 +193,17 @@ impl Bench {
         call: &Call,
         answer: &Answer,
         before: &Buffers,
-        after: &Buffers,
+        after: &mut Buffers,
         other: &mut dyn Other,
     ) -> Result<(), String> {
         if !other.has(call.index()) {
             return Ok(());
         }
-        let mut tables = Guarded::new(&before.tables);
-        let mut pages = Guarded::new(&before.pages);
-        let mut bytes = Guarded::new(&before.bytes);
-        let found = other.run(call, tables.inside(), pages.inside(), bytes.inside());
+        let mut lent = Guarded::new(before);
+        let found = other.run(call.index(), &call.numbers(), lent.lend());
         self.counts.linked[call.index()] += 1;
-        for (name, buffer) in [("tables", &tables), ("pages", &pages), ("data or buffer", &bytes)] {
-            if !buffer.guards_hold() {
-                return Err(format!("bytes beside the {name} were changed"));
-            }
-        }
         self.compare_answers(call, answer, &found, before)?;
-        compare_bytes("tables", tables.inside(), &after.tables)?;
-        compare_bytes("pages", pages.inside(), &after.pages)?;
-        compare_bytes("data or buffer", bytes.inside(), &after.bytes)
+        lent.compare(call.row(), answer.number == 0, after)
     }
 
     /// Answers are equal; of a read's maps looked at, only what the paper says
@@ -217,7 +217,7 @@ impl Bench {
     ) -> Result<(), String> {
         let mut wanted = *answer;
         if let (Call::Read { set, offset, .. }, 0) = (call, answer.number) {
-            let most = most_maps(&before.tables, *set, *offset, answer.first);
+            let most = most_maps(&before[Tables], *set, *offset, answer.first);
             if found.second > most {
                 return Err(format!("{} maps looked at, at most {most}", found.second));
             }
@@ -253,28 +253,6 @@ fn put_byte(bytes: &mut [u8], at: usize, value: u8) {
     }
 }
 
-/// "returned (counts 0, nothing changed)"; read, size and free change no
-/// table and no page, and no call changes the data of a write.
-fn check_unchanged(
-    call: &Call,
-    answer: &Answer,
-    before: &Buffers,
-    after: &Buffers,
-) -> Result<(), String> {
-    if answer.number != 0 && *answer != Answer::refused(answer.number) {
-        return Err(format!("a refused call gives counts: {answer}"));
-    }
-    let fixed = answer.number != 0 || !call.changes();
-    if fixed && (before.tables != after.tables || before.pages != after.pages) {
-        return Err(format!("a call that changes nothing changed bytes: {answer}"));
-    }
-    let reads = matches!(call, Call::Read { .. }) && answer.number == 0;
-    if !reads && before.bytes != after.bytes {
-        return Err("data or buffer changed".to_string());
-    }
-    Ok(())
-}
-
 /// "It fills that many bytes at the buffer's front and touches no others."
 fn check_read(wanted: &[u8], buffer: &[u8]) -> Result<(), String> {
     if buffer[..wanted.len()] != *wanted {
@@ -284,42 +262,6 @@ fn check_read(wanted: &[u8], buffer: &[u8]) -> Result<(), String> {
         return Err("a byte of the buffer past the count was touched".to_string());
     }
     Ok(())
-}
-
-fn compare_bytes(name: &str, found: &[u8], wanted: &[u8]) -> Result<(), String> {
-    if found == wanted {
-        return Ok(());
-    }
-    let at = (0..wanted.len()).find(|at| found[*at] != wanted[*at]).expect("some byte differs");
-    let (byte, other) = (found[at], wanted[at]);
-    Err(format!("{name} differ at byte {at}: {byte:#04x}; the oracle's is {other:#04x}"))
-}
-
-const GUARD_BYTES: usize = 64;
-const GUARD: u8 = 0xC3;
-
-/// A buffer with guard bytes on both sides.
-struct Guarded {
-    bytes: Vec<u8>,
-}
-
-impl Guarded {
-    fn new(inside: &[u8]) -> Guarded {
-        let mut bytes = vec![GUARD; GUARD_BYTES];
-        bytes.extend_from_slice(inside);
-        bytes.extend_from_slice(&[GUARD; GUARD_BYTES]);
-        Guarded { bytes }
-    }
-
-    fn inside(&mut self) -> &mut [u8] {
-        let end = self.bytes.len() - GUARD_BYTES;
-        &mut self.bytes[GUARD_BYTES..end]
-    }
-
-    fn guards_hold(&self) -> bool {
-        let end = self.bytes.len() - GUARD_BYTES;
-        self.bytes[..GUARD_BYTES].iter().chain(&self.bytes[end..]).all(|byte| *byte == GUARD)
-    }
 }
 
 /// Runs a script from nothing. Gives the place and text of the first

@@ -1,7 +1,15 @@
 //! Constants of document 01, and the types that every part uses: a call, its
 //! answer, and a script (a list of calls that can be written down and read).
 
+pub use crate::lent::{Buffer, Lent, Numbers, BUFFERS, MOST_NUMBERS};
+use crate::lent::{Lending, Lending::*, Row};
+pub use crate::names::CALL_NAMES;
 use std::fmt;
+
+/// How many calls there are.
+pub const CALLS: usize = CALL_NAMES.len();
+/// How many numbers an answer can have: 0 to 12.
+pub const NUMBERS: usize = 13;
 
 /// "Largest: 8 sets, 16 files a set, 64 pages of 512 bytes a file (32,768
 /// bytes), 4,096 blocks of 512 bytes."
@@ -45,78 +53,101 @@ impl fmt::Display for Answer {
     }
 }
 
-/// One call with its arguments.
-#[derive(Clone, PartialEq, Eq, Debug)]
-pub enum Call {
-    /// Format of a pages buffer of this many bytes.
-    Format {
-        pages_length: usize,
-    },
-    Create {
-        set: u32,
-        file: u32,
-    },
-    /// A write of `length` bytes that follow from `seed` (see `data_bytes`).
-    Write {
-        set: u32,
-        file: u32,
-        offset: u32,
-        length: usize,
-        seed: u32,
-    },
-    Read {
-        set: u32,
-        file: u32,
-        offset: u32,
-        length: usize,
-    },
-    Truncate {
-        set: u32,
-        file: u32,
-        size: u32,
-    },
-    Delete {
-        set: u32,
-        file: u32,
-    },
-    Make {
-        parent: u32,
-        set: u32,
-        writeable: u32,
-    },
-    Remove {
-        set: u32,
-    },
-    Size {
-        set: u32,
-        file: u32,
-    },
-    Free,
+const STORE_CHANGED: [Lending; BUFFERS] = lends(Changed, NotLent);
+const STORE_READ: [Lending; BUFFERS] = lends(ReadOnly, NotLent);
+
+/// How a call is lent tables and pages, and its data or buffer.
+const fn lends(store: Lending, bytes: Lending) -> [Lending; BUFFERS] {
+    [store, store, bytes, NotLent, NotLent, NotLent]
 }
 
-pub const CALL_NAMES: [&str; 10] =
-    ["format", "create", "write", "read", "truncate", "delete", "make", "remove", "size", "free"];
+/// Makes of a table of calls: the type of a call, its place, what it is lent
+/// and told, and its line of a script.
+macro_rules! calls {
+    ($($(#[$doc:meta])* $call:ident { $($field:ident: $kind:ty),* }
+        told [$($told:ident),*] lends $lends:expr, leaves $leaves:expr;)*) => {
+        /// One call with its arguments.
+        #[derive(Clone, PartialEq, Eq, Debug)]
+        pub enum Call {
+            $($(#[$doc])* $call { $($field: $kind),* },)*
+        }
+
+        /// The calls alone, in the order of `CALL_NAMES`.
+        #[derive(Clone, Copy)]
+        enum Place {
+            $($call,)*
+        }
+
+        /// In the order of `CALL_NAMES`.
+        pub const ROWS: [Row; CALLS] = [$(Row { lends: $lends, leaves: $leaves },)*];
+
+        impl Call {
+            /// The call's place in `CALL_NAMES`.
+            pub fn index(&self) -> usize {
+                match self {
+                    $(Call::$call { .. } => Place::$call as usize,)*
+                }
+            }
+
+            /// The numbers that the call is told.
+            pub fn numbers(&self) -> Numbers {
+                let mut numbers = [0; MOST_NUMBERS];
+                match *self {
+                    $(Call::$call { $($told,)* .. } => {
+                        let told: &[u32] = &[$(u32::from($told)),*];
+                        numbers[..told.len()].copy_from_slice(told);
+                    })*
+                }
+                numbers
+            }
+
+            /// The arguments as a line of a script has them.
+            fn fmt_arguments(&self, f: &mut fmt::Formatter) -> fmt::Result {
+                match self {
+                    $(Call::$call { $($field),* } => {
+                        $(write!(f, " {}", $field)?;)*
+                    })*
+                }
+                Ok(())
+            }
+
+            fn parse_arguments(name: &str, words: &mut Words) -> Result<Call, String> {
+                $(if name == CALL_NAMES[Place::$call as usize] {
+                    return Ok(Call::$call { $($field: words.number::<$kind>()?),* });
+                })*
+                Err(format!("unknown call '{name}'"))
+            }
+        }
+    };
+}
+
+calls! {
+    /// Format of a pages buffer of this many bytes.
+    Format { pages_length: usize } told [] lends STORE_CHANGED, leaves None;
+    Create { set: u32, file: u32 } told [set, file] lends STORE_CHANGED, leaves None;
+    /// A write of `length` bytes that follow from `seed` (see `data_bytes`).
+    Write { set: u32, file: u32, offset: u32, length: usize, seed: u32 }
+        told [set, file, offset] lends lends(Changed, ReadOnly), leaves None;
+    Read { set: u32, file: u32, offset: u32, length: usize }
+        told [set, file, offset] lends lends(ReadOnly, Changed), leaves None;
+    Truncate { set: u32, file: u32, size: u32 }
+        told [set, file, size] lends STORE_CHANGED, leaves None;
+    Delete { set: u32, file: u32 } told [set, file] lends STORE_CHANGED, leaves None;
+    Make { parent: u32, set: u32, writeable: u32 }
+        told [parent, set, writeable] lends STORE_CHANGED, leaves None;
+    Remove { set: u32 } told [set] lends STORE_CHANGED, leaves None;
+    Size { set: u32, file: u32 } told [set, file] lends STORE_READ, leaves None;
+    Free {} told [] lends STORE_READ, leaves None;
+}
 
 impl Call {
-    /// The call's place in `CALL_NAMES`.
-    pub fn index(&self) -> usize {
-        match self {
-            Call::Format { .. } => 0,
-            Call::Create { .. } => 1,
-            Call::Write { .. } => 2,
-            Call::Read { .. } => 3,
-            Call::Truncate { .. } => 4,
-            Call::Delete { .. } => 5,
-            Call::Make { .. } => 6,
-            Call::Remove { .. } => 7,
-            Call::Size { .. } => 8,
-            Call::Free => 9,
-        }
+    pub fn row(&self) -> &'static Row {
+        &ROWS[self.index()]
     }
 
     /// Whether the call may change tables or pages at all.
     pub fn changes(&self) -> bool {
-        !matches!(self, Call::Read { .. } | Call::Size { .. } | Call::Free)
+        [Buffer::Tables, Buffer::Pages].iter().any(|buffer| self.row().lends(*buffer) == Changed)
     }
 }
 
@@ -139,44 +170,33 @@ fn data_byte(place: u64, seed: u32) -> u8 {
 #[derive(Clone, PartialEq, Eq, Debug)]
 pub enum Item {
     Call(Call),
-    /// Put this value in this byte of the tables.
+    /// Put this value in this byte of the buffer.
     Poke {
+        buffer: Buffer,
         at: usize,
         value: u8,
     },
-    /// Put this value in this byte of the pages.
-    PokePage {
-        at: usize,
-        value: u8,
-    },
-    /// Give the tables this length (new bytes are 0).
-    Tables {
-        length: usize,
-    },
-    /// Give the pages this length (new bytes are 0).
-    Pages {
+    /// Give the buffer this length (new bytes are 0).
+    Length {
+        buffer: Buffer,
         length: usize,
     },
 }
 
+/// The word of a script that changes a byte of a buffer. Its name alone gives
+/// it a length.
+fn poke_word(buffer: Buffer) -> String {
+    match buffer {
+        Buffer::Tables => "poke".to_string(),
+        Buffer::Pages => "poke-page".to_string(),
+        _ => format!("poke-{}", buffer.name()),
+    }
+}
+
 impl fmt::Display for Call {
     fn fmt(&self, f: &mut fmt::Formatter) -> fmt::Result {
-        match self {
-            Call::Format { pages_length } => write!(f, "format {pages_length}"),
-            Call::Create { set, file } => write!(f, "create {set} {file}"),
-            Call::Write { set, file, offset, length, seed } => {
-                write!(f, "write {set} {file} {offset} {length} {seed}")
-            }
-            Call::Read { set, file, offset, length } => {
-                write!(f, "read {set} {file} {offset} {length}")
-            }
-            Call::Truncate { set, file, size } => write!(f, "truncate {set} {file} {size}"),
-            Call::Delete { set, file } => write!(f, "delete {set} {file}"),
-            Call::Make { parent, set, writeable } => write!(f, "make {parent} {set} {writeable}"),
-            Call::Remove { set } => write!(f, "remove {set}"),
-            Call::Size { set, file } => write!(f, "size {set} {file}"),
-            Call::Free => write!(f, "free"),
-        }
+        write!(f, "{}", CALL_NAMES[self.index()])?;
+        self.fmt_arguments(f)
     }
 }
 
@@ -184,10 +204,8 @@ impl fmt::Display for Item {
     fn fmt(&self, f: &mut fmt::Formatter) -> fmt::Result {
         match self {
             Item::Call(call) => call.fmt(f),
-            Item::Poke { at, value } => write!(f, "poke {at} {value}"),
-            Item::PokePage { at, value } => write!(f, "poke-page {at} {value}"),
-            Item::Tables { length } => write!(f, "tables {length}"),
-            Item::Pages { length } => write!(f, "pages {length}"),
+            Item::Poke { buffer, at, value } => write!(f, "{} {at} {value}", poke_word(*buffer)),
+            Item::Length { buffer, length } => write!(f, "{} {length}", buffer.name()),
         }
     }
 }
@@ -218,14 +236,16 @@ impl Item {
         }
     }
 
-    fn parse_named(name: &str, w: &mut Words) -> Result<Item, String> {
-        Ok(match name {
-            "poke" => Item::Poke { at: w.number()?, value: w.number()? },
-            "poke-page" => Item::PokePage { at: w.number()?, value: w.number()? },
-            "tables" => Item::Tables { length: w.number()? },
-            "pages" => Item::Pages { length: w.number()? },
-            _ => Item::Call(Call::parse_named(name, w)?),
-        })
+    fn parse_named(name: &str, words: &mut Words) -> Result<Item, String> {
+        for buffer in Buffer::ALL {
+            if name == poke_word(buffer) {
+                return Ok(Item::Poke { buffer, at: words.number()?, value: words.number()? });
+            }
+            if name == buffer.name() {
+                return Ok(Item::Length { buffer, length: words.number()? });
+            }
+        }
+        Call::parse_arguments(name, words).map(Item::Call)
     }
 
     /// Reads a whole script: one item a line or between semicolons.
@@ -235,34 +255,5 @@ impl Item {
             .filter(|line| !line.is_empty() && !line.starts_with('#'))
             .map(Item::parse)
             .collect()
-    }
-}
-
-impl Call {
-    fn parse_named(name: &str, w: &mut Words) -> Result<Call, String> {
-        Ok(match name {
-            "format" => Call::Format { pages_length: w.number()? },
-            "create" => Call::Create { set: w.number()?, file: w.number()? },
-            "write" => Call::Write {
-                set: w.number()?,
-                file: w.number()?,
-                offset: w.number()?,
-                length: w.number()?,
-                seed: w.number()?,
-            },
-            "read" => Call::Read {
-                set: w.number()?,
-                file: w.number()?,
-                offset: w.number()?,
-                length: w.number()?,
-            },
-            "truncate" => Call::Truncate { set: w.number()?, file: w.number()?, size: w.number()? },
-            "delete" => Call::Delete { set: w.number()?, file: w.number()? },
-            "make" => Call::Make { parent: w.number()?, set: w.number()?, writeable: w.number()? },
-            "remove" => Call::Remove { set: w.number()? },
-            "size" => Call::Size { set: w.number()?, file: w.number()? },
-            "free" => Call::Free,
-            _ => return Err(format!("unknown call '{name}'")),
-        })
     }
 }

@@ -22,7 +22,7 @@ pub struct Style {
     /// Percent of arguments out of range.
     pub wild: usize,
     /// How often each call of `CALL_NAMES` comes.
-    pub weights: [usize; 10],
+    pub weights: [usize; CALLS],
     /// Percent of writes of several pages.
     pub long: usize,
 }
@@ -267,7 +267,7 @@ pub fn call_of(rng: &mut Rng, style: &Style, beside: &Beside, index: usize) -> C
         }
         6 => make_call(rng, style, beside),
         7 => remove_call(rng, style, beside),
-        9 => Call::Free,
+        9 => Call::Free {},
         _ => {
             let (set, file) = target(rng, style, beside);
             let size = size_of(beside, set, file);
@@ -416,7 +416,8 @@ impl Made {
             Call::Write { length, seed, .. } => data_bytes(length, seed),
             _ => Vec::new(),
         };
-        store::run(&call, &mut self.tables, &mut self.pages, &mut bytes);
+        let lent = Lent::store(&mut self.tables, &mut self.pages, &mut bytes);
+        store::run(call.index(), &call.numbers(), lent);
         self.calls.push(call);
     }
 }

@@ -64,7 +64,7 @@ impl Beside {
             Call::Remove { set } => {
                 vec![(2, !self.is_used(set)), (11, self.has_children(set)), (12, set == 0)]
             }
-            Call::Free => vec![],
+            Call::Free {} => vec![],
         };
         lines.iter().filter(|line| line.1).map(|line| line.0).min().unwrap_or(0)
     }
@@ -180,7 +180,7 @@ impl Beside {
                 [0, 0, 0]
             }
             Call::Size { set, file } => [self.list(set as usize, file as usize).len() as u32, 0, 0],
-            Call::Free => [self.tally.free as u32, 0, 0],
+            Call::Free {} => [self.tally.free as u32, 0, 0],
         };
         (Answer::accepted(counts), bytes)
     }

@@ -72,20 +72,24 @@ pub fn free(tables: &[u8], pages: &[u8]) -> Answer {
     answer(try_free(tables, pages))
 }
 
-/// Does any call. `bytes` is the data of a write or the buffer of a read.
-pub fn run(call: &Call, tables: &mut [u8], pages: &mut [u8], bytes: &mut [u8]) -> Answer {
-    match *call {
-        Call::Format { .. } => format(tables, pages),
-        Call::Create { set, file } => create(tables, pages, set, file),
-        Call::Write { set, file, offset, .. } => write(tables, pages, set, file, offset, bytes),
-        Call::Read { set, file, offset, .. } => read(tables, pages, set, file, offset, bytes),
-        Call::Truncate { set, file, size } => truncate(tables, pages, set, file, size),
-        Call::Delete { set, file } => delete(tables, pages, set, file),
-        Call::Make { parent, set, writeable } => make(tables, pages, parent, set, writeable),
-        Call::Remove { set } => remove(tables, pages, set),
-        Call::Size { set, file } => size(tables, pages, set, file),
-        Call::Free => free(tables, pages),
-    }
+/// Each call with its numbers on the buffers it is lent, in the order of
+/// `CALL_NAMES`.
+const DOES: [fn(&Numbers, Lent) -> Answer; CALLS] = [
+    |_, lent| format(lent.tables, lent.pages),
+    |n, lent| create(lent.tables, lent.pages, n[0], n[1]),
+    |n, lent| write(lent.tables, lent.pages, n[0], n[1], n[2], lent.bytes),
+    |n, lent| read(lent.tables, lent.pages, n[0], n[1], n[2], lent.bytes),
+    |n, lent| truncate(lent.tables, lent.pages, n[0], n[1], n[2]),
+    |n, lent| delete(lent.tables, lent.pages, n[0], n[1]),
+    |n, lent| make(lent.tables, lent.pages, n[0], n[1], n[2]),
+    |n, lent| remove(lent.tables, lent.pages, n[0]),
+    |n, lent| size(lent.tables, lent.pages, n[0], n[1]),
+    |_, lent| free(lent.tables, lent.pages),
+];
+
+/// Does the call at this place in `CALL_NAMES`.
+pub fn run(index: usize, numbers: &Numbers, lent: Lent) -> Answer {
+    DOES[index](numbers, lent)
 }
 
 // The checks of the table of numbers.

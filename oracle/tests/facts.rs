@@ -43,7 +43,8 @@ fn walk(rounds: usize, mut see: impl FnMut(&Call, &Answer, &State, &State, &[u8]
                 Call::Write { length, seed, .. } => data_bytes(length, seed),
                 _ => Vec::new(),
             };
-            let answer = store::run(&call, &mut walk.tables, &mut walk.pages, &mut bytes);
+            let lent = Lent::store(&mut walk.tables, &mut walk.pages, &mut bytes);
+            let answer = store::run(call.index(), &call.numbers(), lent);
             assert_eq!(walk.beside.step(&call).0, answer);
             see(&call, &answer, &before, &State::unpack(&walk.tables), &walk.pages);
         }

@@ -19,7 +19,11 @@ fn after(script: &str) -> After {
         last = bench.step(&item, &mut NoOther).unwrap_or_else(|text| panic!("{item}: {text}"));
         assert_eq!(last.unwrap().number, 0, "{item} is accepted");
     }
-    After { state: State::unpack(&bench.tables), pages: bench.pages, answer: last.unwrap() }
+    After {
+        state: State::unpack(bench.tables()),
+        pages: bench.pages().to_vec(),
+        answer: last.unwrap(),
+    }
 }
 
 impl After {
@@ -168,10 +172,10 @@ fn well_formed_alone_gives_demand_3() {
     let script = "format 512; create 0 0; write 0 0 0 100 1; poke-page 100 7; truncate 0 0 512";
     for item in Item::parse_script(script).unwrap() {
         bench.step(&item, &mut NoOther).unwrap();
-        assert!(oracle::check::is_well_formed(&bench.tables, bench.pages.len()));
+        assert!(oracle::check::is_well_formed(bench.tables(), bench.pages().len()));
     }
     let mut buffer = [0; 512];
-    let answer = oracle::store::read(&bench.tables, &bench.pages, 0, 0, 0, &mut buffer);
+    let answer = oracle::store::read(bench.tables(), bench.pages(), 0, 0, 0, &mut buffer);
     assert_eq!(answer, Answer::accepted([512, 1, 0]));
     assert_eq!(buffer[100], 7);
 }

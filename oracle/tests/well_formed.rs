@@ -39,7 +39,7 @@ fn well_formed_is_kept_from_any_well_formed_state() {
             let call = gen::call(&mut rng, &made.style, &made.beside);
             let answer = bench.call(&call, &mut NoOther).unwrap();
             assert_ne!(answer.number, 1);
-            let broken = check_all(&bench.tables, bench.pages.len());
+            let broken = check_all(bench.tables(), bench.pages().len());
             assert!(broken.is_empty(), "{call}: {}", broken[0]);
         }
     }
@@ -84,7 +84,7 @@ fn reported(script: &str) -> Vec<Rule> {
     for item in Item::parse_script(script).unwrap() {
         bench.step(&item, &mut NoOther).unwrap();
     }
-    check_all(&bench.tables, bench.pages.len()).iter().map(|broken| broken.rule).collect()
+    check_all(bench.tables(), bench.pages().len()).iter().map(|broken| broken.rule).collect()
 }
 
 /// Damages by hand, byte by byte: the packing is looked at once more.

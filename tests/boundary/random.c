@@ -2,7 +2,8 @@
 #include <stdio.h>
 #include <stdlib.h>
 #include <time.h>
-#include "harness.h"
+#include "calls.h"
+#include "lists.h"
 
 static uint64_t state;
 
@@ -33,6 +34,6 @@ int main(int count, char **words)
         lists++;
     } while (time(0) < end);
     printf("lists %lu\n", lists);
-    show_totals();
+    show_totals(&exported);
     return 0;
 }

@@ -6,7 +6,8 @@
 #include <string.h>
 #include <time.h>
 #include <ucontext.h>
-#include "harness.h"
+#include "calls.h"
+#include "lists.h"
 
 enum { STACK = 65536, LIMIT = 4096, PAINT = 0xD6 };
 static _Alignas(64) uint8_t stack[STACK];
@@ -15,15 +16,13 @@ static size_t most[CALLS + 1]; /* the last: a call that does nothing */
 
 static struct {
     const struct call *call;
-    uint8_t *tables, *pages;
-    size_t tables_length, pages_length;
     sweep_answer answer;
 } job;
 
 static void do_job(void)
 {
     if (job.call)
-        job.answer = call_plainly(job.call, job.tables, job.tables_length, job.pages, job.pages_length);
+        job.answer = call_plainly(job.call);
 }
 
 static void run_job(unsigned name)
@@ -42,13 +41,9 @@ static void run_job(unsigned name)
     memset(stack + unused, PAINT, STACK - unused);
 }
 
-static sweep_answer call_on_painted_stack(const struct call *call, uint8_t *tables, size_t t, uint8_t *pages, size_t p)
+static sweep_answer call_on_painted_stack(const struct call *call)
 {
     job.call = call;
-    job.tables = tables;
-    job.tables_length = t;
-    job.pages = pages;
-    job.pages_length = p;
     run_job(call->name);
     return job.answer;
 }
@@ -72,7 +67,7 @@ int main(int count, char **words)
     } while (time(0) < end);
     size_t largest = 0;
     for (int name = 0; name < CALLS; name++) {
-        printf("stack of %s: %lu bytes\n", call_names[name], (unsigned long)(most[name] - most[CALLS]));
+        printf("stack of %s: %lu bytes\n", exported.functions[name].name, (unsigned long)(most[name] - most[CALLS]));
         if (most[name] - most[CALLS] > largest)
             largest = most[name] - most[CALLS];
     }

@@ -20,115 +20,62 @@ fn main() -> ExitCode {
 #[cfg(have_sweep)]
 mod sweep {
     use oracle::bench::Other;
-    use oracle::call::{Answer, Call};
+    use oracle::call::{Answer, Lent, Numbers, CALLS};
+    use oracle::export;
+    use oracle::export::Export;
 
-    // A slice is a pointer, then a length. Only the calls that are linked are
-    // declared.
-    macro_rules! declare {
-        ($($when:meta, $name:ident($($argument:ident: $kind:ty),*);)*) => {
-            extern "C" {
-                $(#[cfg($when)]
-                fn $name($($argument: $kind),*) -> Answer;)*
-            }
+    /// The table: only functions that are linked are declared.
+    macro_rules! exports {
+        ($($name:ident($($argument:tt)*);)*) => {
+            /// In the order of `CALL_NAMES`.
+            static EXPORTS: [Option<Export>; CALLS] = [$({
+                #[cfg($name)]
+                {
+                    Some(export!(n lent $name () () $($argument)*))
+                }
+                #[cfg(not($name))]
+                {
+                    None
+                }
+            }),*];
         };
     }
 
-    declare! {
-        sweep_format, sweep_format(tables: *mut u8, t: usize, pages: *mut u8, p: usize);
-        sweep_create, sweep_create(tables: *mut u8, t: usize, pages: *mut u8, p: usize,
-            set: u32, file: u32);
-        sweep_write, sweep_write(tables: *mut u8, t: usize, pages: *mut u8, p: usize,
-            set: u32, file: u32, offset: u32, data: *const u8, d: usize);
-        sweep_read, sweep_read(tables: *const u8, t: usize, pages: *const u8, p: usize,
-            set: u32, file: u32, offset: u32, buffer: *mut u8, b: usize);
-        sweep_truncate, sweep_truncate(tables: *mut u8, t: usize, pages: *mut u8, p: usize,
-            set: u32, file: u32, size: u32);
-        sweep_delete, sweep_delete(tables: *mut u8, t: usize, pages: *mut u8, p: usize,
-            set: u32, file: u32);
-        sweep_make, sweep_make(tables: *mut u8, t: usize, pages: *mut u8, p: usize,
-            parent: u32, set: u32, writeable: u32);
-        sweep_remove, sweep_remove(tables: *mut u8, t: usize, pages: *mut u8, p: usize, set: u32);
-        sweep_size, sweep_size(tables: *const u8, t: usize, pages: *const u8, p: usize,
-            set: u32, file: u32);
-        sweep_free, sweep_free(tables: *const u8, t: usize, pages: *const u8, p: usize);
+    exports! {
+        sweep_format(change tables, change pages);
+        sweep_create(change tables, change pages, u32 0, u32 1);
+        sweep_write(change tables, change pages, u32 0, u32 1, u32 2, look bytes);
+        sweep_read(look tables, look pages, u32 0, u32 1, u32 2, change bytes);
+        sweep_truncate(change tables, change pages, u32 0, u32 1, u32 2);
+        sweep_delete(change tables, change pages, u32 0, u32 1);
+        sweep_make(change tables, change pages, u32 0, u32 1, u32 2);
+        sweep_remove(change tables, change pages, u32 0);
+        sweep_size(look tables, look pages, u32 0, u32 1);
+        sweep_free(look tables, look pages);
     }
 
-    /// In the order of `CALL_NAMES`.
-    pub const LINKED: [bool; 10] = [
-        cfg!(sweep_format),
-        cfg!(sweep_create),
-        cfg!(sweep_write),
-        cfg!(sweep_read),
-        cfg!(sweep_truncate),
-        cfg!(sweep_delete),
-        cfg!(sweep_make),
-        cfg!(sweep_remove),
-        cfg!(sweep_size),
-        cfg!(sweep_free),
-    ];
+    /// Whether the call at this place in `CALL_NAMES` is linked.
+    pub fn linked(index: usize) -> bool {
+        EXPORTS[index].is_some()
+    }
 
     /// The library.
     pub struct Sweep;
 
     impl Other for Sweep {
         fn has(&self, index: usize) -> bool {
-            LINKED[index]
+            linked(index)
         }
 
-        // With some calls not linked, their arguments are not used, and with
-        // all linked the last line is not reached.
-        #[allow(unused_variables, unreachable_patterns)]
-        fn run(
-            &mut self,
-            call: &Call,
-            tables: &mut [u8],
-            pages: &mut [u8],
-            bytes: &mut [u8],
-        ) -> Answer {
-            let (t, tables) = (tables.len(), tables.as_mut_ptr());
-            let (p, pages) = (pages.len(), pages.as_mut_ptr());
-            let (b, bytes) = (bytes.len(), bytes.as_mut_ptr());
-            // Sound as far as the library keeps to the slices it is given.
-            unsafe {
-                match *call {
-                    #[cfg(sweep_format)]
-                    Call::Format { .. } => sweep_format(tables, t, pages, p),
-                    #[cfg(sweep_create)]
-                    Call::Create { set, file } => sweep_create(tables, t, pages, p, set, file),
-                    #[cfg(sweep_write)]
-                    Call::Write { set, file, offset, .. } => {
-                        sweep_write(tables, t, pages, p, set, file, offset, bytes, b)
-                    }
-                    #[cfg(sweep_read)]
-                    Call::Read { set, file, offset, .. } => {
-                        sweep_read(tables, t, pages, p, set, file, offset, bytes, b)
-                    }
-                    #[cfg(sweep_truncate)]
-                    Call::Truncate { set, file, size } => {
-                        sweep_truncate(tables, t, pages, p, set, file, size)
-                    }
-                    #[cfg(sweep_delete)]
-                    Call::Delete { set, file } => sweep_delete(tables, t, pages, p, set, file),
-                    #[cfg(sweep_make)]
-                    Call::Make { parent, set, writeable } => {
-                        sweep_make(tables, t, pages, p, parent, set, writeable)
-                    }
-                    #[cfg(sweep_remove)]
-                    Call::Remove { set } => sweep_remove(tables, t, pages, p, set),
-                    #[cfg(sweep_size)]
-                    Call::Size { set, file } => sweep_size(tables, t, pages, p, set, file),
-                    #[cfg(sweep_free)]
-                    Call::Free => sweep_free(tables, t, pages, p),
-                    _ => unreachable!("the call is not linked"),
-                }
-            }
+        fn run(&mut self, index: usize, numbers: &Numbers, lent: Lent) -> Answer {
+            EXPORTS[index].expect("the call is linked")(numbers, lent)
         }
     }
 }
 
 #[cfg(have_sweep)]
 mod linked {
-    use super::sweep::{Sweep, LINKED};
+    use super::sweep::{linked, Sweep};
     use super::ExitCode;
     use oracle::bench::{replay, report, Bench, Counts};
     use oracle::call::*;
@@ -226,7 +173,7 @@ exit status: 0 no difference, 1 a difference, 2 bad usage
         };
         println!("seed {seed}, {seconds} seconds");
         let names: Vec<&str> =
-            CALL_NAMES.iter().zip(LINKED).filter(|call| call.1).map(|call| *call.0).collect();
+            (0..CALLS).filter(|index| linked(*index)).map(|index| CALL_NAMES[index]).collect();
         println!("linked: {}", names.join(","));
         let mut run = Run {
             rng: Rng::new(seed),
@@ -334,8 +281,9 @@ exit status: 0 no difference, 1 a difference, 2 bad usage
             let mut bench = Bench::with(tables, made.pages.clone());
             // A block count out of range, but as many pages.
             if rule == Some(Rule::BlockCount) && self.rng.percent(50) {
-                let length = State::unpack(&bench.tables).block_count * PAGE_BYTES;
-                self.do_item(&mut bench, &mut script, Item::Pages { length })?;
+                let length = State::unpack(bench.tables()).block_count * PAGE_BYTES;
+                let item = Item::Length { buffer: Buffer::Pages, length };
+                self.do_item(&mut bench, &mut script, item)?;
             }
             let calls = self.calls(&made);
             self.calls_on(bench, script, calls)
@@ -351,7 +299,11 @@ exit status: 0 no difference, 1 a difference, 2 bad usage
             let mut script: Vec<Item> = made.calls.iter().cloned().map(Item::Call).collect();
             script.extend(pokes(&made.tables, &tables));
             let changed = (0..pages.len()).filter(|at| pages[*at] != made.pages[*at]);
-            script.extend(changed.map(|at| Item::PokePage { at, value: pages[at] }));
+            script.extend(changed.map(|at| Item::Poke {
+                buffer: Buffer::Pages,
+                at,
+                value: pages[at],
+            }));
             let mut calls = Vec::new();
             for _ in 0..3 {
                 calls.extend(self.calls(&made));
@@ -365,8 +317,8 @@ exit status: 0 no difference, 1 a difference, 2 bad usage
         fn calls(&mut self, made: &Made) -> Vec<Call> {
             let mut style = made.style.clone();
             style.wild = self.rng.pick(&[0, 0, 10, 50, 100]);
-            let linked = (1..10).chain([0]).filter(|index| LINKED[*index]);
-            linked.map(|index| gen::call_of(&mut self.rng, &style, &made.beside, index)).collect()
+            let indices = (1..CALLS).chain([0]).filter(|index| linked(*index));
+            indices.map(|index| gen::call_of(&mut self.rng, &style, &made.beside, index)).collect()
         }
 
         /// (c) Wrong lengths of tables and pages, and the largest numbers.
@@ -382,16 +334,16 @@ exit status: 0 no difference, 1 a difference, 2 bad usage
                 let mut script: Vec<Item> = made.calls.iter().cloned().map(Item::Call).collect();
                 let mut bench = Bench::with(made.tables.clone(), made.pages.clone());
                 bench.beside = Some(made.beside.clone());
-                for item in
-                    [Item::Tables { length: tables_length }, Item::Pages { length: pages_length }]
-                {
+                let lengths = [(Buffer::Tables, tables_length), (Buffer::Pages, pages_length)];
+                for (buffer, length) in lengths {
                     if (tables_length, pages_length) != (TABLES_BYTES, right) {
+                        let item = Item::Length { buffer, length };
                         self.do_item(&mut bench, &mut script, item)?;
                     }
                 }
                 let mut calls = self.calls(&made);
                 calls.extend(self.calls(&made));
-                if LINKED[0] {
+                if linked(0) {
                     calls.push(Call::Format { pages_length });
                 }
                 self.calls_on(bench, script, calls)?;
@@ -458,11 +410,11 @@ exit status: 0 no difference, 1 a difference, 2 bad usage
     fn pokes(before: &[u8], after: &[u8]) -> Vec<Item> {
         let mut items = Vec::new();
         if before.len() != after.len() {
-            items.push(Item::Tables { length: after.len() });
+            items.push(Item::Length { buffer: Buffer::Tables, length: after.len() });
         }
         for (at, value) in after.iter().enumerate() {
             if before.get(at).copied().unwrap_or(0) != *value {
-                items.push(Item::Poke { at, value: *value });
+                items.push(Item::Poke { buffer: Buffer::Tables, at, value: *value });
             }
         }
         items

@@ -1,0 +1,78 @@
+/* The exported functions, each a row for the harness. To test one more: its place in calls.h, its line of RUN and its row here,
+ * and its rows in the second implementation (oracle/README.md). New rows stand at the end, so that the lists in corpus.txt
+ * keep their meaning. */
+#include "calls.h"
+#include "lists.h"
+
+/* The second implementation. */
+extern sweep_answer judge(uint32_t name, const uint32_t *n, const struct slice *lent);
+
+/* How each is called: its arguments in the order of sweep.h. */
+
+#define SLICE(buffer) call->lent[buffer].at, call->lent[buffer].length
+#define STORE SLICE(TABLES), SLICE(PAGES)
+#define N(place) call->n[place]
+#define RUN(name, expression) \
+    static sweep_answer run_##name(const struct call *call) { return expression; }
+
+RUN(format, sweep_format(STORE))
+RUN(create, sweep_create(STORE, N(0), N(1)))
+RUN(write, sweep_write(STORE, N(0), N(1), N(2), SLICE(BYTES)))
+RUN(read, sweep_read(STORE, N(0), N(1), N(2), SLICE(BYTES)))
+RUN(truncate, sweep_truncate(STORE, N(0), N(1), N(2)))
+RUN(delete, sweep_delete(STORE, N(0), N(1)))
+RUN(make, sweep_make(STORE, N(0), N(1), N(2)))
+RUN(remove, sweep_remove(STORE, N(0)))
+RUN(size, sweep_size(STORE, N(0), N(1)))
+RUN(free, sweep_free(STORE))
+
+/* "at most pages read x (level + 1)": the one count that document 01 leaves free. */
+static uint32_t most_maps(const struct call *before, uint32_t count)
+{
+    if (count == 0)
+        return 0;
+    uint32_t offset = before->n[2], level = before->lent[TABLES].at[SETS_AT + SET_BYTES * before->n[0]] >> 3 & 7;
+    uint32_t pages = (offset + count - 1) / SWEEP_PAGE_BYTES - offset / SWEEP_PAGE_BYTES + 1;
+    return pages * (level + 1);
+}
+
+static int read_fits(const struct call *before, sweep_answer found, sweep_answer wanted)
+{
+    if (found.number != wanted.number || found.first != wanted.first || found.third != wanted.third)
+        return 0;
+    return found.number == SWEEP_OK ? found.second <= most_maps(before, found.first) : found.second == wanted.second;
+}
+
+/* The rows */
+
+#define STORE_CHANGED [TABLES] = CHANGED, [PAGES] = CHANGED
+#define STORE_READ [TABLES] = READ_ONLY, [PAGES] = READ_ONLY
+#define SET {32, used_set}
+#define A_FILE {32, present_file}
+#define A_PLACE {32, place_in_file}
+
+static const struct function functions[CALLS] = {
+    [FORMAT] = {.name = "format", .run = run_format, .lends = {STORE_CHANGED}, .slots = 1, .prepare = pages_for_format},
+    [CREATE] = {.name = "create", .run = run_create, .lends = {STORE_CHANGED}, .numbers = {SET, {32, absent_file}},
+                .slots = 12},
+    [WRITE] = {.name = "write", .run = run_write, .lends = {STORE_CHANGED, [BYTES] = READ_ONLY},
+               .numbers = {SET, A_FILE, A_PLACE}, .copies = 1, .slots = 36, .prepare = data_to_write},
+    [READ] = {.name = "read", .run = run_read, .lends = {STORE_READ, [BYTES] = CHANGED}, .numbers = {SET, A_FILE, A_PLACE},
+              .fits = read_fits, .slots = 12, .prepare = buffer_to_read},
+    [TRUNCATE] = {.name = "truncate", .run = run_truncate, .lends = {STORE_CHANGED}, .numbers = {SET, A_FILE, A_PLACE},
+                  .copies = 1, .slots = 16},
+    [DELETE] = {.name = "delete", .run = run_delete, .lends = {STORE_CHANGED}, .numbers = {SET, A_FILE}, .copies = 1,
+                .slots = 8},
+    [MAKE] = {.name = "make", .run = run_make, .lends = {STORE_CHANGED}, .numbers = {SET, {32, unused_set}, {32, yes_or_no}},
+              .slots = 16},
+    [REMOVE] = {.name = "remove", .run = run_remove, .lends = {STORE_CHANGED}, .numbers = {SET}, .slots = 8},
+    [SIZE] = {.name = "size", .run = run_size, .lends = {STORE_READ}, .numbers = {SET, A_FILE}, .slots = 4},
+    [FREE] = {.name = "free", .run = run_free, .lends = {STORE_READ}, .slots = 4},
+};
+
+struct suite exported = {functions, CALLS, judge, {{{0}}, 0, 0}};
+
+sweep_answer call_plainly(const struct call *call)
+{
+    return functions[call->name].run(call);
+}

@@ -1,0 +1,19 @@
+/* The exported functions, each a row for the harness. */
+#ifndef CALLS_H
+#define CALLS_H
+
+#include "harness.h"
+
+/* The places of their rows; the judge has the same (oracle/src/names.rs). */
+enum { FORMAT, CREATE, WRITE, READ, TRUNCATE, DELETE, MAKE, REMOVE, SIZE, FREE, CALLS };
+
+/* Places in the tables: set records from SETS_AT on, then file records. */
+enum { SETS_AT = 516, SET_BYTES = 3, FILES_AT = 540, FILE_BYTES = 132 };
+
+/* The exported functions with the second implementation (judge/). */
+extern struct suite exported;
+
+/* Does a call on the exported functions. */
+sweep_answer call_plainly(const struct call *call);
+
+#endif

@@ -1,0 +1,257 @@
+/* Lists of calls on the exported functions, read off any bytes. */
+#include <stdlib.h>
+#include <string.h>
+#include "calls.h"
+#include "lists.h"
+
+static uint8_t next(struct cursor *cursor)
+{
+    return cursor->at < cursor->end ? *cursor->at++ : 0;
+}
+
+static uint32_t pick(const uint32_t *list, size_t size, uint8_t byte)
+{
+    return list[byte % size];
+}
+#define PICK(list, byte) pick(list, sizeof list / sizeof *list, byte)
+
+static const uint32_t numbers_out_of_range[] = {7, 8, 15, 16, 255, 0x7FFFFFFF, 0x80000000, 0xFFFFFFFF};
+
+/* What the tables say, whatever they hold: whether a set is used, and whether a file is present. */
+static int is_used(const struct buffers *world, uint32_t set)
+{
+    return set < SWEEP_SETS && world->of[TABLES][SETS_AT + SET_BYTES * set] >> 7;
+}
+
+static int is_present(const struct buffers *world, uint32_t set, uint32_t file)
+{
+    return set < SWEEP_SETS && world->of[TABLES][FILES_AT + FILE_BYTES * (SWEEP_FILES * set + file)] >> 6;
+}
+
+/* Numbers */
+
+/* Mostly a set that is used, or one that is not, as asked; sometimes any, sometimes a number out of range. */
+static uint32_t some_set(const struct buffers *world, struct cursor *cursor, int used)
+{
+    uint8_t byte = next(cursor);
+    for (uint32_t step = 0; byte < 240 && step < SWEEP_SETS; step++)
+        if (is_used(world, (byte + step) % SWEEP_SETS) == used)
+            return (byte + step) % SWEEP_SETS;
+    return byte < 248 ? byte % SWEEP_SETS : PICK(numbers_out_of_range, byte);
+}
+
+/* Mostly a file of the set that is present, or one of three that is not, as asked. */
+static uint32_t some_file(const struct buffers *world, struct cursor *cursor, uint32_t set, int present)
+{
+    uint8_t byte = next(cursor);
+    uint32_t few = present ? SWEEP_FILES : 3;
+    for (uint32_t step = 0; byte < 240 && step < few; step++)
+        if (!!is_present(world, set, (byte + step) % few) == present)
+            return (byte + step) % few;
+    return byte < 248 ? byte % SWEEP_FILES : PICK(numbers_out_of_range, byte);
+}
+
+uint32_t used_set(const struct buffers *world, const struct call *so_far, struct cursor *cursor)
+{
+    (void)so_far;
+    return some_set(world, cursor, 1);
+}
+
+uint32_t unused_set(const struct buffers *world, const struct call *so_far, struct cursor *cursor)
+{
+    (void)so_far;
+    return some_set(world, cursor, 0);
+}
+
+uint32_t present_file(const struct buffers *world, const struct call *so_far, struct cursor *cursor)
+{
+    return some_file(world, cursor, so_far->n[0], 1);
+}
+
+uint32_t absent_file(const struct buffers *world, const struct call *so_far, struct cursor *cursor)
+{
+    return some_file(world, cursor, so_far->n[0], 0);
+}
+
+/* Mostly near the edge of one of the first pages. */
+uint32_t place_in_file(const struct buffers *world, const struct call *so_far, struct cursor *cursor)
+{
+    static const uint32_t out_of_range[] = {32767, 32768, 32769, 65535, 65536, 0x7FFFFFFF, 0xFFFFFE00, 0xFFFFFFFF};
+    static const uint32_t within[] = {0, 0, 0, 1, 100, 511, 256, 300};
+    (void)world;
+    (void)so_far;
+    uint8_t byte = next(cursor);
+    if (byte >= 248)
+        return PICK(out_of_range, byte);
+    uint32_t page = byte < 200 ? byte % 10 : byte % SWEEP_FILE_PAGES;
+    return page * SWEEP_PAGE_BYTES + PICK(within, next(cursor));
+}
+
+uint32_t yes_or_no(const struct buffers *world, const struct call *so_far, struct cursor *cursor)
+{
+    (void)world;
+    (void)so_far;
+    return next(cursor) % 3 * 0x7FFFFFFFu;
+}
+
+/* Buffers */
+
+static size_t some_length(struct cursor *cursor)
+{
+    static const uint32_t lengths[] = {0,    1,    2,    100,  511,  512,  513,   1024,  1025,  1500, 2048,
+                                       2560, 3072, 4095, 4096, 8192, 16384, 32767, 32768, 32769, 40000};
+    uint8_t byte = next(cursor);
+    return byte < 128 ? PICK(lengths, byte % 13) : PICK(lengths, byte);
+}
+
+static void fill(uint8_t *bytes, size_t length, uint8_t from)
+{
+    for (size_t i = 0; i < length; i++)
+        bytes[i] = from ? (uint8_t)(from + i * 31 + i / 512) : 0;
+}
+
+void data_to_write(struct buffers *world, const struct call *call, struct cursor *cursor)
+{
+    (void)call;
+    world->length[BYTES] = some_length(cursor);
+    fill(world->of[BYTES], world->length[BYTES], next(cursor));
+}
+
+void buffer_to_read(struct buffers *world, const struct call *call, struct cursor *cursor)
+{
+    (void)call;
+    world->length[BYTES] = some_length(cursor);
+    fill(world->of[BYTES], world->length[BYTES], 0xB7);
+}
+
+/* Gives the store the pages of a format that comes; mostly few blocks, so that it is soon full. */
+static void choose_pages(struct buffers *world, struct cursor *cursor)
+{
+    static const uint32_t blocks[] = {1, 2, 3, 4, 5, 6, 8, 10, 12, 16, 20, 24, 32, 48, 64, 80};
+    world->length[PAGES] = PICK(blocks, next(cursor)) * SWEEP_PAGE_BYTES;
+    memset(world->of[PAGES], 0xA5, ROOM_BYTES);
+}
+
+/* The same, sometimes with a length that no store has. */
+void pages_for_format(struct buffers *world, const struct call *call, struct cursor *cursor)
+{
+    static const uint32_t out_of_range[] = {0, 1, 511, 513, 1000, 40959};
+    (void)call;
+    choose_pages(world, cursor);
+    uint8_t byte = next(cursor);
+    if (byte >= 192)
+        world->length[PAGES] = PICK(out_of_range, byte);
+}
+
+/* Changes from outside */
+
+/* Turns one bit of the tables over: mostly of header, bitmap, sets and the files that are used most. */
+static void damage_tables(struct buffers *world, struct cursor *cursor)
+{
+    size_t at = (size_t)next(cursor) << 8;
+    at |= next(cursor);
+    world->of[TABLES][at < 0x8000 ? at % 1000 : at % SWEEP_TABLES_BYTES] ^= (uint8_t)(1 << next(cursor) % 8);
+}
+
+static void change_a_page(struct buffers *world, struct cursor *cursor)
+{
+    size_t at = (size_t)next(cursor) << 8;
+    at |= next(cursor);
+    world->of[PAGES][at % ROOM_BYTES] = next(cursor);
+}
+
+/* Gives tables or pages a length that is not theirs. */
+static void choose_lengths(struct buffers *world, struct cursor *cursor)
+{
+    enum { ALL = SWEEP_TABLES_BYTES };
+    static const uint32_t tables[] = {0, 1, 4, SETS_AT, ALL - 1, ALL, ALL + 1, 32768};
+    size_t *length = &world->length[PAGES];
+    uint8_t byte = next(cursor);
+    size_t step = byte & 4 && (byte & 2 || *length >= SWEEP_PAGE_BYTES) ? SWEEP_PAGE_BYTES : 1;
+    if (byte & 1)
+        world->length[TABLES] = PICK(tables, byte >> 1);
+    else if (byte & 2)
+        *length += step;
+    else if (*length)
+        *length -= step;
+    if (*length > ROOM_BYTES)
+        *length = ROOM_BYTES;
+}
+
+static const struct {
+    void (*does)(struct buffers *world, struct cursor *cursor);
+    unsigned slots;
+} changes[] = {{damage_tables, 5}, {change_a_page, 4}, {choose_lengths, 2}};
+enum { CHANGES = sizeof changes / sizeof *changes };
+
+/* Lists */
+
+/* What a byte of a list asks for: a change from outside, or a call. Each has as many values as its row says. */
+static struct {
+    uint8_t kinds[256];
+    unsigned count;
+} slots;
+
+static void give_slots(uint8_t kind, unsigned count)
+{
+    if (slots.count + count > sizeof slots.kinds)
+        abort(); /* the rows want more values than a byte has */
+    memset(slots.kinds + slots.count, kind, count);
+    slots.count += count;
+}
+
+static unsigned some_kind(struct cursor *cursor)
+{
+    if (slots.count == 0) {
+        for (uint8_t i = 0; i < CHANGES; i++)
+            give_slots(i, changes[i].slots);
+        for (uint8_t i = 0; i < exported.count; i++)
+            give_slots(CHANGES + i, exported.functions[i].slots);
+    }
+    return slots.kinds[next(cursor) % slots.count];
+}
+
+/* Chooses a call's numbers and buffers, and does it. */
+static sweep_answer one_call(struct buffers *world, unsigned name, struct cursor *cursor, caller how, unsigned turn)
+{
+    const struct function *function = &exported.functions[name];
+    struct call call = {name, {0}, {{0, 0}}};
+    for (int i = 0; i < MOST_NUMBERS && function->numbers[i].bits; i++)
+        call.n[i] = function->numbers[i].choose(world, &call, cursor);
+    if (function->prepare)
+        function->prepare(world, &call, cursor);
+    return do_call(&exported, how, world, &call, turn);
+}
+
+/* A format of 1 to 80 blocks, then set 0 gets file 0. */
+static void begin(struct buffers *world, struct cursor *cursor, caller how)
+{
+    const struct call format = {FORMAT, {0}, {{0, 0}}}, create = {CREATE, {0}, {{0, 0}}};
+    memset(world->length, 0, sizeof world->length);
+    memset(world->of[TABLES], 0x5A, ROOM_BYTES);
+    world->length[TABLES] = SWEEP_TABLES_BYTES;
+    choose_pages(world, cursor);
+    do_call(&exported, how, world, &format, 0);
+    do_call(&exported, how, world, &create, 1);
+}
+
+void run_list(const uint8_t *data, size_t length, caller how)
+{
+    static struct buffers world, kept;
+    struct cursor cursor = {data, data + length};
+    begin(&world, &cursor, how);
+    copy_buffers(&kept, &world);
+    for (unsigned turn = 2; cursor.at < cursor.end; turn++) {
+        unsigned kind = some_kind(&cursor);
+        if (kind < CHANGES) {
+            changes[kind].does(&world, &cursor);
+            continue;
+        }
+        sweep_answer answer = one_call(&world, kind - CHANGES, &cursor, how, turn);
+        /* a store that was damaged, or told with wrong lengths, is put back */
+        if (answer.number == SWEEP_BAD_TABLES)
+            copy_buffers(&world, &kept);
+        else if (!exported.functions[kind - CHANGES].unchecked)
+            copy_buffers(&kept, &world);
+    }
+}
