@@ -1,4 +1,4 @@
--- THE CLAIMS, closed: every quantifier and every hypothesis stands in definitions, and one theorem (`proofs/Claims`: `claims`) inhabits them all.
+-- THE CLAIMS, closed: every quantifier and every hypothesis stands in definitions, and one theorem (`proofs/Claims`: `claims`) proves them all.
 use mathlib.Core.Bool.{true}
 use mathlib.Core.List.{List}
 use mathlib.Core.Path.{_≡_}
@@ -21,7 +21,7 @@ FormedClaim =
 pub record Claims : Type 0 where
   pub one-reading : OneReadingClaim
   pub demand3 : Demand3Claim
-  -- plain store and tally are fed the list itself, where it is one of the ten calls alone
+  -- where the list holds calls of the ten only, plain store and tally are fed exactly that list
   pub listed : (cs : List Call) (m : Image) → runsAll (listedAll cs) m ≡ cs
   pub formed : FormedClaim
   pub rows : RowsClaim

@@ -1,15 +1,15 @@
 -- DEMAND 3: one claim about the whole list of events. Document 01, "Demand 3".
 --
--- For every tables and pages of lengths that a format accepts, and every list of events, the ten calls with any arguments among them, refused ones included, run
--- from their format on, tables and pages handed from one to the next as bytes, by the definition `callOn` that the contracts of the exported functions cite:
+-- For all tables and pages whose lengths a format accepts, whatever they hold, and every list of events (the ten calls with any arguments, refused ones
+-- included), run from their format on, tables and pages handed from one to the next as bytes, by the definition `callOn` that the contracts of the exported functions cite:
 -- the tables are well formed; sets, presence, sizes and bytes by reading are the plain store's; states, sizes, kinds and free blocks are the tally's; and
--- every answer, with the bytes of every read, is the one that plain store and tally give, fed the arguments of the calls that the events ran, alone.
+-- every answer, with the bytes of every read, is the one that plain store and tally give, fed the arguments of the calls that the events ran, alone
+-- (the maps that a read looked at are 0 in `callOn`; the contract of the exported read bounds them).
 -- So accepted are exactly the calls to which no refusal applies, judged on these two.
 -- And at every place in the list a file becomes marked exactly when a needed copy for it finds no free block beyond the writer's own need, or it still depends
 -- on a file so marked, or its set is then made from one where it is marked: read off the bytes before and after.
 --
--- A call added to the ten joins by a case of `Call` (rules/specs/Numbers), of its conditions, of `accepted`, `plainCall`, `tallyCall` and `acceptedOn`,
--- and one step lemma in each of the proofs that go by cases on the call; any other as an event (`Events`); this statement stays as it is.
+-- The numbers of the fields are those of docs/PROMISES.md, "Demand 3, in plain words".
 use mathlib.Core.Bool.{false, true}
 use mathlib.Core.List.{_++_, List, _∷_, []}
 use mathlib.Core.Logic.{_↔_}
@@ -38,7 +38,8 @@ callsRun m es = runsAll es (after format m)
 abbrev pub bothAfter : Image → List Call → Both
 bothAfter m cs = let blocks : ℕ = length (m .pages) / pageBytes in bothRun blocks cs plainFormat (tallyFormat blocks)
 
--- why file f of set s becomes marked where this call is run, or none: the call is accepted and there is a reason, on what the bytes before it show
+-- why file f of set s becomes marked in an event that runs this call: the call is accepted, and there is a reason by what the tables before it hold. An event that
+-- runs none marks nothing
 abbrev pub MarkedBy : Option Call → Image → ℕ → ℕ → Type 0
 MarkedBy none m f s = ⊥
 MarkedBy (some c) m f s = (gave c m .answer .number ≡ 0) × BecomesMarked (tallyIn (storeIn m)) c f s

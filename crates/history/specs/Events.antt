@@ -1,8 +1,6 @@
 -- WHAT MAY STAND IN A LIST: events. An event takes tables and pages to tables and pages; in doing so it runs one of the ten calls, or none.
---
--- One added later joins by a case of `Event`, of `eventOn` and of `runs`, and by one of `event-goes` and of `event-kept` (proofs/Events): `call-goes`, `call-kept`
--- where it runs a call, `look-goes`, `look-kept` where it changes nothing, `quiet-goes`, `quiet-kept` where it leaves sets, files by reading and the number of free
--- blocks. The rules are not touched by it.
+-- "A call added later on these tables joins the list; for plain store and tally it is just the listed calls that it runs, if any." One that ran several would stand
+-- in the list as that many events, one after another. How one is added: docs/ARCHITECTURE.md, "How to add a call".
 use mathlib.Core.List.{_++_, List, _∷_, []}
 use mathlib.Core.Option.{Option, none, some}
 use Rattle.history.specs.Image.{Image, after, gave}
@@ -26,7 +24,7 @@ abbrev pub listOf : {A : Type 0} → Option A → List A
 listOf none = []
 listOf (some x) = x ∷ []
 
--- what that call gave
+-- what that call gives on the tables and pages before the event; the event's own answer is left to its contract
 abbrev pub gaveBy : Option Call → Image → Option Given
 gaveBy none m = none
 gaveBy (some c) m = some (gave c m)

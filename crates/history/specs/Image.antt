@@ -1,4 +1,5 @@
--- Tables and pages as bytes, and one call on them, by the definition `callOn` that the contracts of the exported functions cite.
+-- Tables and pages, byte by byte, and one call on them, by the definition `callOn` that the contracts of the exported functions cite. Nothing is asked of the numbers
+-- that they hold: what is claimed of all lists holds of bytes.
 use mathlib.Core.List.{List}
 use Prim.Native.Nat.{ℕ}
 use Rattle.rules.specs.Agreement.{Given, front}

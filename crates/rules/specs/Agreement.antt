@@ -87,6 +87,7 @@ unfoldable pub bothGiven : ℕ → List Call → Plain → Tally → List Given
 bothGiven blocks [] pl ta = []
 bothGiven blocks (c ∷ cs) pl ta = bothGive blocks c pl ta ∷ bothGiven blocks cs (bothStep blocks c pl ta .plain) (bothStep blocks c pl ta .tally)
 
+-- For the proofs; no claim uses what follows.
 -- the buffer of a call after it, where it gave the number n
 unfoldable pub bufferOf : Look → ℕ → Store real → List ℕ
 bufferOf (bytesAsked s f off buffer) zero st = readInto st s f off buffer

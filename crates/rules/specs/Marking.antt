@@ -25,7 +25,8 @@ pub record FindsNone (t : Tree) (s p c : ℕ) (x : Turn) : Type 0 where
   pub copied : kindAt t (x .files) s p ≡ stored tt
   pub none : x .free ≡ 0
 
--- what the first turn of step 4 finds in a call that changes file f: the writer's own need is taken. Step 2, which makes virgin files own, changes no turn and is left out.
+-- what the first turn of step 4 finds in a call that changes file f: the writer's own need is taken. Step 2 is left out: a turn looks
+-- at which files are own or virgin, at maps and at the free blocks, and step 2 only makes virgin files own and gives them their size.
 abbrev pub ownTaken : Tally → ℕ → ℕ → Turn
 ownTaken ta f need = record { files = ta .files f; free = ta .free - need; copies = 0; marks = 0 }
 

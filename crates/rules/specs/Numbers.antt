@@ -6,7 +6,7 @@ use lib.Dec.{eqb, leb, ltb}
 use lib.ListN.{length}
 use Rattle.rules.specs.State.{State, Tree, fileCount, highestLevel, isAbsent, isMarked, largestSize, setCount}
 
--- The ten calls with their arguments, at full width.
+-- The ten calls with their arguments, numbers of any size.
 pub data Call : Type 0 where
   -- on the lent tables and pages
   format : Call

@@ -69,7 +69,7 @@ abbrev pub AllRows : List Row → Type 0
 AllRows [] = Unit {0}
 AllRows (r ∷ rs) = (answered r ≡ r .gives) × AllRows rs
 
--- ROWS M1 TO M12: the table; and row M1 on any store: a write that ends at 32,768, with room enough, is accepted
+-- ROWS M1 TO M12: the table; and row M1 in general: whatever the table of numbers looks at, a write that ends at 32,768, with room enough, gets number 0
 pub record RowsClaim : Type 0 where
   pub table : AllRows rows
   pub m1 : (v : View) (s f off : ℕ) (bs : List ℕ) → v .formed ≡ true → s < setCount → v .tree .used s ≡ true → f < fileCount → v .tree .writeable s ≡ true

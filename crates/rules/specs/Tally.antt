@@ -1,5 +1,6 @@
 -- The tally: "the same calls under the rules above with sets, states, sizes, kinds and a count of free blocks (B at format), but no block numbers or bytes".
--- Document 01, "Demand 3". It is stated on its own, in its own words, and shares no rule with the store: a rule of the store that marked or copied too much would show.
+-- Document 01, "Demand 3". It is stated on its own, in its own words, and shares no rule with the store but the table of
+-- numbers: a rule of the store that marked or copied too much or too little would show.
 use mathlib.Core.Bool.{_&&_, Bool, cond, false, not, true, _||_}
 use mathlib.Core.List.{List, _∷_, []}
 use Prim.Native.Nat.{_%_, _+_, _-_, _/_, max, min, suc, zero, ℕ}

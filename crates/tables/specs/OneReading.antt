@@ -33,7 +33,7 @@ pub record Fits (tb : Tables) : Type 0 where
   pub size-out : (f s : ℕ) → isFile f s ≡ false → tb .files f s .size ≡ 0
   pub map-out : (f s p : ℕ) → isPage f s p ≡ false → tb .files f s .map p ≡ unmapped
 
--- ONE READING: what tables hold packs to the same bytes, and no other state does
+-- ONE READING: what tables hold packs to the same bytes, and no other state that the tables can hold does
 pub record OneReading (t : List ℕ) : Type 0 where
   pub same : pack (unpack t) ≡ t
   pub fits : Fits (unpack t)
