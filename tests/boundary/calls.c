@@ -1,6 +1,5 @@
 /* The exported functions, each a row for the harness. To test one more: its place in calls.h, its line of RUN and its row here,
- * and its rows in the second implementation (oracle/README.md). New rows stand at the end, so that the lists in corpus.txt
- * keep their meaning. */
+ * how often lists have it (lists.c), and its rows in the second implementation (oracle/README.md). */
 #include "calls.h"
 #include "lists.h"
 
@@ -52,22 +51,19 @@ static int read_fits(const struct call *before, sweep_answer found, sweep_answer
 #define A_PLACE {32, place_in_file}
 
 static const struct function functions[CALLS] = {
-    [FORMAT] = {.name = "format", .run = run_format, .lends = {STORE_CHANGED}, .slots = 1, .prepare = pages_for_format},
-    [CREATE] = {.name = "create", .run = run_create, .lends = {STORE_CHANGED}, .numbers = {SET, {32, absent_file}},
-                .slots = 12},
+    [FORMAT] = {.name = "format", .run = run_format, .lends = {STORE_CHANGED}, .prepare = pages_for_format},
+    [CREATE] = {.name = "create", .run = run_create, .lends = {STORE_CHANGED}, .numbers = {SET, {32, absent_file}}},
     [WRITE] = {.name = "write", .run = run_write, .lends = {STORE_CHANGED, [BYTES] = READ_ONLY},
-               .numbers = {SET, A_FILE, A_PLACE}, .copies = 1, .slots = 36, .prepare = data_to_write},
+               .numbers = {SET, A_FILE, A_PLACE}, .copies = 1, .prepare = data_to_write},
     [READ] = {.name = "read", .run = run_read, .lends = {STORE_READ, [BYTES] = CHANGED}, .numbers = {SET, A_FILE, A_PLACE},
-              .fits = read_fits, .slots = 12, .prepare = buffer_to_read},
+              .fits = read_fits, .prepare = buffer_to_read},
     [TRUNCATE] = {.name = "truncate", .run = run_truncate, .lends = {STORE_CHANGED}, .numbers = {SET, A_FILE, A_PLACE},
-                  .copies = 1, .slots = 16},
-    [DELETE] = {.name = "delete", .run = run_delete, .lends = {STORE_CHANGED}, .numbers = {SET, A_FILE}, .copies = 1,
-                .slots = 8},
-    [MAKE] = {.name = "make", .run = run_make, .lends = {STORE_CHANGED}, .numbers = {SET, {32, unused_set}, {32, yes_or_no}},
-              .slots = 16},
-    [REMOVE] = {.name = "remove", .run = run_remove, .lends = {STORE_CHANGED}, .numbers = {SET}, .slots = 8},
-    [SIZE] = {.name = "size", .run = run_size, .lends = {STORE_READ}, .numbers = {SET, A_FILE}, .slots = 4},
-    [FREE] = {.name = "free", .run = run_free, .lends = {STORE_READ}, .slots = 4},
+                  .copies = 1},
+    [DELETE] = {.name = "delete", .run = run_delete, .lends = {STORE_CHANGED}, .numbers = {SET, A_FILE}, .copies = 1},
+    [MAKE] = {.name = "make", .run = run_make, .lends = {STORE_CHANGED}, .numbers = {SET, {32, unused_set}, {32, yes_or_no}}},
+    [REMOVE] = {.name = "remove", .run = run_remove, .lends = {STORE_CHANGED}, .numbers = {SET}},
+    [SIZE] = {.name = "size", .run = run_size, .lends = {STORE_READ}, .numbers = {SET, A_FILE}},
+    [FREE] = {.name = "free", .run = run_free, .lends = {STORE_READ}},
 };
 
 struct suite exported = {functions, CALLS, judge, {{{0}}, 0, 0}};

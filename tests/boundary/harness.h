@@ -69,8 +69,7 @@ struct function {
     int copies;    /* whether its second and third counts are copies and files marked */
     int unchecked; /* whether it can give another number than 1 on tables that are not well formed, format apart */
 
-    unsigned slots; /* how often lists have it: so many of the values of a byte */
-    /* Gives buffers other lengths and contents before the call. */
+    /* Gives buffers other lengths and contents before the call of a list. */
     void (*prepare)(struct buffers *world, const struct call *call, struct cursor *cursor);
 };
 

@@ -1,5 +1,4 @@
 /* Lists of calls on the exported functions, read off any bytes. */
-#include <stdlib.h>
 #include <string.h>
 #include "calls.h"
 #include "lists.h"
@@ -178,37 +177,33 @@ static void choose_lengths(struct buffers *world, struct cursor *cursor)
         *length = ROOM_BYTES;
 }
 
-static const struct {
-    void (*does)(struct buffers *world, struct cursor *cursor);
-    unsigned slots;
-} changes[] = {{damage_tables, 5}, {change_a_page, 4}, {choose_lengths, 2}};
-enum { CHANGES = sizeof changes / sizeof *changes };
+typedef void changes(struct buffers *world, struct cursor *cursor);
 
 /* Lists */
 
-/* What a byte of a list asks for: a change from outside, or a call. Each has as many values as its row says. */
-static struct {
-    uint8_t kinds[256];
-    unsigned count;
-} slots;
+/* What a byte of a list asks for: a change from outside, or a call. Each has so many of the values of a byte. New rows stand at
+ * the end, so that the lists in corpus.txt keep their meaning. */
+struct kind {
+    unsigned slots;
+    unsigned name;   /* of a call */
+    changes *change; /* or 0 */
+};
+static const struct kind kinds[] = {
+    {36, WRITE, 0}, {12, CREATE, 0},       {16, MAKE, 0},         {8, DELETE, 0},         {16, TRUNCATE, 0},
+    {8, REMOVE, 0}, {12, READ, 0},         {4, SIZE, 0},          {4, FREE, 0},           {5, 0, damage_tables},
+    {4, 0, change_a_page}, {2, 0, choose_lengths}, {1, FORMAT, 0},
+};
+enum { KINDS = sizeof kinds / sizeof *kinds };
 
-static void give_slots(uint8_t kind, unsigned count)
+static const struct kind *some_kind(struct cursor *cursor)
 {
-    if (slots.count + count > sizeof slots.kinds)
-        abort(); /* the rows want more values than a byte has */
-    memset(slots.kinds + slots.count, kind, count);
-    slots.count += count;
-}
-
-static unsigned some_kind(struct cursor *cursor)
-{
-    if (slots.count == 0) {
-        for (uint8_t i = 0; i < CHANGES; i++)
-            give_slots(i, changes[i].slots);
-        for (uint8_t i = 0; i < exported.count; i++)
-            give_slots(CHANGES + i, exported.functions[i].slots);
-    }
-    return slots.kinds[next(cursor) % slots.count];
+    unsigned all = 0, kind = 0;
+    for (unsigned i = 0; i < KINDS; i++)
+        all += kinds[i].slots;
+    unsigned rest = next(cursor) % all;
+    while (rest >= kinds[kind].slots)
+        rest -= kinds[kind++].slots;
+    return &kinds[kind];
 }
 
 /* Chooses a call's numbers and buffers, and does it. */
@@ -242,16 +237,16 @@ void run_list(const uint8_t *data, size_t length, caller how)
     begin(&world, &cursor, how);
     copy_buffers(&kept, &world);
     for (unsigned turn = 2; cursor.at < cursor.end; turn++) {
-        unsigned kind = some_kind(&cursor);
-        if (kind < CHANGES) {
-            changes[kind].does(&world, &cursor);
+        const struct kind *kind = some_kind(&cursor);
+        if (kind->change) {
+            kind->change(&world, &cursor);
             continue;
         }
-        sweep_answer answer = one_call(&world, kind - CHANGES, &cursor, how, turn);
+        sweep_answer answer = one_call(&world, kind->name, &cursor, how, turn);
         /* a store that was damaged, or told with wrong lengths, is put back */
         if (answer.number == SWEEP_BAD_TABLES)
             copy_buffers(&world, &kept);
-        else if (!exported.functions[kind - CHANGES].unchecked)
+        else if (!exported.functions[kind->name].unchecked)
             copy_buffers(&kept, &world);
     }
 }
