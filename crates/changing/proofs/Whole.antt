@@ -7,7 +7,7 @@ use native.Mathlib.Omega.{arith}
 use lib.ListN.{length}
 use Rattle.base.specs.Update.{upd}
 use Rattle.changing.specs.Tables.{AnyBlockIn, OnTables}
-use Rattle.changing.specs.Whole.{Changed, startCounts}
+use Rattle.changing.specs.Whole.{Changed, startCounts, totalsOf}
 use Rattle.copying.proofs.Begin.{formed-header, formed-named}
 use Rattle.copying.proofs.Kept.{changed-does}
 use Rattle.copying.proofs.Settled.{settled-sets, settled-step}
@@ -22,6 +22,7 @@ use Rattle.setchanges.specs.Changes.{erasedIn, freedIn}
 use Rattle.tables.specs.Calls.{pagesOf}
 use Rattle.tables.specs.Packed.{unpack, wellFormed}
 use Rattle.tables.specs.Views.{Turns, memoryOf}
+use Rattle.changing.specs.declared.Totals.{Totals}
 use Rattle.copying.specs.declared.giving.Counts.{Counts}
 
 -- ---- one after another
@@ -114,7 +115,7 @@ ready-in re s q b e = let h = re .sound .named s q b e in omega (arith, h, re .s
 module _ {t p t₁ t₂ p₂ t₃ : List ℕ} {f : ℕ} {k k₁ : Counts} (s : ℕ) (re : Ready t p f k) (a : Alone t t₁ f (settleChildren (unpack t .sets) s))
     (d : Step t₁ p t₂ p₂ f k k₁ (giveAll real (treeOf (unpack t₁ .sets)) s (from 0 64))) (e : OnTables t₂ t₃ f (eraseFile real (treeOf (unpack t₂ .sets)) s)) where
   -- LAW: a live file deleted
-  pub deleted : Changed t p t₃ p₂ f k k₁ (deleteAs real (treeOf (unpack t .sets)) true s)
+  pub deleted : Changed t p t₃ p₂ f k (totalsOf k₁) (deleteAs real (treeOf (unpack t .sets)) true s)
   unfolding deleteAs
   deleted =
       let h : ℕ → Entry ℕ = λ q. unmapped in
@@ -123,8 +124,8 @@ module _ {t p t₁ t₂ p₂ t₃ : List ℕ} {f : ℕ} {k k₁ : Counts} (s : �
       record { pending = h; same = x .same; does = x .does; packed = e .packed }
 
 -- LAW: the whole delete by its rule
-pub deleted-so : {t p t′ p′ : List ℕ} {f : ℕ} {k′ : Counts} (s left : ℕ) → live (unpack t .files f s .state) ≡ true → Changed t p t′ p′ f (begun left) k′ (deleteAs real (treeOf (unpack t .sets)) true s)
-    → Changed t p t′ p′ f startCounts k′ (deleteFile real (treeOf (unpack t .sets)) s)
+pub deleted-so : {t p t′ p′ : List ℕ} {f : ℕ} {r : Totals} (s left : ℕ) → live (unpack t .files f s .state) ≡ true → Changed t p t′ p′ f (begun left) r (deleteAs real (treeOf (unpack t .sets)) true s)
+    → Changed t p t′ p′ f startCounts r (deleteFile real (treeOf (unpack t .sets)) s)
 unfolding deleteFile
 deleted-so {t} {p} {t′} {p′} {f} s left l c = record {
   pending = c .pending;
@@ -133,10 +134,10 @@ deleted-so {t} {p} {t′} {p′} {f} s left l c = record {
   packed = c .packed;
 }
 
-pub deleted-not : {t t′ : List ℕ} {f : ℕ} (p : List ℕ) (s left : ℕ) → live (unpack t .files f s .state) ≡ false → OnTables t t′ f (eraseFile real (treeOf (unpack t .sets)) s)
-    → Changed t p t′ p f startCounts (begun left) (deleteFile real (treeOf (unpack t .sets)) s)
+pub deleted-not : {t t′ : List ℕ} {f : ℕ} (p : List ℕ) (s : ℕ) → live (unpack t .files f s .state) ≡ false → OnTables t t′ f (eraseFile real (treeOf (unpack t .sets)) s)
+    → Changed t p t′ p f startCounts (totalsOf startCounts) (deleteFile real (treeOf (unpack t .sets)) s)
 unfolding deleteFile deleteAs
-deleted-not {t} {t′} {f} p s left l e =
+deleted-not {t} {t′} {f} p s l e =
     let h : ℕ → Entry ℕ = λ q. unmapped in
     let x = did-tables p h startCounts e in
     record {

@@ -3,3 +3,10 @@
 // Each function is its rule (rules/specs/Rules.antt), on what the tables and the pages hold.
 pub mod deleting;
 pub mod dropping;
+
+// "three counts": own blocks taken, copies, files newly marked.
+pub struct Totals {
+    pub taken: u32,
+    pub copies: u32,
+    pub marks: u32,
+}

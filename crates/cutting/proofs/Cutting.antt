@@ -11,7 +11,8 @@ use borrow.Author.Tests.{eq-eqb, le-ltb, lt-ltb, ne-eqb}
 use Rattle.base.specs.Count.{count}
 use Rattle.changing.proofs.Whole.{Did, begun, both-did, did-step, did-tables, did-then, settleBoth}
 use Rattle.changing.specs.Tables.{OnTables}
-use Rattle.changing.specs.Whole.{Changed, ChangedAlone, startCounts}
+use Rattle.changing.specs.Whole.{Changed, ChangedAlone, startCounts, totalsOf}
+use Rattle.copying.proofs.Begin.{ready-begin}
 use Rattle.copying.specs.Changes.{settled}
 use Rattle.copying.specs.Work.{Alone, Ready, Step, settleChildren, work}
 use Rattle.entering.specs.Pending.{Reserves, StepAt}
@@ -25,6 +26,7 @@ use Rattle.tables.proofs.Pending.{none-pending}
 use Rattle.tables.specs.Calls.{pagesOf}
 use Rattle.tables.specs.Packed.{unpack, wellFormed}
 use Rattle.tables.specs.Views.{PackedTables, Turns, nonePending, pendingOf}
+use Rattle.changing.specs.declared.Totals.{Totals}
 use Rattle.copying.specs.declared.giving.Counts.{Counts}
 
 -- ---- above the size
@@ -58,7 +60,7 @@ module _ {t p t₁ t₂ t₃ p₃ t₄ t₅ : List ℕ} {f : ℕ} {k k₁ : Coun
   is-away tree w = refl
 
   -- LAW
-  pub cut-away : Changed t p t₅ p₃ f k k₁ (change real (treeOf (unpack t .sets)) s (from q m) [] (from at d) (λ i. zeroFrom (n % 512)) (λ i. n))
+  pub cut-away : Changed t p t₅ p₃ f k (totalsOf k₁) (change real (treeOf (unpack t .sets)) s (from q m) [] (from at d) (λ i. zeroFrom (n % 512)) (λ i. n))
   cut-away = record {
     pending = λ q. unmapped;
     same = away .same;
@@ -90,7 +92,7 @@ module _ {t p t₁ t₂ t₃ l₀ l t₄ p₄ t₅ p₅ t₆ t₇ : List ℕ} {f
   is-kept tree w = refl
 
   -- LAW
-  pub cut-kept : Changed t p t₇ p₅ f k k₂ (change real (treeOf (unpack t .sets)) s (from q m) (from q 1) (from at d) lay (λ i. n))
+  pub cut-kept : Changed t p t₇ p₅ f k (totalsOf k₂) (change real (treeOf (unpack t .sets)) s (from q m) (from q 1) (from at d) lay (λ i. n))
   cut-kept =
       let tree = treeOf (unpack t .sets) in
       record {
@@ -135,8 +137,8 @@ module _ (n z : ℕ) where
   kept-stored e h u = rw (ne-eqb (n % 512) 0 h, u)
 
 -- other lists of pages, the same
-pub changed-pages : {t p t′ p′ : List ℕ} {f : ℕ} {k k′ : Counts} (s n : ℕ) (lay : ℕ → PageData → PageData) (ps ps′ rs rs′ ds ds′ : List ℕ) → ps′ ≡ ps → rs′ ≡ rs → ds′ ≡ ds
-    → Changed t p t′ p′ f k k′ (change real (treeOf (unpack t .sets)) s ps rs ds lay (λ i. n)) → Changed t p t′ p′ f k k′ (change real (treeOf (unpack t .sets)) s ps′ rs′ ds′ lay (λ i. n))
+pub changed-pages : {t p t′ p′ : List ℕ} {f : ℕ} {k : Counts} {r : Totals} (s n : ℕ) (lay : ℕ → PageData → PageData) (ps ps′ rs rs′ ds ds′ : List ℕ) → ps′ ≡ ps → rs′ ≡ rs → ds′ ≡ ds
+    → Changed t p t′ p′ f k r (change real (treeOf (unpack t .sets)) s ps rs ds lay (λ i. n)) → Changed t p t′ p′ f k r (change real (treeOf (unpack t .sets)) s ps′ rs′ ds′ lay (λ i. n))
 changed-pages {t} {p} {t′} {p′} {f} {k} s n lay ps ps′ rs rs′ ds ds′ e₁ e₂ e₃ c =
     let tree = treeOf (unpack t .sets) in
     let w = work (unpack t) (pagesOf p) f (λ q. unmapped) k in
@@ -158,43 +160,50 @@ allPages n z = from (n / 512) ((z - 1) / 512 - n / 512 + 1)
 abbrev laterPages : ℕ → ℕ → List ℕ
 laterPages n z = from (n / 512 + 1) ((z - 1) / 512 - n / 512 + 1 - 1)
 
-module _ {t p t′ p′ : List ℕ} {f : ℕ} {k k′ : Counts} (s n z : ℕ) (e : Entry ℕ) where
+module _ {t p t′ p′ : List ℕ} {f : ℕ} {k : Counts} {r : Totals} (s n z : ℕ) (e : Entry ℕ) where
   -- LAWS: the three ways
-  pub cut-even : n % 512 ≡ 0 → Changed t p t′ p′ f k k′ (change real (treeOf (unpack t .sets)) s (allPages n z) [] (allPages n z) (cutLay n) (λ i. n))
-      → Changed t p t′ p′ f k k′ (change real (treeOf (unpack t .sets)) s (cutPages n z) (keptPages n e) (droppedPages n z) (cutLay n) (λ i. n))
+  pub cut-even : n % 512 ≡ 0 → Changed t p t′ p′ f k r (change real (treeOf (unpack t .sets)) s (allPages n z) [] (allPages n z) (cutLay n) (λ i. n))
+      → Changed t p t′ p′ f k r (change real (treeOf (unpack t .sets)) s (cutPages n z) (keptPages n e) (droppedPages n z) (cutLay n) (λ i. n))
   cut-even h c = changed-pages s n (cutLay n) _ _ _ _ _ _ (pages-all n z) (kept-even n z e h) (dropped-even n z h) c
 
-  pub cut-hole : (n % 512 ≡ 0 → ⊥) → isStored e ≡ false → Changed t p t′ p′ f k k′ (change real (treeOf (unpack t .sets)) s (allPages n z) [] (laterPages n z) (cutLay n) (λ i. n))
-      → Changed t p t′ p′ f k k′ (change real (treeOf (unpack t .sets)) s (cutPages n z) (keptPages n e) (droppedPages n z) (cutLay n) (λ i. n))
+  pub cut-hole : (n % 512 ≡ 0 → ⊥) → isStored e ≡ false → Changed t p t′ p′ f k r (change real (treeOf (unpack t .sets)) s (allPages n z) [] (laterPages n z) (cutLay n) (λ i. n))
+      → Changed t p t′ p′ f k r (change real (treeOf (unpack t .sets)) s (cutPages n z) (keptPages n e) (droppedPages n z) (cutLay n) (λ i. n))
   cut-hole h u c = changed-pages s n (cutLay n) _ _ _ _ _ _ (pages-all n z) (kept-hole n z e h u) (dropped-odd n z h) c
 
-  pub cut-stored : (n % 512 ≡ 0 → ⊥) → isStored e ≡ true → Changed t p t′ p′ f k k′ (change real (treeOf (unpack t .sets)) s (allPages n z) (from (n / 512) 1) (laterPages n z) (cutLay n) (λ i. n))
-      → Changed t p t′ p′ f k k′ (change real (treeOf (unpack t .sets)) s (cutPages n z) (keptPages n e) (droppedPages n z) (cutLay n) (λ i. n))
+  pub cut-stored : (n % 512 ≡ 0 → ⊥) → isStored e ≡ true → Changed t p t′ p′ f k r (change real (treeOf (unpack t .sets)) s (allPages n z) (from (n / 512) 1) (laterPages n z) (cutLay n) (λ i. n))
+      → Changed t p t′ p′ f k r (change real (treeOf (unpack t .sets)) s (cutPages n z) (keptPages n e) (droppedPages n z) (cutLay n) (λ i. n))
   cut-stored h u c = changed-pages s n (cutLay n) _ _ _ _ _ _ (pages-all n z) (kept-stored n z e h u) (dropped-odd n z h) c
 
 -- ---- the rule of truncate
 
-module _ (t p : List ℕ) (f s n z left : ℕ) (ez : z ≡ sizeByReading (treeOf (unpack t .sets)) (unpack t .files f) s) where
+-- a change of the tables alone, from well-formed tables on, whatever the count of free blocks
+pub alone-begun : {t′ : List ℕ} {f : ℕ} {op : Work real → Work real} (t p : List ℕ) → wellFormed t (length p) ≡ true → f < 16 → ChangedAlone t t′ f op → Changed t p t′ p f startCounts (totalsOf startCounts) op
+alone-begun {t′} {f} t p formed h g =
+    let k = begun (count (unpack t .blocks) (λ b. not (unpack t .bits b))) in
+    let c = g p k (ready-begin t p formed f k h refl refl refl refl) in
+    record { pending = c .pending; same = c .same; does = c .does; packed = c .packed }
+
+module _ (t p : List ℕ) (f s n z : ℕ) (ez : z ≡ sizeByReading (treeOf (unpack t .sets)) (unpack t .files f) s) where
   as-size : truncateAs real (treeOf (unpack t .sets)) (eqb n z) (ltb z n) s n z (work (unpack t) (pagesOf p) f (λ q. unmapped) startCounts) ≡ truncateFile real (treeOf (unpack t .sets)) s n (work (unpack t) (pagesOf p) f (λ q. unmapped) startCounts)
   unfolding truncateFile
   as-size = ap (λ y. truncateAs real (treeOf (unpack t .sets)) (eqb n y) (ltb y n) s n y (work (unpack t) (pagesOf p) f (λ q. unmapped) startCounts)) ez
 
   -- LAW: at the size
-  pub truncate-same : PackedTables t → n ≡ z → Changed t p t p f startCounts (begun left) (truncateFile real (treeOf (unpack t .sets)) s n)
+  pub truncate-same : PackedTables t → n ≡ z → Changed t p t p f startCounts (totalsOf startCounts) (truncateFile real (treeOf (unpack t .sets)) s n)
   unfolding truncateAs
   truncate-same pk h = record { pending = λ q. unmapped; same = refl; does = (rw (eq-eqb n z h)) ∙ as-size; packed = pk }
 
   -- LAW: above it
-  pub truncate-above : {t′ : List ℕ} → (n ≡ z → ⊥) → z < n → Changed t p t′ p f (begun left) (begun left) (change real (treeOf (unpack t .sets)) s [] [] [] (λ q v. v) (λ m. n)) → Changed t p t′ p f startCounts (begun left) (truncateFile real (treeOf (unpack t .sets)) s n)
+  pub truncate-above : {t′ : List ℕ} → (n ≡ z → ⊥) → z < n → Changed t p t′ p f startCounts (totalsOf startCounts) (change real (treeOf (unpack t .sets)) s [] [] [] (λ q v. v) (λ m. n)) → Changed t p t′ p f startCounts (totalsOf startCounts) (truncateFile real (treeOf (unpack t .sets)) s n)
   unfolding truncateAs
   truncate-above h l c = record { pending = c .pending; same = c .same; does = c .does ∙ (rw (ne-eqb n z h, lt-ltb z n l)) ∙ as-size; packed = c .packed }
 
   -- LAW: below it
-  pub truncate-below : {t′ p′ : List ℕ} {k′ : Counts} → (n ≡ z → ⊥) → n ≤ z
-      → Changed t p t′ p′ f (begun left) k′ (change real (treeOf (unpack t .sets)) s (cutPages n z) (keptPages n (resolve (treeOf (unpack t .sets)) (unpack t .files f) s (n / 512))) (droppedPages n z) (λ q. zeroFrom (n % 512)) (λ i. n))
-      → Changed t p t′ p′ f startCounts k′ (truncateFile real (treeOf (unpack t .sets)) s n)
+  pub truncate-below : {t′ p′ : List ℕ} {r : Totals} (left : ℕ) → (n ≡ z → ⊥) → n ≤ z
+      → Changed t p t′ p′ f (begun left) r (change real (treeOf (unpack t .sets)) s (cutPages n z) (keptPages n (resolve (treeOf (unpack t .sets)) (unpack t .files f) s (n / 512))) (droppedPages n z) (λ q. zeroFrom (n % 512)) (λ i. n))
+      → Changed t p t′ p′ f startCounts r (truncateFile real (treeOf (unpack t .sets)) s n)
   unfolding truncateAs
-  truncate-below h l c = record { pending = c .pending; same = c .same; does = c .does ∙ (rw (ne-eqb n z h, le-ltb z n l)) ∙ as-size; packed = c .packed }
+  truncate-below left h l c = record { pending = c .pending; same = c .same; does = c .does ∙ (rw (ne-eqb n z h, le-ltb z n l)) ∙ as-size; packed = c .packed }
 
 -- the own need below the size
 pub need-below : (t : List ℕ) (f s n z left : ℕ) → z ≡ sizeByReading (treeOf (unpack t .sets)) (unpack t .files f) s → n < z → left ≡ count (unpack t .blocks) (λ b. not (unpack t .bits b))

@@ -15,6 +15,7 @@ ghost use Rattle.tables.specs.Views.{PackedTables, pendingOf};
 ghost use Rattle.copying.specs.Work.{Ready, Step};
 ghost use Rattle.entering.specs.Pending.{PendingIn, StepAt, entersAs};
 ghost use Rattle.changing.specs.Whole.{Changed, ChangedAlone, startCounts};
+use changing::Totals;
 use changing::dropping;
 use copying::giving;
 use copying::giving::Counts;
@@ -49,7 +50,7 @@ fn cut_away(
     d: usize,
     n: usize,
     k: Counts,
-) -> Counts
+) -> Totals
     requires { ⌜ Ready (now t) (now p) f k × (s < 8) × (unpack (now t) .sets s .used ≡ true) × (first + m ≤ 64) × (at + d ≤ 64) × (n < 65536) ⌝ }
     ensures { λ r. ⌜ Changed (now (t .entry)) (now (p .entry)) (now (t .exit)) (now (p .exit)) f k r (Rules.change real (treeOf (unpack (now (t .entry)) .sets)) s (Rules.from first m) [] (Rules.from at d) (λ q. zeroFrom (n % 512)) (λ i. n)) ⌝ }
 {
@@ -58,7 +59,11 @@ fn cut_away(
     let b = giving::give_all(t, p, f, s, first, m, k);
     dropping::drop_pages(t, f, s, at, d);
     dropping::resize(t, f, s, n);
-    b
+    Totals {
+        taken: b.taken,
+        copies: b.copies,
+        marks: b.marks,
+    }
 }
 
 // A page, which resolved to e, gets block b and its bytes, zeroed from byte n on.
@@ -117,7 +122,7 @@ fn cut_kept(
     m: usize,
     n: usize,
     k: Counts,
-) -> Counts
+) -> Totals
     requires { ⌜ Ready (now t) (now p) f k × (s < 8) × (unpack (now t) .sets s .used ≡ true) × (0 < m) × (first + m ≤ 64) × (n < 65536) × (Rules.ownNeed real s (Rules.from first 1) (unpack (now t) .files f) ≤ k .left) ⌝ }
     ensures { λ r. ⌜ Changed (now (t .entry)) (now (p .entry)) (now (t .exit)) (now (p .exit)) f k r (Rules.change real (treeOf (unpack (now (t .entry)) .sets)) s (Rules.from first m) (Rules.from first 1) (Rules.from (first + 1) (m - 1)) (λ q. zeroFrom (n % 512)) (λ i. n)) ⌝ }
 {
@@ -129,11 +134,15 @@ fn cut_kept(
     enter_cut(t, p, &pending, f, s, Page::new(first), n % 512, b);
     dropping::drop_pages(t, f, s, first + 1, m - 1);
     dropping::resize(t, f, s, n);
-    b
+    Totals {
+        taken: b.taken,
+        copies: b.copies,
+        marks: b.marks,
+    }
 }
 
 // Below it: the size becomes n, which was z.
-fn cut(t: &mut [u8], p: &mut [u8], f: usize, s: usize, n: usize, z: usize, k: Counts) -> Counts
+fn cut(t: &mut [u8], p: &mut [u8], f: usize, s: usize, n: usize, z: usize, k: Counts) -> Totals
     requires { ⌜ Ready (now t) (now p) f k × (s < 8) × (unpack (now t) .sets s .used ≡ true) × (n < z) × (z ≤ 32768) × (Rules.ownNeed real s (Rules.keptPages n (resolve (treeOf (unpack (now t) .sets)) (unpack (now t) .files f) s (n / 512))) (unpack (now t) .files f) ≤ k .left) ⌝ }
     ensures { λ r. ⌜ Changed (now (t .entry)) (now (p .entry)) (now (t .exit)) (now (p .exit)) f k r (Rules.change real (treeOf (unpack (now (t .entry)) .sets)) s (Rules.cutPages n z) (Rules.keptPages n (resolve (treeOf (unpack (now (t .entry)) .sets)) (unpack (now (t .entry)) .files f) s (n / 512))) (Rules.droppedPages n z) (λ q. zeroFrom (n % 512)) (λ i. n)) ⌝ }
 {
@@ -151,10 +160,23 @@ fn cut(t: &mut [u8], p: &mut [u8], f: usize, s: usize, n: usize, z: usize, k: Co
 }
 
 // TRUNCATE file f of set s to n bytes. "At t equal to the size, nothing changes."
-pub fn truncate_file(t: &mut [u8], p: &mut [u8], f: usize, s: usize, n: usize) -> Counts
+pub fn truncate_file(t: &mut [u8], p: &mut [u8], f: usize, s: usize, n: usize) -> Totals
     requires { ⌜ (wellFormed (now t) (length (now p)) ≡ true) × (f < 16) × (s < 8) × (unpack (now t) .sets s .used ≡ true) × (n ≤ 32768) × (Rules.truncateNeed real (treeOf (unpack (now t) .sets)) s n (unpack (now t) .files f) ≤ count (unpack (now t) .blocks) (λ b. not (unpack (now t) .bits b))) ⌝ }
     ensures { λ r. ⌜ Changed (now (t .entry)) (now (p .entry)) (now (t .exit)) (now (p .exit)) f startCounts r (Rules.truncateFile real (treeOf (unpack (now (t .entry)) .sets)) s n) ⌝ }
 {
+    let none = Totals {
+        taken: 0,
+        copies: 0,
+        marks: 0,
+    };
+    let z = reading::size_of(&*t, f, s);
+    if n == z {
+        return none;
+    }
+    if z < n {
+        grow(t, f, s, n);
+        return none;
+    }
     let left = header::free_blocks(&*t);
     let k = Counts {
         taken: 0,
@@ -162,13 +184,5 @@ pub fn truncate_file(t: &mut [u8], p: &mut [u8], f: usize, s: usize, n: usize) -
         marks: 0,
         left: left,
     };
-    let z = reading::size_of(&*t, f, s);
-    if n == z {
-        return k;
-    }
-    if z < n {
-        grow(t, f, s, n);
-        return k;
-    }
     cut(t, p, f, s, n, z, k)
 }

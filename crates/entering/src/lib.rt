@@ -94,7 +94,7 @@ fn enter_block(
 }
 
 // A page of set s, if a block is pending for it.
-pub fn enter(
+fn enter(
     t: &mut [u8],
     p: &mut [u8],
     pending: &[u16; 64],

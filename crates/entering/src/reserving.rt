@@ -32,7 +32,7 @@ fn take_own(t: &mut [u8], pending: &mut [u16; 64], page: Page, k: Counts) -> Cou
 }
 
 // A page of set s: the block of its entry, or one taken, is pending.
-pub fn reserve(
+fn reserve(
     t: &mut [u8],
     pending: &mut [u16; 64],
     f: usize,

@@ -8,7 +8,7 @@ use lib.ListN.{length}
 use Rattle.base.specs.Count.{count}
 use Rattle.changing.proofs.Whole.{Did, begun, both-did, did-step, did-then, settleBoth}
 use Rattle.changing.specs.Tables.{OnTables}
-use Rattle.changing.specs.Whole.{Changed, startCounts}
+use Rattle.changing.specs.Whole.{Changed, startCounts, totalsOf}
 use Rattle.copying.specs.Changes.{settled}
 use Rattle.copying.specs.Work.{Alone, Ready, Rest, Step, settleChildren, work}
 use Rattle.entering.specs.Pending.{Reserves, StepAt}
@@ -19,6 +19,7 @@ use Rattle.tables.proofs.Pending.{none-pending}
 use Rattle.tables.specs.Calls.{pagesOf}
 use Rattle.tables.specs.Packed.{unpack}
 use Rattle.tables.specs.Views.{Turns, nonePending, pendingOf}
+use Rattle.changing.specs.declared.Totals.{Totals}
 use Rattle.copying.specs.declared.giving.Counts.{Counts}
 
 -- ---- the whole write
@@ -44,7 +45,7 @@ module _ {t p t₁ t₂ t₃ l₀ l t₄ p₄ t₅ p₅ t₆ : List ℕ} {f : �
   is-change S w = refl
 
   -- LAW
-  pub written : Changed t p t₆ p₅ f k k₂ (change real (treeOf (unpack t .sets)) s (from q n) (from q n) [] lay (λ m. max m end))
+  pub written : Changed t p t₆ p₅ f k (totalsOf k₂) (change real (treeOf (unpack t .sets)) s (from q n) (from q n) [] lay (λ m. max m end))
   written =
       let S = unpack t .sets in
       let ss : unpack t₅ .sets ≡ S = ap (λ (r : Rest). r .sets) (five .same) in
@@ -81,9 +82,9 @@ unfolding writeFile
 is-write tree s off first m bs e w = ap (λ (ps : List ℕ). change real tree s ps ps [] (overlay off bs) (λ i. max i (off + length bs)) w) (sym e)
 
 -- LAW: the whole write by its rule
-pub wrote : {t p t′ p′ : List ℕ} {f : ℕ} {k′ : Counts} (s off first m left : ℕ) (bs : List ℕ) → touched off (length bs) ≡ from first m
-    → Changed t p t′ p′ f (begun left) k′ (change real (treeOf (unpack t .sets)) s (from first m) (from first m) [] (overlay off bs) (λ i. max i (off + length bs)))
-    → Changed t p t′ p′ f startCounts k′ (writeFile real (treeOf (unpack t .sets)) s off bs)
+pub wrote : {t p t′ p′ : List ℕ} {f : ℕ} {r : Totals} (s off first m left : ℕ) (bs : List ℕ) → touched off (length bs) ≡ from first m
+    → Changed t p t′ p′ f (begun left) r (change real (treeOf (unpack t .sets)) s (from first m) (from first m) [] (overlay off bs) (λ i. max i (off + length bs)))
+    → Changed t p t′ p′ f startCounts r (writeFile real (treeOf (unpack t .sets)) s off bs)
 wrote {t} {p} {t′} {p′} {f} s off first m left bs e c = record {
   pending = c .pending;
   same = c .same;

@@ -11,6 +11,7 @@ ghost use Rattle.rules.specs.Storage.{overlay, real};
 ghost use Rattle.tables.specs.Packed.{unpack, wellFormed};
 ghost use Rattle.copying.specs.Work.{Ready};
 ghost use Rattle.changing.specs.Whole.{Changed, startCounts};
+use changing::Totals;
 use changing::dropping;
 use copying::giving;
 use copying::giving::Counts;
@@ -31,7 +32,7 @@ fn write_pages(
     off: usize,
     data: &[u8],
     k: Counts,
-) -> Counts
+) -> Totals
     requires { ⌜ Ready (now t) (now p) f k × (s < 8) × (unpack (now t) .sets s .used ≡ true) × (first + m ≤ 64) × (off + length (now «data») ≤ 32768) × (Rules.ownNeed real s (Rules.from first m) (unpack (now t) .files f) ≤ k .left) ⌝ }
     ensures { λ r. ⌜ Changed (now (t .entry)) (now (p .entry)) (now (t .exit)) (now (p .exit)) f k r (Rules.change real (treeOf (unpack (now (t .entry)) .sets)) s (Rules.from first m) (Rules.from first m) [] (overlay off (now («data» .entry))) (λ n. max n (off + length (now («data» .entry))))) ⌝ }
 {
@@ -44,11 +45,15 @@ fn write_pages(
     let z = files::size_at(&*t, f, s);
     let n = pages::larger(z, off + data.len());
     dropping::resize(t, f, s, n);
-    b
+    Totals {
+        taken: b.taken,
+        copies: b.copies,
+        marks: b.marks,
+    }
 }
 
 // WRITE: the bytes of data, one or more, from byte `off` of file f of set s on.
-pub fn write_file(t: &mut [u8], p: &mut [u8], f: usize, s: usize, off: usize, data: &[u8]) -> Counts
+pub fn write_file(t: &mut [u8], p: &mut [u8], f: usize, s: usize, off: usize, data: &[u8]) -> Totals
     requires { ⌜ (wellFormed (now t) (length (now p)) ≡ true) × (f < 16) × (s < 8) × (unpack (now t) .sets s .used ≡ true) × (0 < length (now «data»)) × (off + length (now «data») ≤ 32768) × (Rules.ownNeed real s (Rules.touched off (length (now «data»))) (unpack (now t) .files f) ≤ count (unpack (now t) .blocks) (λ b. not (unpack (now t) .bits b))) ⌝ }
     ensures { λ r. ⌜ Changed (now (t .entry)) (now (p .entry)) (now (t .exit)) (now (p .exit)) f startCounts r (Rules.writeFile real (treeOf (unpack (now (t .entry)) .sets)) s off (now («data» .entry))) ⌝ }
 {
