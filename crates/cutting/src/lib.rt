@@ -2,18 +2,16 @@
 ghost use mathlib.Core.Bool.{not, true};
 ghost use mathlib.Core.List.{[]};
 ghost use mathlib.Core.Path.{_≡_};
-ghost use Prim.Native.Nat.{ℕ, _%_, _+_, _-_, _/_, _<_, _≤_};
+ghost use Prim.Native.Nat.{_%_, _+_, _-_, _/_, _<_, _≤_};
 ghost use lib.ListN.{length};
 ghost use Rattle.base.specs.Count.{count};
 ghost use Rattle.rules.specs.Reading.{resolve};
 ghost use Rattle.rules.specs.Rules as Rules;
-ghost use Rattle.rules.specs.State.{stored, treeOf};
+ghost use Rattle.rules.specs.State.{treeOf};
 ghost use Rattle.rules.specs.Storage.{real, zeroFrom};
-ghost use Rattle.tables.specs.Meaning.{entryMeant};
 ghost use Rattle.tables.specs.Packed.{unpack, wellFormed};
-ghost use Rattle.tables.specs.Views.{PackedTables, pendingOf};
-ghost use Rattle.copying.specs.Work.{Ready, Step};
-ghost use Rattle.entering.specs.Pending.{PendingIn, StepAt, entersAs};
+ghost use Rattle.tables.specs.Views.{PackedTables};
+ghost use Rattle.copying.specs.Work.{Ready};
 ghost use Rattle.changing.specs.Whole.{Changed, ChangedAlone, startCounts};
 use changing::Totals;
 use changing::dropping;
@@ -21,10 +19,9 @@ use copying::giving;
 use copying::giving::Counts;
 use copying::settling;
 use entering::reserving;
+use entering::zeroing;
 use maps::reading;
 use tables::entries;
-use tables::entries::Block;
-use tables::entries::Entry;
 use tables::entries::Page;
 use tables::header;
 
@@ -66,52 +63,6 @@ fn cut_away(
     }
 }
 
-// A page, which resolved to e, gets block b and its bytes, zeroed from byte n on.
-fn cut_block(
-    t: &mut [u8],
-    p: &mut [u8],
-    f: usize,
-    s: usize,
-    page: Page,
-    e: Entry,
-    b: Block,
-    n: usize,
-    k: Counts,
-)
-    requires { ⌜ Ready (now t) (now p) f k × (s < 8) × (page .0 < 64) × (b .0 < unpack (now t) .blocks) × ((a : ℕ) → entryMeant e ≡ stored a → a < unpack (now t) .blocks) × (n ≤ 512) ⌝ }
-    ensures { λ _. ⌜ Step (now (t .entry)) (now (p .entry)) (now (t .exit)) (now (p .exit)) f k k (entersAs (treeOf (unpack (now (t .entry)) .sets)) (entryMeant e) (b .0) s (page .0) (zeroFrom n)) ⌝ }
-{
-    entering::prepare(p, e, b);
-    pages::zero_tail(p, b, n);
-    entries::put_entry(t, f, s, page, Entry::Stored(b));
-}
-
-// A page of set s, if a block is pending for it: it "is zeroed from t on".
-fn enter_cut(
-    t: &mut [u8],
-    p: &mut [u8],
-    pending: &[u16; 64],
-    f: usize,
-    s: usize,
-    page: Page,
-    n: usize,
-    k: Counts,
-)
-    requires { ⌜ Ready (now t) (now p) f k × PendingIn (now pending) (unpack (now t) .blocks) × (s < 8) × (page .0 < 64) × (n ≤ 512) ⌝ }
-    ensures { λ _. ⌜ StepAt (pendingOf (now (pending .entry))) (now (t .entry)) (now (p .entry)) (now (t .exit)) (now (p .exit)) f k (Rules.enter real (treeOf (unpack (now (t .entry)) .sets)) s (λ q. zeroFrom n) (page .0)) ⌝ }
-{
-    let e = entries::held(pending, page);
-    match e {
-        Entry::Unmapped => {}
-        Entry::Hole => {}
-        Entry::Stored(b) => {
-            let r = reading::resolve_in(&*t, f, page, s);
-            let old = r.entry;
-            cut_block(t, p, f, s, page, old, b, n, k);
-        }
-    }
-}
-
 // Below it, where the page of the new size stays stored.
 fn cut_kept(
     t: &mut [u8],
@@ -131,7 +82,7 @@ fn cut_kept(
     settling::settle_children(t, f, s);
     let a = reserving::reserve_all(t, &mut pending, f, s, first, 1, k);
     let b = giving::give_all(t, p, f, s, first, m, a);
-    enter_cut(t, p, &pending, f, s, Page::new(first), n % 512, b);
+    zeroing::enter_cut(t, p, &pending, f, s, Page::new(first), n % 512, b);
     dropping::drop_pages(t, f, s, first + 1, m - 1);
     dropping::resize(t, f, s, n);
     Totals {

@@ -1,5 +1,5 @@
 // Steps 3 and 5 for the pages that get a block: own blocks are taken and pending (`reserving`); then "Old bytes are carried to own
-// pages, new bytes laid over", and the block enters the map.
+// pages, new bytes laid over", and the block enters the map; or a page "is zeroed from t on" (`zeroing`).
 // Each function is its rule (rules/specs/Rules.antt), on what the tables and the pages hold.
 ghost use mathlib.Core.Bool.{_&&_};
 ghost use mathlib.Core.Path.{_≡_};
@@ -25,6 +25,7 @@ use tables::entries::Entry;
 use tables::entries::Page;
 
 pub mod reserving;
+pub mod zeroing;
 
 // The bytes of a page that resolved to e, in block b.
 pub fn prepare(p: &mut [u8], e: Entry, b: Block)

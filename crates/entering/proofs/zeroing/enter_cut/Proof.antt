@@ -1,13 +1,13 @@
--- `cutting::enter_cut` meets its contract. Assumes nothing.
+-- `entering::zeroing::enter_cut` meets its contract. Assumes nothing.
 use mathlib.Core.Path.{ap, sym, _∙_}
 use borrow.Author.Needs.{needs}
 use Rattle.rules.specs.State.{isStored}
 use Rattle.rules.specs.Storage.{zeroFrom}
 use Rattle.tables.specs.Meaning.{entryMeant}
 use Rattle.copying.proofs.Given.{resolve-below}
 use Rattle.entering.proofs.Pending.{enter-none, enter-some}
-use Rattle.cutting.proofs.enter_cut.Statement.{statement}
-use Rattle.cutting.proofs.enter_cut.Tie as tie
+use Rattle.entering.proofs.zeroing.enter_cut.Statement.{statement}
+use Rattle.entering.proofs.zeroing.enter_cut.Tie as tie
 
 cut-block-requires : tie.Need-cut-block-requires
 unfolding entryMeant

@@ -1,4 +1,4 @@
--- `cutting::cut_block` meets its contract. Assumes nothing.
+-- `entering::zeroing::cut_block` meets its contract. Assumes nothing.
 use mathlib.Core.Path.{_∙_}
 use native.Mathlib.Omega.{arith}
 use borrow.Author.Needs.{needs}
@@ -7,10 +7,10 @@ use Rattle.rules.specs.Storage.{zeroFrom}
 use Rattle.tables.specs.Meaning.{entryMeant}
 use Rattle.tables.specs.Packed.{unpack}
 use Rattle.tables.specs.Calls.{pagesOf}
 use Rattle.entering.specs.Pending.{bytesOf}
 use Rattle.entering.proofs.Pending.{enters, laid}
-use Rattle.cutting.proofs.cut_block.Statement.{statement}
-use Rattle.cutting.proofs.cut_block.Tie as tie
+use Rattle.entering.proofs.zeroing.cut_block.Statement.{statement}
+use Rattle.entering.proofs.zeroing.cut_block.Tie as tie
 
 prepare-requires : tie.Need-prepare-requires
 prepare-requires c κs =
