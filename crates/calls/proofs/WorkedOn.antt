@@ -11,7 +11,7 @@ use Rattle.calls.proofs.CallCases.{call-accepted, numberIn, onStore}
 use Rattle.pages.proofs.Whole.{pages-packed}
 use Rattle.calls.proofs.ChangedRecords.{done-as, finished}
 use Rattle.calls.specs.Outcomes.{answerMeant, outcome}
-use Rattle.changing.specs.Whole.{Changed}
+use Rattle.changing.specs.Whole.{Changed, countsOf, startCounts}
 use Rattle.copying.specs.Work.{Rest, rest, work}
 use Rattle.packing.specs.Bitmap.{number}
 use Rattle.packing.specs.Words.{Bytes}
@@ -27,8 +27,7 @@ use Rattle.tables.proofs.PackUnpack.{pack-unpack}
 use Rattle.tables.specs.Calls.{acceptedOn, callOn, lookedAt, pagesOf, repacked, storeOf}
 use Rattle.tables.specs.Packed.{pack, unpack, wellFormed}
 use Rattle.calls.specs.declared.answer.Answer as declared
-use Rattle.changing.specs.Whole.{startCounts}
-use Rattle.copying.specs.declared.giving.Counts.{Counts}
+use Rattle.changing.specs.declared.Totals.{Totals}
 
 -- the files of the other numbers stay
 rejoined : (tb tb′ : Tables) (f : ℕ) → rest tb′ f ≡ rest tb f → upd (tb .files) f (tb′ .files f) ≡ tb′ .files
@@ -38,12 +37,12 @@ rejoined tb tb′ f e =
     ∙ upd-upd (tb′ .files) f (λ s. absentFile) (tb′ .files f)
     ∙ upd-self (tb′ .files) f
 
--- the answer that counts mean
-abbrev pub counted : Counts → Answer
+-- the answer that the counts told mean
+abbrev pub counted : Totals → Answer
 counted k = record { number = 0; first = k .taken; second = k .copies; third = k .marks }
 
-module _ (t p t′ p′ : List ℕ) (f : ℕ) (k : Counts) (op : Work real → Work real) (ch : Changed t p t′ p′ f startCounts k op) where
-  left-tables : tablesOf (finish real (storeOf t p) f (work (unpack t′) (pagesOf p′) f (ch .pending) k)) ≡ unpack t′
+module _ (t p t′ p′ : List ℕ) (f : ℕ) (k : Totals) (op : Work real → Work real) (ch : Changed t p t′ p′ f startCounts k op) where
+  left-tables : tablesOf (finish real (storeOf t p) f (work (unpack t′) (pagesOf p′) f (ch .pending) (countsOf k))) ≡ unpack t′
   left-tables = λ i. record {
     blocks = unpack t′ .blocks;
     next = unpack t′ .next;
@@ -61,7 +60,7 @@ module _ (t p t′ p′ : List ℕ) (f : ℕ) (k : Counts) (op : Work real → W
       let g = pages-packed (unpack t′ .blocks) p′ (l ∙ fs .pages ∙ ap (λ n. n * 512) b) in
       ap (λ (x : Work real). repacked (worked real (storeOf t p) f x)) (sym (ch .does)) ∙ (λ i. lookedAt (counted k) (w i) (g i) [])
 
-module _ (r : declared.Answer) (t p t′ p′ : List ℕ) (f : ℕ) (k : Counts) (formed : wellFormed t (length p) ≡ true) (a : answerMeant r ≡ counted k) (bs : Bytes t′) (l : length p′ ≡ length p) where
+module _ (r : declared.Answer) (t p t′ p′ : List ℕ) (f : ℕ) (k : Totals) (formed : wellFormed t (length p) ≡ true) (a : answerMeant r ≡ counted k) (bs : Bytes t′) (l : length p′ ≡ length p) where
   worked-as : (c : Call) (op : Work real → Work real) → onStore c ≡ true → 0 ≡ numberIn t p c → Changed t p t′ p′ f startCounts k op
       → acceptedOn c t p ≡ repacked (worked real (storeOf t p) f (op (begin real (storeOf t p) f))) → outcome r t′ p′ [] ≡ callOn c t p
   worked-as c op o n ch e =

@@ -7,12 +7,12 @@ ghost use Rattle.calls.specs.Outcomes.{outcome};
 use crate::answer::Answer;
 use crate::answer::counts_0;
 use changing::deleting::delete_file;
-use changing::truncating::truncate_file;
-use changing::writing::write_file;
+use cutting::truncate_file;
 use formed::well_formed;
 use numbers::of_delete;
 use numbers::of_truncate;
 use numbers::of_write;
+use writing::write_file;
 
 // "Delete … leaves it absent."
 pub fn delete(t: &mut [u8], p: &mut [u8], set: u32, file: u32) -> Answer

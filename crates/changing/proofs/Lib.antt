@@ -1,4 +1,2 @@
 pub mod OnTables
-pub mod Pending
 pub mod Whole
-pub mod Cutting

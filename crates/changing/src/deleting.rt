@@ -11,6 +11,7 @@ ghost use Rattle.tables.specs.Views.{PackedTables};
 ghost use Rattle.copying.specs.Work.{Ready};
 ghost use Rattle.changing.specs.Tables.{AnyBlockIn, OnTables};
 ghost use Rattle.changing.specs.Whole.{Changed, startCounts};
+use crate::Totals;
 use copying::giving;
 use copying::giving::Counts;
 use copying::settling;
@@ -28,21 +29,33 @@ fn erase_file(t: &mut [u8], f: usize, s: usize)
 }
 
 // "Delete does step 2 for the children and step 4 for all 64 pages, frees the file's blocks, leaves it absent."
-fn delete_live(t: &mut [u8], p: &mut [u8], f: usize, s: usize, k: Counts) -> Counts
+fn delete_live(t: &mut [u8], p: &mut [u8], f: usize, s: usize, k: Counts) -> Totals
     requires { ⌜ Ready (now t) (now p) f k × (s < 8) × (unpack (now t) .sets s .used ≡ true) ⌝ }
     ensures { λ r. ⌜ Changed (now (t .entry)) (now (p .entry)) (now (t .exit)) (now (p .exit)) f k r (Rules.deleteAs real (treeOf (unpack (now (t .entry)) .sets)) true s) ⌝ }
 {
     settling::settle_children(t, f, s);
     let a = giving::give_all(t, p, f, s, 0, 64, k);
     erase_file(t, f, s);
-    a
+    Totals {
+        taken: a.taken,
+        copies: a.copies,
+        marks: a.marks,
+    }
 }
 
 // DELETE: file f of set s. "A marked file is only freed and made absent."
-pub fn delete_file(t: &mut [u8], p: &mut [u8], f: usize, s: usize) -> Counts
+pub fn delete_file(t: &mut [u8], p: &mut [u8], f: usize, s: usize) -> Totals
     requires { ⌜ (wellFormed (now t) (length (now p)) ≡ true) × (f < 16) × (s < 8) × (unpack (now t) .sets s .used ≡ true) ⌝ }
     ensures { λ r. ⌜ Changed (now (t .entry)) (now (p .entry)) (now (t .exit)) (now (p .exit)) f startCounts r (Rules.deleteFile real (treeOf (unpack (now (t .entry)) .sets)) s) ⌝ }
 {
+    if !files::is_live(files::state_at(&*t, f, s)) {
+        erase_file(t, f, s);
+        return Totals {
+            taken: 0,
+            copies: 0,
+            marks: 0,
+        };
+    }
     let left = header::free_blocks(&*t);
     let k = Counts {
         taken: 0,
@@ -50,9 +63,5 @@ pub fn delete_file(t: &mut [u8], p: &mut [u8], f: usize, s: usize) -> Counts
         marks: 0,
         left: left,
     };
-    if !files::is_live(files::state_at(&*t, f, s)) {
-        erase_file(t, f, s);
-        return k;
-    }
     delete_live(t, p, f, s, k)
 }

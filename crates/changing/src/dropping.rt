@@ -22,7 +22,7 @@ pub fn resize(t: &mut [u8], f: usize, s: usize, n: usize)
 }
 
 // A page of set s: "become holes in this map, their blocks free".
-pub fn drop_page(t: &mut [u8], f: usize, s: usize, page: Page)
+fn drop_page(t: &mut [u8], f: usize, s: usize, page: Page)
     requires { ⌜ PackedTables (now t) × AnyBlockIn f (unpack (now t)) × (f < 16) × (s < 8) × (page .0 < 64) ⌝ }
     ensures { λ _. ⌜ OnTables (now (t .entry)) (now (t .exit)) f (Rules.dropPage real (treeOf (unpack (now (t .entry)) .sets)) s (page .0)) × AnyBlockIn f (unpack (now (t .exit))) ⌝ }
 {
