@@ -1,14 +1,14 @@
 -- THE SESSION ON BYTES is the session on a store: each call on the image of a store in order is the call on the store. Assumes nothing.
 use mathlib.Core.Bool.{cond, true}
 use mathlib.Core.List.{_++_, List, _∷_, []}
-use mathlib.Core.Path.{ap, ap₂, refl, sym, _∙_, _≡_}
+use mathlib.Core.Path.{ap, ap₂, refl, _∙_, _≡_}
 use Prim.Native.Nat.{_/_, suc, zero, ℕ}
 use native.Mathlib.Omega.{arith}
 use lib.ListN.{drop, length, take}
 use Rattle.decoding.specs.Decoding.{Request, ask, bad, request}
 use Rattle.history.proofs.CallImage.{after-image, gave-image}
 use Rattle.history.proofs.Demand3.{format-image}
-use Rattle.history.proofs.Image.{image-store, imageOf}
+use Rattle.history.proofs.Image.{image-formed, image-store, imageOf}
 use Rattle.history.specs.Image.{Image, after}
 use Rattle.listing.specs.Listing.{callLine}
 use Rattle.rules.proofs.Whole.Order.{InOrder, order-format, order-step}
@@ -48,7 +48,7 @@ module _ (r : Store real) (o : InOrder 64 r) where
   turn-order (b ∷ bs) n = as-order (request (b ∷ bs)) n
 
   listed-same : listedOn (imageOf r) ≡ listedIn r
-  listed-same = ap listedIn (image-store 64 (omega arith) r o)
+  listed-same = rw (image-formed 64 (omega arith) r o) (ap listedIn (image-store 64 (omega arith) r o))
 
 from-same : (k n : ℕ) (input : List ℕ) (r : Store real) → InOrder 64 r → outputFrom answerOn after listedOn k n input (imageOf r) ≡ outputFrom answerIn leftIn listedIn k n input r
 unfolding outputFrom

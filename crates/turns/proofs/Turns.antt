@@ -10,16 +10,16 @@ use Rattle.history.specs.Image.{Image, after}
 use Rattle.listing.proofs.Writing.{wrote-front, wrote-none, wrote-size}
 use Rattle.listing.specs.Listing.{callLine, endLine}
 use Rattle.listing.specs.Written.{Wrote}
-use Rattle.rules.specs.Numbers.{Answer, Call}
+use Rattle.rules.specs.Numbers.{Call}
 use Rattle.tables.specs.Calls.{Outcome, callOn}
-use Rattle.turns.specs.Outcomes.{TurnOutcome, lineOn, turnInto}
-use Rattle.turns.specs.Session.{Turn, answerOn, turn, turnAs}
+use Rattle.turns.specs.Outcomes.{lineOn, turnInto}
+use Rattle.turns.specs.Session.{Turn, answerOn, turn, turnAs, turnOn}
 
 -- with bytes, a turn goes by what they ask for
-pub turn-some : {A : Type 0} (answer : Call → A → Answer) (left : Call → A → A) (bytes : List ℕ) (n : ℕ) (st : A) → (length bytes ≡ 0 → ⊥) → turn answer left bytes n st ≡ turnAs answer left (request bytes) n st
+turn-some : (bytes : List ℕ) (n : ℕ) (m : Image) → (length bytes ≡ 0 → ⊥) → turnOn bytes n m ≡ turnAs answerOn after (request bytes) n m
 unfolding turn
-turn-some answer left [] n st h = absurd (h refl)
-turn-some answer left (b ∷ bs) n st h = refl
+turn-some [] n m h = absurd (h refl)
+turn-some (b ∷ bs) n m h = refl
 
 -- without bytes nothing is written
 pub no-bytes : (bytes : List ℕ) (n : ℕ) (t p out : List ℕ) → length bytes ≡ 0 →
@@ -34,7 +34,7 @@ module _ (bytes : List ℕ) (n : ℕ) (t p out : List ℕ) where
 
   module _ (some : length bytes ≡ 0 → ⊥) (e : List ℕ) (r : ℕ) where
     by-request : (q : Request) → q ≡ request bytes → turnInto (turnAs answerOn after q n m) out ≡ lineOn bytes n t p out
-    by-request q h = ap (λ (x : Request). turnInto (turnAs answerOn after x n m) out) h ∙ sym (ap (λ (x : Turn Image). turnInto x out) (turn-some answerOn after bytes n m some))
+    by-request q h = ap (λ (x : Request). turnInto (turnAs answerOn after x n m) out) h ∙ sym (ap (λ (x : Turn Image). turnInto x out) (turn-some bytes n m some))
 
     -- a bad call: its line is `end`, and tables and pages stay
     pub bad-call : bad ≡ request bytes → Wrote out e 0 r (endLine n) → record { size = r; goesOn = false; store = m; buffer = e } ≡ lineOn bytes n t p out

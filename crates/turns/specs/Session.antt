@@ -13,7 +13,7 @@ use Rattle.rules.specs.Numbers.{Answer, Call, format}
 use Rattle.rules.specs.State.{pageBytes}
 use Rattle.rules.specs.Storage.{Memory, real}
 use Rattle.tables.specs.Layout.{tableBytes}
-use Rattle.tables.specs.Packed.{unpack}
+use Rattle.tables.specs.Packed.{unpack, wellFormed}
 
 -- what one turn leaves: the line to print, whether reading goes on, and the store
 pub record Turn (A : Type 0) : Type 0 where
@@ -47,9 +47,9 @@ answerOn c m = gave c m .answer
 abbrev pub turnOn : List ℕ → ℕ → Image → Turn Image
 turnOn bytes n m = turn answerOn after bytes n m
 
--- the listing of tables
+-- what the code lists (listing/specs/Listing: `listOn`): nothing, where the tables are not well formed
 abbrev pub listedOn : Image → List ℕ
-listedOn m = listing (unpack (m .tables))
+listedOn m = cond (wellFormed (m .tables) (length (m .pages))) (listing (unpack (m .tables))) []
 
 -- all that is printed for an input: turns from a format on, then the listing
 unfoldable pub printed : Image → List ℕ → List ℕ

@@ -38,7 +38,7 @@ pub fn take_turn(t: &mut [u8], p: &mut [u8], bytes: &[u8], count: usize, out: &m
         Decoded::Call(c) => {
             let op = op_of(c);
             let a = perform(t, p, c);
-            let line = put_call(out, count, op, a);
+            let line = put_call(out, count, op, a.number, a.first, a.second, a.third);
             Told {
                 size: line,
                 goes_on: true,
