@@ -23,7 +23,7 @@ use Rattle.tables.specs.Calls.{acceptedOn, callOn, formatLengths, outcomeOf}
 use Rattle.tables.specs.Packed.{wellFormed}
 
 -- the format of any tables and pages of lengths that it accepts
-format-image : (m : Image) → formatLengths (length (m .tables)) (length (m .pages)) ≡ true → after format m ≡ imageOf (formatted real (blankMemory (length (m .pages) / 512)))
+pub format-image : (m : Image) → formatLengths (length (m .tables)) (length (m .pages)) ≡ true → after format m ≡ imageOf (formatted real (blankMemory (length (m .pages) / 512)))
 unfolding callOn numberOf conditions lowest
 format-image m h = rw h (unfold outcomeOf acceptedOn accepted in refl)
 

@@ -1,10 +1,8 @@
 pub mod Writing
 pub mod Decimals
-pub mod Requests
 pub mod Runs
 pub mod LineTexts
 pub mod Visits
 pub mod Order
 pub mod Whole
 pub mod Outcomes
-pub mod WorkedExample

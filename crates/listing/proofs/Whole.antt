@@ -1,11 +1,10 @@
--- A listing visits every set of a well-formed store; a text written from a buffer's front on. Assumes nothing.
+-- A listing visits every set of a well-formed store. Assumes nothing.
 use mathlib.Core.Bool.{true}
 use mathlib.Core.List.{_++_, List, List·Memᴰ, List·Memᴰ·head, List·Memᴰ·tail, append-nil, _∷_, []}
-use mathlib.Core.Path.{_≡_, ap, refl, subst, sym, _∙_}
+use mathlib.Core.Path.{ap, refl, subst, sym, _∙_, _≡_}
 use Prim.Native.Nat.{_*_, _+_, _-_, suc, zero, ℕ, _≤_}
 use native.Mathlib.Omega.{arith}
-use lib.ListN.{drop, length, length-append, set, take}
-use lib.Seq.{drop-nil, sets}
+use lib.ListN.{length, length-append}
 use Rattle.base.specs.Logic.{same?}
 use Rattle.listing.proofs.Order.{order, order-most, order-some}
 use Rattle.listing.proofs.Visits.{chain-step, no-set, none-left, set-step}
@@ -81,17 +80,3 @@ module _ (tb : Tables) (ok : SetsOk (tb .sets)) where
   listing-is =
       ap (λ (v : Visit). v .text)
       (set-is 5 16 8 0 (ok .root-used) (omega (arith, ok .root-level)) (order-most (tb .sets) ok 5 0 (omega arith)) (omega arith))
-
--- a text that is stored from the front on
-sets-tail : (x : ℕ) (d : List ℕ) (i : ℕ) (l : List ℕ) → sets (x ∷ d) (suc i) l ≡ x ∷ sets d i l
-sets-tail x d i [] = refl
-sets-tail x d i (a ∷ l) = sets-tail x (set d i a) (suc i) l
-
-sets-nil : (i : ℕ) (l : List ℕ) → _≡_ {A = List ℕ} (sets [] i l) []
-sets-nil i [] = refl
-sets-nil i (a ∷ l) = sets-nil (suc i) l
-
-pub sets-front : (d l : List ℕ) → sets d 0 l ≡ take (length d) l ++ drop (length l) d
-sets-front [] l = sets-nil 0 l ∙ sym (drop-nil (length l))
-sets-front (x ∷ d) [] = refl
-sets-front (x ∷ d) (a ∷ l) = sets-tail a d 0 l ∙ ap (λ (y : List ℕ). a ∷ y) (sets-front d l)

@@ -5,7 +5,8 @@ use Prim.Native.Nat.{_+_, suc, ℕ, _≤_}
 use native.Mathlib.Nat.{add-zero}
 use native.Mathlib.Omega.{arith}
 use lib.ListN.{length, length-append, set}
-use lib.Seq.{length-sets, set-out, sets}
+use lib.Seq.{drop-nil, length-sets, set-out, sets}
+use Rattle.listing.specs.Text.{intoBuffer}
 use Rattle.listing.specs.Written.{Wrote}
 
 -- a run of stores, then another where it ends
@@ -37,3 +38,25 @@ wrote-as {d} {e} {cur} {r} q w = subst (λ (l : List ℕ). Wrote d e cur r l) q 
 -- the buffer keeps its length
 pub wrote-length : {d e : List ℕ} {cur r : ℕ} {a : List ℕ} → Wrote d e cur r a → length e ≡ length d
 wrote-length {d} {e} {cur} {r} {a} w = ap length (w .bytes) ∙ length-sets d cur a
+
+-- a text that is stored from the front on
+sets-tail : (x : ℕ) (d : List ℕ) (i : ℕ) (l : List ℕ) → sets (x ∷ d) (suc i) l ≡ x ∷ sets d i l
+sets-tail x d i [] = refl
+sets-tail x d i (a ∷ l) = sets-tail x (set d i a) (suc i) l
+
+sets-nil : (i : ℕ) (l : List ℕ) → _≡_ {A = List ℕ} (sets [] i l) []
+sets-nil i [] = refl
+sets-nil i (a ∷ l) = sets-nil (suc i) l
+
+sets-front : (d l : List ℕ) → sets d 0 l ≡ intoBuffer l d
+unfolding intoBuffer
+sets-front [] l = sets-nil 0 l ∙ sym (drop-nil (length l))
+sets-front (x ∷ d) [] = refl
+sets-front (x ∷ d) (a ∷ l) = sets-tail a d 0 l ∙ ap (λ (y : List ℕ). a ∷ y) (sets-front d l)
+
+-- LAW: what was written from the front on, and how long it is
+pub wrote-front : {d e : List ℕ} {r : ℕ} {a : List ℕ} → Wrote d e 0 r a → e ≡ intoBuffer a d
+wrote-front {d} {e} {r} {a} w = w .bytes ∙ sets-front d a
+
+pub wrote-size : {d e : List ℕ} {r : ℕ} {a : List ℕ} → Wrote d e 0 r a → r ≡ length a
+wrote-size {d} {e} {r} {a} w = omega (arith, w .past)

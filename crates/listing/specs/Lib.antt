@@ -1,5 +1,3 @@
 pub mod Text
 pub mod Listing
 pub mod Written
-pub mod Decoding
-pub mod Session

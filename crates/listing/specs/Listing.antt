@@ -3,9 +3,9 @@ use mathlib.Core.Bool.{Bool, cond, false, not, true}
 use mathlib.Core.List.{_++_, List, _∷_, []}
 use Prim.Native.Nat.{suc, zero, ℕ}
 use lib.Dec.{eqb, leb}
-use lib.ListN.{drop, length, take}
+use lib.ListN.{length}
 use Rattle.base.specs.Logic.{digit}
-use Rattle.listing.specs.Text.{decimal, line, minusOne, nameCall, nameEnd, nameExt, nameFile, nameSet}
+use Rattle.listing.specs.Text.{decimal, intoBuffer, line, minusOne, nameCall, nameEnd, nameExt, nameFile, nameSet}
 use Rattle.rules.specs.Numbers.{Answer}
 use Rattle.rules.specs.Reading.{sizeByReading}
 use Rattle.rules.specs.State.{Entry, SetRecord, State, Tables, absent, childrenOf, fileCount, highestLevel, hole, marked, own, pageCount, stored, treeOf, unmapped, virgin}
@@ -101,18 +101,23 @@ module _ (tb : Tables) where
   unfoldable pub listing : List ℕ
   listing = listSet highestLevel 0
 
--- what became of a listing, and the lent buffer afterwards
+-- what is told of a listing, and the lent buffer afterwards: the number of document 01, whether the whole listing stands in the buffer, how many bytes it has
 pub record ListOutcome : Type 0 where
-  pub told : Listed
+  pub number : ℕ
+  pub whole : Bool
+  pub size : ℕ
   pub buffer : List ℕ
 
--- a text in a lent buffer, from its front on: the whole of it with its length, or as much as fits with the length that is wanted
+-- what the code's enum means: "1 | tables not well formed or of wrong length"; no number of document 01 stands for a buffer that is too small
+abbrev pub listOutcome : Listed → List ℕ → ListOutcome
+listOutcome NotWellFormed b = record { number = 1; whole = false; size = 0; buffer = b }
+listOutcome (TooSmall n) b = record { number = 0; whole = false; size = n; buffer = b }
+listOutcome (Written n) b = record { number = 0; whole = true; size = n; buffer = b }
+
+-- a text in a lent buffer, from its front on: the whole of it, or as much as fits, with its size
 unfoldable pub listInto : List ℕ → List ℕ → ListOutcome
-listInto text out = record {
-  told = cond (leb (length text) (length out)) (Written (length text)) (TooSmall (length text));
-  buffer = take (length out) text ++ drop (length text) out;
-}
+listInto text out = record { number = 0; whole = leb (length text) (length out); size = length text; buffer = intoBuffer text out }
 
 -- A LISTING ON BYTES, of any contents and lengths: tables t, pages of n bytes, a lent buffer
 unfoldable pub listOn : List ℕ → ℕ → List ℕ → ListOutcome
-listOn t n out = cond (wellFormed t n) (listInto (listing (unpack t)) out) (record { told = NotWellFormed; buffer = out })
+listOn t n out = cond (wellFormed t n) (listInto (listing (unpack t)) out) (record { number = 1; whole = false; size = 0; buffer = out })

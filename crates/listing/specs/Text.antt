@@ -3,6 +3,7 @@ use mathlib.Core.Bool.{cond}
 use mathlib.Core.List.{_++_, List, _∷_, []}
 use Prim.Native.Nat.{_%_, _+_, _/_, suc, zero, ℕ}
 use lib.Dec.{ltb}
+use lib.ListN.{drop, length, take}
 
 -- the codes of characters
 abbrev pub newline : ℕ
@@ -52,3 +53,7 @@ nameExt = 101 ∷ 120 ∷ 116 ∷ []
 -- "shown as -1"
 abbrev pub minusOne : List ℕ
 minusOne = 45 ∷ 49 ∷ []
+
+-- a text in a lent buffer, from its front on, as much of it as fits; the bytes behind it stay
+unfoldable pub intoBuffer : List ℕ → List ℕ → List ℕ
+intoBuffer text out = take (length out) text ++ drop (length text) out

@@ -6,7 +6,7 @@ use Prim.Native.Nat.{_+_, _-_, suc, zero, ℕ, _≤_}
 use lib.Dec.{eqb, leb}
 use lib.ListN.{length}
 use lib.Seq.{sets}
-use Rattle.listing.specs.Listing.{ListOutcome, setText}
+use Rattle.listing.specs.Listing.{setText}
 use Rattle.rules.specs.State.{Tables, setCount}
 use Rattle.listing.specs.declared.sets.Place.{Place}
 use Rattle.listing.specs.declared.store.Listed.{Listed}
@@ -47,10 +47,6 @@ unfoldable mutual
 pub record Visited (d e : List ℕ) (cur : ℕ) (r : Place) (v : Visit) : Type 0 where
   pub wrote : Wrote d e cur (r .at) (v .text)
   pub rest : r .left ≡ v .left
-
--- the answer and the buffer of a listing
-abbrev pub listOutcome : Listed → List ℕ → ListOutcome
-listOutcome r b = record { told = r; buffer = b }
 
 -- no listing is longer than 137,056 bytes, and what is told to be written is within the buffer of n bytes
 abbrev pub ListedFits : ℕ → Listed → Type 0

@@ -4,7 +4,6 @@ ghost use mathlib.Core.Path.{_≡_};
 ghost use Prim.Native.Nat.{_+_, _<_, _≤_};
 ghost use Rattle.tables.specs.Layout.{stateNumber};
 ghost use Rattle.tables.specs.Meaning.{entryMeant, setMeant, stateMeant};
-ghost use Rattle.calls.specs.Outcomes.{answerMeant};
 ghost use Rattle.listing.specs.Listing.{blockWord, callLine, endLine, extLine, fileLine, setLine};
 ghost use Rattle.base.specs.Logic;
 ghost use Rattle.tables.specs.OneReading.{blockFits};
@@ -13,7 +12,6 @@ ghost use Rattle.listing.specs.Written.{Wrote};
 use crate::text::put;
 use crate::text::put_three;
 use crate::text::put_word;
-use calls::answer::Answer;
 use tables::entries::Entry;
 use tables::files::State;
 use tables::sets::SetRecord;
@@ -38,8 +36,16 @@ fn put_four(out: &mut [u8], cur: usize, a: usize, b: usize, c: usize, d: usize) 
 }
 
 // "`call` count, op, number, three counts."
-pub fn put_call(out: &mut [u8], count: usize, op: u32, a: Answer) -> usize
-    ensures { λ r. ⌜ Wrote (now (out .entry)) (now (out .exit)) 0 r (callLine count op (answerMeant a)) × (r ≤ 131) ⌝ }
+pub fn put_call(
+    out: &mut [u8],
+    count: usize,
+    op: u32,
+    number: u32,
+    first: u32,
+    second: u32,
+    third: u32,
+) -> usize
+    ensures { λ r. ⌜ Wrote (now (out .entry)) (now (out .exit)) 0 r (callLine count op (record { number = number; first = first; second = second; third = third })) × (r ≤ 131) ⌝ }
 {
     let x = put_three(out, 0, b'c', b'a', b'l');
     let y = put(out, x, b'l');
@@ -47,10 +53,10 @@ pub fn put_call(out: &mut [u8], count: usize, op: u32, a: Answer) -> usize
     put_four(
         out,
         z,
-        a.number as usize,
-        a.first as usize,
-        a.second as usize,
-        a.third as usize,
+        number as usize,
+        first as usize,
+        second as usize,
+        third as usize,
     )
 }
 

@@ -1,8 +1,8 @@
 // The listing of a store.
 ghost use mathlib.Core.Path.{_≡_};
 ghost use lib.ListN.{length};
-ghost use Rattle.listing.specs.Listing.{listOn};
-ghost use Rattle.listing.specs.Written.{ListedFits, listOutcome};
+ghost use Rattle.listing.specs.Listing.{listOn, listOutcome};
+ghost use Rattle.listing.specs.Written.{ListedFits};
 use crate::sets::list_set;
 use formed::well_formed;
 

@@ -1,18 +1,14 @@
 // The session program: it formats 64 blocks, makes the 8-byte calls that standard input holds, a line for each, then lists
-// the store. No rule of the store stands here.
+// the store. It only reads, prints and hands over: no rule of the store stands here, and no line.
 ghost use mathlib.Core.Path.{_≡_};
 ghost use lib.ListN.{length};
 ghost use Rattle.tables.specs.Layout.{tableBytes};
-use calls::answer::Answer;
 use libc::STDIN_FILENO;
 use libc::STDOUT_FILENO;
-use listing::decoding;
-use listing::decoding::Decoded;
-use listing::lines;
-use listing::performing;
 use listing::store;
 use listing::store::Listed;
 use tables::places::TABLE_BYTES;
+use turns::turn::take_turn;
 
 // What is to do after a turn: read on, list, or quit since a write failed.
 enum Next {
@@ -41,42 +37,19 @@ fn room() -> [u8; 139264]
     [0; 139264]
 }
 
-fn print_call(count: usize, op: u32, a: Answer) -> bool {
-    let mut text = [0u8; 160];
-    let n = lines::put_call(&mut text, count, op, a);
-    io::write_all(STDOUT_FILENO, &text[..n])
-}
-
-fn print_end(count: usize) -> bool {
-    let mut text = [0u8; 40];
-    let n = lines::put_end(&mut text, count);
-    io::write_all(STDOUT_FILENO, &text[..n])
-}
-
 // One call: reads that come in pieces are joined.
 fn turn(t: &mut [u8], p: &mut [u8], count: usize) -> Next {
     let mut bytes = [0u8; 8];
     let n = io::read_full(STDIN_FILENO, &mut bytes);
-    if n == 0 {
-        return Next::List;
+    let mut text = [0u8; 160];
+    let told = take_turn(t, p, &bytes[..n], count, &mut text);
+    if !io::write_all(STDOUT_FILENO, &text[..told.size]) {
+        return Next::Quit;
     }
-    let d = decoding::decode(&bytes[..n]);
-    match d {
-        Decoded::Bad => {
-            if print_end(count) {
-                return Next::List;
-            }
-            Next::Quit
-        }
-        Decoded::Call(c) => {
-            let op = decoding::op_of(c);
-            let a = performing::perform(t, p, c);
-            if print_call(count, op, a) {
-                return Next::Read;
-            }
-            Next::Quit
-        }
+    if told.goes_on {
+        return Next::Read;
     }
+    Next::List
 }
 
 // All calls; false where a write failed.

@@ -12,13 +12,13 @@ returns : tie.Need-returns
 unfolding callLine
 returns c =
     let at-put-four = c .before .before in
-    let at-put-two = at-put-four .before .before .before .before .before .before .before .before in
+    let at-put-two = at-put-four .before .before .before .before in
     let at-put = at-put-two .before .before .before .before in
     let at-put-three = at-put .before .before .before .before in
     let start = at-put-three .before .before .before in
     let a = start .args in (
       wrote-then (at-put-three .put-three .ensures .0) (wrote-then (at-put .put .ensures .0) (wrote-as
-          (six-end (decimal (a .count)) (decimal (a .op)) (decimal (a .a .number)) (decimal (a .a .first)) (decimal (a .a .second)) (decimal (a .a .third)))
+          (six-end (decimal (a .count)) (decimal (a .op)) (decimal (a .number)) (decimal (a .first)) (decimal (a .second)) (decimal (a .third)))
           (wrote-then (at-put-two .put-two .ensures .0) (at-put-four .put-four .ensures .0)))),
       omega arith,
     )
@@ -27,5 +27,4 @@ pub put-call-spec : {M : Type 1} → statement M
 put-call-spec =
     tie.close
     (tie.spec
-    (λ c κs. search needs) (λ c κs. search needs) (λ c κs. search needs) (λ c. search needs) (λ c. search needs) (λ c. search needs)
-    (λ c. search needs) (λ c κs. search needs) (λ c. search needs) returns)
+    (λ c κs. search needs) (λ c κs. search needs) (λ c κs. search needs) (λ c κs. search needs) (λ c. search needs) returns)
