@@ -1,5 +1,5 @@
 #!/usr/bin/env python3
-"""figures.py [LOG]: lines of code, definitions and proof of each crate, its must-fail edits, and the seconds that its check took.
+"""figures.py [LOG]: lines of code, definitions and proof of each crate, its edits that must be refused, and the seconds that its check took.
 
 The seconds are read from LOG, what `rt ci` printed (target-gate/rt-ci.log of the last run of the gate); without it they are left out.
 Lines count without empty ones. Code is src/ without the lines of contracts and `ghost use`; definitions are specs/, laws in them included.
@@ -39,7 +39,7 @@ def main():
     rows = []
     for name in crates():
         base = f"crates/{name}/"
-        edits = len(glob.glob(os.path.join(ROOT, base, "must-fail", "*.edit")))
+        edits = sum(len(glob.glob(os.path.join(ROOT, base, folder, "*.edit"))) for folder in ("must-fail", "refused"))
         rows.append((name, lines(base + "src/**/*.rt", contract), lines(base + "specs/**/*.antt"), lines(base + "proofs/**/*.antt"), edits, took.get(name, "-")))
     print("| crate | code | definitions | proof | edits | check, s |")
     print("|---|---|---|---|---|---|")
