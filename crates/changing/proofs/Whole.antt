@@ -27,6 +27,7 @@ use Rattle.tables.proofs.Pending.{none-length, none-pending}
 use Rattle.tables.specs.Calls.{pagesOf}
 use Rattle.tables.specs.Packed.{unpack, wellFormed}
 use Rattle.tables.specs.Views.{Turns, memoryOf, nonePending, pendingOf}
+use Rattle.tables.specs.declared.entries.Pending.{Pending}
 
 -- ---- one after another
 
@@ -87,7 +88,7 @@ module _ {t p t₁ t₂ : List ℕ} {f : ℕ} {k : Counts} (s : ℕ) (re : Ready
 
 -- ---- nothing is pending at first
 
-pub none-in : (l : List ℕ) (n : ℕ) → l ≡ nonePending → PendingIn l n
+pub none-in : (l : List Pending) (n : ℕ) → l ≡ nonePending → PendingIn l n
 none-in l n e = record {
   len = ap length e ∙ none-length;
   below = λ p b x. absurd (not-stored unmapped b refl (ap (λ (g : ℕ → Entry ℕ). g p) (sym (ap pendingOf e ∙ none-pending)) ∙ x));
@@ -95,19 +96,19 @@ none-in l n e = record {
 
 -- ---- step 3
 
-pub reserves-ready : {t t′ l l′ p : List ℕ} {f : ℕ} {k k′ : Counts} {op : Work real → Work real} → Ready t p f k → Reserves t t′ l l′ f k k′ op → Ready t′ p f k′
+pub reserves-ready : {t t′ p : List ℕ} {l l′ : List Pending} {f : ℕ} {k k′ : Counts} {op : Work real → Work real} → Ready t p f k → Reserves t t′ l l′ f k k′ op → Ready t′ p f k′
 reserves-ready re r = record { packed = r .packed; sound = r .sound; size = re .size ∙ ap (λ (y : Rest). y .blocks * 512) (sym (r .same)); file = re .file }
 
-pub reserves-did : {t t′ l l′ : List ℕ} {f : ℕ} {k k′ : Counts} {op : Work real → Work real} (p : List ℕ) → Reserves t t′ l l′ f k k′ op → Did t p (pendingOf l) t′ p (pendingOf l′) f k k′ op
+pub reserves-did : {t t′ : List ℕ} {l l′ : List Pending} {f : ℕ} {k k′ : Counts} {op : Work real → Work real} (p : List ℕ) → Reserves t t′ l l′ f k k′ op → Did t p (pendingOf l) t′ p (pendingOf l′) f k k′ op
 reserves-did p r = record { same = r .same; does = r .does (pagesOf p) }
 
 -- what is pending is so after step 4 too
-pub pending-kept : {t t₁ t₂ l₀ l p p₂ : List ℕ} {f : ℕ} {k k₁ k₂ : Counts} {op op₁ : Work real → Work real} → Reserves t t₁ l₀ l f k k₁ op → Step t₁ p t₂ p₂ f k₁ k₂ op₁ → PendingIn l (unpack t₂ .blocks)
-pending-kept {t} {t₁} {t₂} {l₀} {l} r d = subst (PendingIn l) (sym (ap (λ (y : Rest). y .blocks) (d .step .same ∙ r .same))) (r .pending)
+pub pending-kept : {t t₁ t₂ p p₂ : List ℕ} {l₀ l : List Pending} {f : ℕ} {k k₁ k₂ : Counts} {op op₁ : Work real → Work real} → Reserves t t₁ l₀ l f k k₁ op → Step t₁ p t₂ p₂ f k₁ k₂ op₁ → PendingIn l (unpack t₂ .blocks)
+pending-kept {t} {t₁} {t₂} {p} {p₂} {l₀} {l} r d = subst (PendingIn l) (sym (ap (λ (y : Rest). y .blocks) (d .step .same ∙ r .same))) (r .pending)
 
 -- ---- the whole write
 
-module _ {t p t₁ t₂ t₃ l₀ l t₄ p₄ t₅ p₅ t₆ : List ℕ} {f : ℕ} {k k₁ k₂ : Counts} (s q n : ℕ) (lay : ℕ → PageData → PageData) (end z y : ℕ) (el : l₀ ≡ nonePending) (ey : y ≡ max z end) (re : Ready t p f k)
+module _ {t p t₁ t₂ t₃ t₄ p₄ t₅ p₅ t₆ : List ℕ} {l₀ l : List Pending} {f : ℕ} {k k₁ k₂ : Counts} (s q n : ℕ) (lay : ℕ → PageData → PageData) (end z y : ℕ) (el : l₀ ≡ nonePending) (ey : y ≡ max z end) (re : Ready t p f k)
     (a : Turns t t₁ (settled f s)) (b : Alone t₁ t₂ f (settleChildren (unpack t₁ .sets) s)) (c : Reserves t₂ t₃ l₀ l f k k₁ (each (reserve real (treeOf (unpack t₂ .sets)) s) (from q n)))
     (d : Step t₃ p t₄ p₄ f k₁ k₂ (giveAll real (treeOf (unpack t₃ .sets)) s (from q n)))
     (e : StepAt (pendingOf l) t₄ p₄ t₅ p₅ f k₂ (each (enter real (treeOf (unpack t₄ .sets)) s lay) (from q n))) (zz : z ≡ unpack t₅ .files f s .size)
@@ -251,7 +252,7 @@ same-used t t′ f s e u = ap (λ (r : Rest). r .sets s .used) e ∙ u
 pub settled-used : {t t′ : List ℕ} (f s : ℕ) → Turns t t′ (settled f s) → unpack t .sets s .used ≡ true → unpack t′ .sets s .used ≡ true
 settled-used f s a u = ap (λ (y : ℕ → SetRecord). y s .used) (settled-sets f s a) ∙ u
 
-pub reserves-used : {t p t₁ t₂ t₃ l l′ : List ℕ} {f : ℕ} {k k′ : Counts} {op : Work real → Work real} (s : ℕ) → Ready t p f k → Turns t t₁ (settled f s)
+pub reserves-used : {t p t₁ t₂ t₃ : List ℕ} {l l′ : List Pending} {f : ℕ} {k k′ : Counts} {op : Work real → Work real} (s : ℕ) → Ready t p f k → Turns t t₁ (settled f s)
     → Alone t₁ t₂ f (settleChildren (unpack t₁ .sets) s) → Reserves t₂ t₃ l l′ f k k′ op → unpack t .sets s .used ≡ true → unpack t₃ .sets s .used ≡ true
 reserves-used {t} {p} {t₁} {t₂} {t₃} {l} {l′} {f} s re a b c u = same-used t t₃ f s (c .same ∙ both-did s re a b (λ q. unmapped) .same) u
 

@@ -11,9 +11,9 @@ ghost use Rattle.rules.specs.State.{stored, treeOf};
 ghost use Rattle.rules.specs.Storage.{real, zeroFrom};
 ghost use Rattle.tables.specs.Meaning.{entryMeant};
 ghost use Rattle.tables.specs.Packed.{unpack, wellFormed};
-ghost use Rattle.tables.specs.Views.{PackedTables, pendingOf};
+ghost use Rattle.tables.specs.Views.{PackedTables};
 ghost use Rattle.copying.specs.Work.{Ready, Step};
-ghost use Rattle.changing.specs.Pending.{PendingIn, StepAt, entersAs};
+ghost use Rattle.changing.specs.Pending.{OwnIn, StepWith, entersAs};
 ghost use Rattle.changing.specs.Whole.{Changed, ChangedAlone, startCounts};
 use crate::dropping;
 use crate::entering;
@@ -26,6 +26,7 @@ use tables::entries;
 use tables::entries::Block;
 use tables::entries::Entry;
 use tables::entries::Page;
+use tables::entries::Pending;
 use tables::header;
 
 // "Above it, step 2 and the new size only."
@@ -86,17 +87,17 @@ fn cut_block(
 fn enter_cut(
     t: &mut [u8],
     p: &mut [u8],
-    pending: &[u16; 64],
+    own: Pending,
     f: usize,
     s: usize,
     page: Page,
     n: usize,
     k: Counts,
 )
-    requires { ⌜ Ready (now t) (now p) f k × PendingIn (now pending) (unpack (now t) .blocks) × (s < 8) × (page .0 < 64) × (n ≤ 512) ⌝ }
-    ensures { λ _. ⌜ StepAt (pendingOf (now (pending .entry))) (now (t .entry)) (now (p .entry)) (now (t .exit)) (now (p .exit)) f k (Rules.enter real (treeOf (unpack (now (t .entry)) .sets)) s (λ q. zeroFrom n) (page .0)) ⌝ }
+    requires { ⌜ Ready (now t) (now p) f k × OwnIn own (unpack (now t) .blocks) × (s < 8) × (page .0 < 64) × (n ≤ 512) ⌝ }
+    ensures { λ _. ⌜ StepWith own (page .0) (now (t .entry)) (now (p .entry)) (now (t .exit)) (now (p .exit)) f k (Rules.enter real (treeOf (unpack (now (t .entry)) .sets)) s (λ q. zeroFrom n) (page .0)) ⌝ }
 {
-    let e = entries::held(pending, page);
+    let e = own.held();
     match e {
         Entry::Unmapped => {}
         Entry::Hole => {}
@@ -122,12 +123,14 @@ fn cut_kept(
     requires { ⌜ Ready (now t) (now p) f k × (s < 8) × (unpack (now t) .sets s .used ≡ true) × (0 < m) × (first + m ≤ 64) × (n < 65536) × (Rules.ownNeed real s (Rules.from first 1) (unpack (now t) .files f) ≤ k .left) ⌝ }
     ensures { λ r. ⌜ Changed (now (t .entry)) (now (p .entry)) (now (t .exit)) (now (p .exit)) f k r (Rules.change real (treeOf (unpack (now (t .entry)) .sets)) s (Rules.from first m) (Rules.from first 1) (Rules.from (first + 1) (m - 1)) (λ q. zeroFrom (n % 512)) (λ i. n)) ⌝ }
 {
-    let mut pending = entries::none_pending();
     settling::settle_set(t, f, s);
     settling::settle_children(t, f, s);
-    let a = reserving::reserve_all(t, &mut pending, f, s, first, 1, k);
+    let r = reserving::reserve_all(t, f, s, first, 1, k);
+    let pending = r.pending;
+    let own = pending[first];
+    let a = r.counts;
     let b = giving::give_all(t, p, f, s, first, m, a);
-    enter_cut(t, p, &pending, f, s, Page::new(first), n % 512, b);
+    enter_cut(t, p, own, f, s, Page::new(first), n % 512, b);
     dropping::drop_pages(t, f, s, first + 1, m - 1);
     dropping::resize(t, f, s, n);
     b
