@@ -15,6 +15,7 @@ use maps::resolving;
 use tables::entries;
 use tables::entries::Block;
 use tables::entries::Entry;
+use tables::entries::Kept;
 use tables::entries::Page;
 use tables::sets;
 
@@ -132,23 +133,22 @@ fn give_children(
 fn give_pages(
     t: &mut [u8],
     p: &mut [u8],
-    kept: &[u16; 64],
+    kept: [Kept; 64],
     f: usize,
     s: usize,
     first: usize,
     m: usize,
     k: Counts,
 ) -> Counts
-    requires { ⌜ Ready (now t) (now p) f k × (s < 8) × (first + m ≤ 64) × (unpack (now t) .sets s .used ≡ true) × (length (now kept) ≡ 64) × ((q : ℕ) → first ≤ q → q < first + m → entriesOf (now kept) q ≡ shown (now t) f s q) ⌝ }
+    requires { ⌜ Ready (now t) (now p) f k × (s < 8) × (first + m ≤ 64) × (unpack (now t) .sets s .used ≡ true) × (length kept ≡ 64) × ((q : ℕ) → first ≤ q → q < first + m → entriesOf kept q ≡ shown (now t) f s q) ⌝ }
     ensures { λ r. ⌜ Step (now (t .entry)) (now (p .entry)) (now (t .exit)) (now (p .exit)) f k r (Rules.giveAll real (treeOf (unpack (now (t .entry)) .sets)) s (Rules.from first m)) ⌝ }
 {
     let mut w = k;
     let mut q = first;
     let mut n = m;
     while 0 < n {
-        let page = Page::new(q);
-        let e = entries::kept_entry(kept, page);
-        w = give_children(t, p, f, s, page, e, w);
+        let x = kept[q];
+        w = give_children(t, p, f, s, Page::new(q), x.entry(), w);
         q += 1;
         n -= 1;
     }
@@ -171,7 +171,7 @@ pub fn give_all(
     if 8 <= sets::first_child_of(&*t, s) {
         return k;
     }
-    let mut kept = entries::all_holes();
-    resolving::resolve_range(&*t, f, s, first, m, &mut kept);
-    give_pages(t, p, &kept, f, s, first, m, k)
+    let r = resolving::resolve_range(&*t, f, s, first, m);
+    let kept = r.kept;
+    give_pages(t, p, kept, f, s, first, m, k)
 }

@@ -28,6 +28,7 @@ use Rattle.tables.specs.Packed.{unpack, wellFormed}
 use Rattle.tables.specs.Views.{PackedTables, Turns, nonePending, pendingOf}
 use Rattle.changing.specs.declared.Totals.{Totals}
 use Rattle.copying.specs.declared.giving.Counts.{Counts}
+use Rattle.tables.specs.declared.entries.Pending.{Pending}
 
 -- ---- above the size
 
@@ -70,7 +71,7 @@ module _ {t p t₁ t₂ t₃ p₃ t₄ t₅ : List ℕ} {f : ℕ} {k k₁ : Coun
 
 -- ---- where the page of the new size stays stored
 
-module _ {t p t₁ t₂ t₃ l₀ l t₄ p₄ t₅ p₅ t₆ t₇ : List ℕ} {f : ℕ} {k k₁ k₂ : Counts} (s q m at d n x : ℕ) (lay : ℕ → PageData → PageData) (el : l₀ ≡ nonePending) (ex : x ≡ q) (re : Ready t p f k)
+module _ {t p t₁ t₂ t₃ t₄ p₄ t₅ p₅ t₆ t₇ : List ℕ} {l₀ l : List Pending} {f : ℕ} {k k₁ k₂ : Counts} (s q m at d n x : ℕ) (lay : ℕ → PageData → PageData) (el : l₀ ≡ nonePending) (ex : x ≡ q) (re : Ready t p f k)
     (a : Turns t t₁ (settled f s)) (b : Alone t₁ t₂ f (settleChildren (unpack t₁ .sets) s)) (c : Reserves t₂ t₃ l₀ l f k k₁ (each (reserve real (treeOf (unpack t₂ .sets)) s) (from q 1)))
     (g : Step t₃ p t₄ p₄ f k₁ k₂ (giveAll real (treeOf (unpack t₃ .sets)) s (from q m))) (e : StepAt (pendingOf l) t₄ p₄ t₅ p₅ f k₂ (enter real (treeOf (unpack t₄ .sets)) s lay x))
     (o : OnTables t₅ t₆ f (each (dropPage real (treeOf (unpack t₅ .sets)) s) (from at d))) (z : OnTables t₆ t₇ f (resize real (treeOf (unpack t₆ .sets)) s n)) where

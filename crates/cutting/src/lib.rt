@@ -77,12 +77,14 @@ fn cut_kept(
     requires { ⌜ Ready (now t) (now p) f k × (s < 8) × (unpack (now t) .sets s .used ≡ true) × (0 < m) × (first + m ≤ 64) × (n < 65536) × (Rules.ownNeed real s (Rules.from first 1) (unpack (now t) .files f) ≤ k .left) ⌝ }
     ensures { λ r. ⌜ Changed (now (t .entry)) (now (p .entry)) (now (t .exit)) (now (p .exit)) f k r (Rules.change real (treeOf (unpack (now (t .entry)) .sets)) s (Rules.from first m) (Rules.from first 1) (Rules.from (first + 1) (m - 1)) (λ q. zeroFrom (n % 512)) (λ i. n)) ⌝ }
 {
-    let mut pending = entries::none_pending();
     settling::settle_set(t, f, s);
     settling::settle_children(t, f, s);
-    let a = reserving::reserve_all(t, &mut pending, f, s, first, 1, k);
+    let r = reserving::reserve_all(t, f, s, first, 1, k);
+    let pending = r.pending;
+    let own = pending[first];
+    let a = r.counts;
     let b = giving::give_all(t, p, f, s, first, m, a);
-    zeroing::enter_cut(t, p, &pending, f, s, Page::new(first), n % 512, b);
+    zeroing::enter_cut(t, p, own, f, s, Page::new(first), n % 512, b);
     dropping::drop_pages(t, f, s, first + 1, m - 1);
     dropping::resize(t, f, s, n);
     Totals {

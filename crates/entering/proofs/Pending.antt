@@ -11,7 +11,7 @@ use borrow.Author.Tests.{le-leb, le-ltb, leb-true, lt-ltb, ltb-false, ltb-true}
 use Rattle.base.specs.Count.{count}
 use Rattle.base.specs.Logic.{and-left, and-right, test?}
 use Rattle.base.specs.Update.{upd, upd-all, upd-same, upd-self, upd-upd}
-use Rattle.entering.specs.Pending.{Carried, PendingIn, Reserved, Reserves, StepAt, TakenFor, bytesOf, entersAs}
+use Rattle.entering.specs.Pending.{Carried, PendingIn, Reserved, Reserves, StepAt, TakenOwn, bytesOf, entersAs}
 use Rattle.copying.proofs.Chains.{pages-more, pages-out, upPages}
 use Rattle.copying.proofs.Kept.{entered-block, sound-took, stored-is, took-own, took-same}
 use Rattle.copying.specs.Work.{Ready, Rest, Sound, Step, oneTaken, rest, work}
@@ -25,6 +25,7 @@ use Rattle.tables.proofs.Pending.{none-length, none-pending}
 use Rattle.tables.specs.Calls.{pagesOf}
 use Rattle.tables.specs.Packed.{unpack}
 use Rattle.tables.specs.Views.{PackedTables, Took, Turns, memoryOf, nonePending, pendingOf, putEntryIn}
+use Rattle.tables.specs.declared.entries.Pending.{Pending}
 
 blocks-of : (t t′ : List ℕ) (f : ℕ) → rest (unpack t′) f ≡ rest (unpack t) f → unpack t′ .blocks ≡ unpack t .blocks
 blocks-of t t′ f e = ap (λ (r : Rest). r .blocks) e
@@ -35,14 +36,14 @@ sets-of t t′ f e = ap (λ (r : Rest). r .sets) e
 -- ---- step 3, for one page
 
 -- one more block pending
-pending-more : (l l′ : List ℕ) (q b n : ℕ) → pendingOf l′ ≡ upd (pendingOf l) q (stored b) → length l′ ≡ 64 → b < n → PendingIn l n → PendingIn l′ n
+pending-more : (l l′ : List Pending) (q b n : ℕ) → pendingOf l′ ≡ upd (pendingOf l) q (stored b) → length l′ ≡ 64 → b < n → PendingIn l n → PendingIn l′ n
 pending-more l l′ q b n e len lt ok = record {
   len = len;
   below = subst (λ (g : ℕ → Entry ℕ). (p a : ℕ) → g p ≡ stored a → a < n) (sym e)
       (upd-all (λ (y : Entry ℕ). (a : ℕ) → y ≡ stored a → a < n) (pendingOf l) q (stored b) (λ a x. let z : b ≡ a = stored-is b a x in omega arith) (ok .below));
 }
 
-module _ {t t′ : List ℕ} (l l′ : List ℕ) (f s q d : ℕ) (k : Counts) (so : Sound (unpack t) f k) (ok : PendingIn l (unpack t .blocks)) (some : 0 < k .left)
+module _ {t t′ : List ℕ} (l l′ : List Pending) (f s q d : ℕ) (k : Counts) (so : Sound (unpack t) f k) (ok : PendingIn l (unpack t .blocks)) (some : 0 < k .left)
     (tk : Took t t′ d) (el : pendingOf l′ ≡ upd (pendingOf l) q (stored d)) (len : length l′ ≡ 64) (un : isStored (unpack t .files f s .map q) ≡ false) where
   as-taken : (tree : Tree) (w : Work real) (e : Entry ℕ) → isStored e ≡ false → reserveAs real tree e q w ≡ takeOwn real tree q w
   unfolding reserveAs
@@ -64,15 +65,19 @@ module _ {t t′ : List ℕ} (l l′ : List ℕ) (f s q d : ℕ) (k : Counts) (s
   }
 
 -- LAW: where the page was not stored
-pub reserved-new : {t t′ l l′ : List ℕ} {k k′ : Counts} (f s q : ℕ) (e : Entry ℕ) → Sound (unpack t) f k → PendingIn l (unpack t .blocks) → (isStored (unpack t .files f s .map q) ≡ false → 0 < k .left)
-    → e ≡ unpack t .files f s .map q → isStored e ≡ false → TakenFor t t′ l l′ q k k′ → Reserved t t′ l l′ f s q k k′
-reserved-new {t} {t′} {l} {l′} {k} {k′} f s q e so ok some ee un x =
+pub reserved-new : {t t′ : List ℕ} {k k′ : Counts} (f s q d : ℕ) (e : Entry ℕ) → Sound (unpack t) f k → (isStored (unpack t .files f s .map q) ≡ false → 0 < k .left)
+    → e ≡ unpack t .files f s .map q → isStored e ≡ false → TakenOwn t t′ k d k′ → Reserved t t′ f s q k d k′
+reserved-new {t} {t′} {k} {k′} f s q d e so some ee un x =
     let un′ : isStored (unpack t .files f s .map q) ≡ false = ap isStored (sym ee) ∙ un in
     let less = some un′ in
-    subst (λ (y : Counts). Reserved t t′ l l′ f s q k y) (sym (x .counts))
-    (record { reserves = reserves-new l l′ f s q (x .block) k so ok less (x .took-it) (x .pending) (x .len) un′; spent = rw un′ (omega arith) })
+    subst (λ (y : Counts). Reserved t t′ f s q k d y) (sym (x .counts))
+    (record {
+      below = x .took-it .below;
+      reserves = λ l l′ ok el len. reserves-new l l′ f s q d k so ok less (x .took-it) el len un′;
+      spent = rw un′ (omega arith);
+    })
 
-reserves-own : {t l l′ : List ℕ} {k : Counts} (f s q b : ℕ) → PackedTables t → Sound (unpack t) f k → PendingIn l (unpack t .blocks) → unpack t .files f s .map q ≡ stored b
+reserves-own : {t : List ℕ} {l l′ : List Pending} {k : Counts} (f s q b : ℕ) → PackedTables t → Sound (unpack t) f k → PendingIn l (unpack t .blocks) → unpack t .files f s .map q ≡ stored b
     → pendingOf l′ ≡ upd (pendingOf l) q (stored b) → length l′ ≡ 64 → Reserves t t l l′ f k k (reserve real (treeOf (unpack t .sets)) s q)
 unfolding reserve reserveAs
 reserves-own {t} {l} {l′} {k} f s q b pk so ok e el len = record {
@@ -84,9 +89,12 @@ reserves-own {t} {l} {l′} {k} f s q b pk so ok e el len = record {
 }
 
 -- LAW: where it has its block
-pub reserved-own : {t l l′ : List ℕ} {k : Counts} (f s q b : ℕ) → PackedTables t → Sound (unpack t) f k → PendingIn l (unpack t .blocks) → unpack t .files f s .map q ≡ stored b
-    → pendingOf l′ ≡ upd (pendingOf l) q (stored b) → length l′ ≡ 64 → Reserved t t l l′ f s q k k
-reserved-own f s q b pk so ok e el len = record { reserves = reserves-own f s q b pk so ok e el len; spent = rw e (omega arith) }
+pub reserved-own : {t : List ℕ} {k : Counts} (f s q b : ℕ) → PackedTables t → Sound (unpack t) f k → unpack t .files f s .map q ≡ stored b → Reserved t t f s q k b k
+reserved-own f s q b pk so e = record {
+  below = so .named s q b e;
+  reserves = λ l l′ ok el len. reserves-own f s q b pk so ok e el len;
+  spent = rw e (omega arith);
+}
 
 pub some-free : (t : List ℕ) {f : ℕ} {k : Counts} → Sound (unpack t) f k → 0 < k .left → 0 < count (unpack t .blocks) (λ b. not (unpack t .bits b))
 some-free t so h = subst (λ x. 0 < x) (so .left-is) h
@@ -115,7 +123,7 @@ own-more : (s : ℕ) (files : Files ℕ) (n q : ℕ) → (n ≡ 0 → ⊥) → o
 unfolding ownNeed
 own-more s files n q h = need-more (λ p. not (isStored (files s .map p))) n q h
 
-pub record Reserving (t₀ t l₀ l : List ℕ) (f s q n : ℕ) (k₀ k : Counts) (op : Work real → Work real) : Type 0 where
+pub record Reserving (t₀ t : List ℕ) (l₀ l : List Pending) (f s q n : ℕ) (k₀ k : Counts) (op : Work real → Work real) : Type 0 where
   pub same : rest (unpack t) f ≡ rest (unpack t₀) f
   pub whole : (pg : ℕ → PageData) → op (work (unpack t₀) pg f (pendingOf l₀) k₀) ≡ upPages (reserving s) (unpack t₀ .sets) q n (work (unpack t) pg f (pendingOf l) k)
   pub packed : PackedTables t
@@ -123,22 +131,22 @@ pub record Reserving (t₀ t l₀ l : List ℕ) (f s q n : ℕ) (k₀ k : Counts
   pub pending : PendingIn l (unpack t .blocks)
   pub need : ownNeed real s (from q n) (unpack t .files f) ≤ k .left
 
-pub reserving-start : {t l : List ℕ} {k : Counts} (f s q n : ℕ) → PackedTables t → Sound (unpack t) f k → PendingIn l (unpack t .blocks) → ownNeed real s (from q n) (unpack t .files f) ≤ k .left
+pub reserving-start : {t : List ℕ} {l : List Pending} {k : Counts} (f s q n : ℕ) → PackedTables t → Sound (unpack t) f k → PendingIn l (unpack t .blocks) → ownNeed real s (from q n) (unpack t .files f) ≤ k .left
     → Reserving t t l l f s q n k k (upPages (reserving s) (unpack t .sets) q n)
 reserving-start f s q n pk so ok nd = record { same = refl; whole = λ pg. refl; packed = pk; sound = so; pending = ok; need = nd }
 
-pub reserving-some : {t₀ t l₀ l : List ℕ} {f s q n : ℕ} {k₀ k : Counts} {op : Work real → Work real} (x : ℕ) → Reserving t₀ t l₀ l f s q n k₀ k op → (n ≡ 0 → ⊥) → x ≡ q
+pub reserving-some : {t₀ t : List ℕ} {l₀ l : List Pending} {f s q n : ℕ} {k₀ k : Counts} {op : Work real → Work real} (x : ℕ) → Reserving t₀ t l₀ l f s q n k₀ k op → (n ≡ 0 → ⊥) → x ≡ q
     → isStored (unpack t .files f s .map x) ≡ false → 0 < k .left
 reserving-some {t₀} {t} {l₀} {l} {f} {s} {q} {n} {k₀} {k} x g h ex e =
     let m = own-more s (unpack t .files f) n q h in
     let z : _≡_ {A = ℕ} (cond (not (isStored (unpack t .files f s .map q))) 1 0) 1 = ap (λ y. cond (not (isStored (unpack t .files f s .map y))) 1 0) (sym ex) ∙ rw e in
     omega (arith, g .need)
 
-pub reserving-turn : {t₀ t t′ l₀ l l′ : List ℕ} {f s q n : ℕ} {k₀ k k′ : Counts} {op : Work real → Work real} (x : ℕ) → Reserving t₀ t l₀ l f s q n k₀ k op → (n ≡ 0 → ⊥) → x ≡ q → Reserved t t′ l l′ f s x k k′
-    → Reserving t₀ t′ l₀ l′ f s (q + 1) (n - 1) k₀ k′ op
-reserving-turn {t₀} {t} {t′} {l₀} {l} {l′} {f} {s} {q} {n} {k₀} {k} {k′} x g h ex r′ =
-    let r : Reserved t t′ l l′ f s q k k′ = subst (λ y. Reserved t t′ l l′ f s y k k′) ex r′ in
-    let v = r .reserves in
+pub reserving-turn : {t₀ t t′ : List ℕ} {l₀ l l′ : List Pending} {f s q n : ℕ} {k₀ k k′ : Counts} {op : Work real → Work real} (x b : ℕ) → Reserving t₀ t l₀ l f s q n k₀ k op → (n ≡ 0 → ⊥) → x ≡ q
+    → Reserved t t′ f s x k b k′ → pendingOf l′ ≡ upd (pendingOf l) q (stored b) → length l′ ≡ 64 → Reserving t₀ t′ l₀ l′ f s (q + 1) (n - 1) k₀ k′ op
+reserving-turn {t₀} {t} {t′} {l₀} {l} {l′} {f} {s} {q} {n} {k₀} {k} {k′} x b g h ex r′ el len =
+    let r : Reserved t t′ f s q k b k′ = subst (λ y. Reserved t t′ f s y k b k′) ex r′ in
+    let v = r .reserves l l′ (g .pending) el len in
     let ss : unpack t .sets ≡ unpack t₀ .sets = sets-of t₀ t f (g .same) in
     let files : unpack t′ .files f ≡ unpack t .files f =
     ap (λ (w : Work real). w .files) (v .does (λ b i. 0)) ∙ reserve-files (treeOf (unpack t .sets)) s q (work (unpack t) (λ b i. 0) f (pendingOf l) k) in
@@ -155,7 +163,7 @@ reserving-turn {t₀} {t} {t′} {l₀} {l} {l′} {f} {s} {q} {n} {k₀} {k} {k
       need = subst (λ (y : Files ℕ). ownNeed real s (from (q + 1) (n - 1)) y ≤ k′ .left) (sym files) (omega (arith, g .need, r .spent));
     }
 
-pub reserving-done : {t₀ t l₀ l : List ℕ} {f s q n : ℕ} {k₀ k : Counts} {op : Work real → Work real} → Reserving t₀ t l₀ l f s q n k₀ k op → n ≡ 0 → Reserves t₀ t l₀ l f k₀ k op
+pub reserving-done : {t₀ t : List ℕ} {l₀ l : List Pending} {f s q n : ℕ} {k₀ k : Counts} {op : Work real → Work real} → Reserving t₀ t l₀ l f s q n k₀ k op → n ≡ 0 → Reserves t₀ t l₀ l f k₀ k op
 reserving-done {t₀} {t} {l₀} {l} {f} {s} {q} {n} {k₀} {k} g e = record {
   same = g .same;
   does = λ pg. sym (g .whole pg ∙ pages-out (reserving s) (unpack t₀ .sets) n q e (work (unpack t) pg f (pendingOf l) k));
@@ -237,23 +245,23 @@ as-none tree unmapped s q v w h = refl
 as-none tree hole s q v w h = refl
 as-none tree (stored b) s q v w h = cc
 
-module _ {t p : List ℕ} {f : ℕ} {k : Counts} (l : List ℕ) (s q : ℕ) (lay : ℕ → PageData → PageData) where
+module _ {t p : List ℕ} {f : ℕ} {k : Counts} (h : ℕ → Entry ℕ) (s q : ℕ) (lay : ℕ → PageData → PageData) where
   -- LAW
-  pub enter-none : (e : Entry ℕ) → Ready t p f k → e ≡ pendingOf l q → isStored e ≡ false → StepAt (pendingOf l) t p t p f k (enter real (treeOf (unpack t .sets)) s lay q)
+  pub enter-none : (e : Entry ℕ) → Ready t p f k → e ≡ h q → isStored e ≡ false → StepAt h t p t p f k (enter real (treeOf (unpack t .sets)) s lay q)
   unfolding enter
-  enter-none e re ee h = record { same = refl; ready = re; does = as-none (treeOf (unpack t .sets)) (pendingOf l q) s q _ (work (unpack t) (pagesOf p) f (pendingOf l) k) (ap isStored (sym ee) ∙ h) }
+  enter-none e re ee un = record { same = refl; ready = re; does = as-none (treeOf (unpack t .sets)) (h q) s q _ (work (unpack t) (pagesOf p) f h k) (ap isStored (sym ee) ∙ un) }
 
   -- LAW: block b is pending
-  pub enter-some : {t′ p′ : List ℕ} (b : ℕ) (e : Entry ℕ) → pendingOf l q ≡ stored b → e ≡ resolve (treeOf (unpack t .sets)) (unpack t .files f) s q
-      → Step t p t′ p′ f k k (entersAs (treeOf (unpack t .sets)) e b s q (lay q)) → StepAt (pendingOf l) t p t′ p′ f k (enter real (treeOf (unpack t .sets)) s lay q)
+  pub enter-some : {t′ p′ : List ℕ} (b : ℕ) (e : Entry ℕ) → h q ≡ stored b → e ≡ resolve (treeOf (unpack t .sets)) (unpack t .files f) s q
+      → Step t p t′ p′ f k k (entersAs (treeOf (unpack t .sets)) e b s q (lay q)) → StepAt h t p t′ p′ f k (enter real (treeOf (unpack t .sets)) s lay q)
   unfolding enter
   enter-some b e eb ee x = record {
     same = x .step .same;
     ready = x .ready;
     does =
         let tree = treeOf (unpack t .sets) in
-        let w = work (unpack t) (pagesOf p) f (pendingOf l) k in
-        x .step .does (pendingOf l)
+        let w = work (unpack t) (pagesOf p) f h k in
+        x .step .does h
         ∙ ap (λ (y : Entry ℕ). enterAs real tree (stored b) s q (lay q (pageOf real (memoryOf (unpack t) (pagesOf p)) y)) w) ee
         ∙ ap (λ (y : Entry ℕ). enterAs real tree y s q (lay q (pageOf real (memoryOf (unpack t) (pagesOf p)) (resolve tree (unpack t .files f) s q))) w) (sym eb);
   }
@@ -292,22 +300,22 @@ module _ {h : ℕ → Entry ℕ} {t₀ p₀ t p : List ℕ} {f s q n : ℕ} {lay
   pub entering-pages : Ready t₀ p₀ f k → length p ≡ length p₀
   entering-pages re = g .ready .size ∙ ap (λ (r : Rest). r .blocks * 512) (g .same) ∙ sym (re .size)
 
-  pub entering-pending : {l : List ℕ} → PendingIn l (unpack t₀ .blocks) → PendingIn l (unpack t .blocks)
+  pub entering-pending : {l : List Pending} → PendingIn l (unpack t₀ .blocks) → PendingIn l (unpack t .blocks)
   entering-pending {l} ok = subst (PendingIn l) (sym (blocks-of t₀ t f (g .same))) ok
 
 -- ---- what the next step needs
 
 -- nothing is pending at first
-pub none-in : (l : List ℕ) (n : ℕ) → l ≡ nonePending → PendingIn l n
+pub none-in : (l : List Pending) (n : ℕ) → l ≡ nonePending → PendingIn l n
 none-in l n e = record {
   len = ap length e ∙ none-length;
   below = λ p b x. absurd (not-stored unmapped b refl (ap (λ (g : ℕ → Entry ℕ). g p) (sym (ap pendingOf e ∙ none-pending)) ∙ x));
 }
 
 -- after step 3
-pub reserves-ready : {t t′ l l′ p : List ℕ} {f : ℕ} {k k′ : Counts} {op : Work real → Work real} → Ready t p f k → Reserves t t′ l l′ f k k′ op → Ready t′ p f k′
+pub reserves-ready : {t t′ p : List ℕ} {l l′ : List Pending} {f : ℕ} {k k′ : Counts} {op : Work real → Work real} → Ready t p f k → Reserves t t′ l l′ f k k′ op → Ready t′ p f k′
 reserves-ready re r = record { packed = r .packed; sound = r .sound; size = re .size ∙ ap (λ (y : Rest). y .blocks * 512) (sym (r .same)); file = re .file }
 
 -- what is pending is so after step 4 too
-pub pending-kept : {t t₁ t₂ l₀ l p p₂ : List ℕ} {f : ℕ} {k k₁ k₂ : Counts} {op op₁ : Work real → Work real} → Reserves t t₁ l₀ l f k k₁ op → Step t₁ p t₂ p₂ f k₁ k₂ op₁ → PendingIn l (unpack t₂ .blocks)
-pending-kept {t} {t₁} {t₂} {l₀} {l} r d = subst (PendingIn l) (sym (ap (λ (y : Rest). y .blocks) (d .step .same ∙ r .same))) (r .pending)
+pub pending-kept : {t t₁ t₂ p p₂ : List ℕ} {l₀ l : List Pending} {f : ℕ} {k k₁ k₂ : Counts} {op op₁ : Work real → Work real} → Reserves t t₁ l₀ l f k k₁ op → Step t₁ p t₂ p₂ f k₁ k₂ op₁ → PendingIn l (unpack t₂ .blocks)
+pending-kept {t} {t₁} {t₂} {p} {p₂} {l₀} {l} r d = subst (PendingIn l) (sym (ap (λ (y : Rest). y .blocks) (d .step .same ∙ r .same))) (r .pending)

@@ -16,13 +16,14 @@ ghost use Rattle.tables.specs.Packed.{unpack};
 ghost use Rattle.tables.specs.Meaning.{entryMeant};
 ghost use Rattle.tables.specs.Views.{pendingOf};
 ghost use Rattle.copying.specs.Work.{Ready, Step};
-ghost use Rattle.entering.specs.Pending.{Carried, PendingIn, StepAt, bytesOf, entersAs};
+ghost use Rattle.entering.specs.Pending.{Carried, OwnIn, PendingIn, StepAt, StepWith, bytesOf, entersAs};
 use copying::giving::Counts;
 use maps::reading;
 use tables::entries;
 use tables::entries::Block;
 use tables::entries::Entry;
 use tables::entries::Page;
+use tables::entries::Pending;
 
 pub mod reserving;
 pub mod zeroing;
@@ -98,7 +99,7 @@ fn enter_block(
 fn enter(
     t: &mut [u8],
     p: &mut [u8],
-    pending: &[u16; 64],
+    own: Pending,
     f: usize,
     s: usize,
     page: Page,
@@ -106,10 +107,10 @@ fn enter(
     data: &[u8],
     k: Counts,
 )
-    requires { ⌜ Ready (now t) (now p) f k × PendingIn (now pending) (unpack (now t) .blocks) × (s < 8) × (page .0 < 64) × (off + length (now «data») ≤ 32768) ⌝ }
-    ensures { λ _. ⌜ StepAt (pendingOf (now (pending .entry))) (now (t .entry)) (now (p .entry)) (now (t .exit)) (now (p .exit)) f k (Rules.enter real (treeOf (unpack (now (t .entry)) .sets)) s (overlay off (now («data» .entry))) (page .0)) ⌝ }
+    requires { ⌜ Ready (now t) (now p) f k × OwnIn own (unpack (now t) .blocks) × (s < 8) × (page .0 < 64) × (off + length (now «data») ≤ 32768) ⌝ }
+    ensures { λ _. ⌜ StepWith own (page .0) (now (t .entry)) (now (p .entry)) (now (t .exit)) (now (p .exit)) f k (Rules.enter real (treeOf (unpack (now (t .entry)) .sets)) s (overlay off (now («data» .entry))) (page .0)) ⌝ }
 {
-    let e = entries::held(pending, page);
+    let e = own.held();
     match e {
         Entry::Unmapped => {}
         Entry::Hole => {}
@@ -121,7 +122,7 @@ fn enter(
 pub fn enter_all(
     t: &mut [u8],
     p: &mut [u8],
-    pending: &[u16; 64],
+    pending: [Pending; 64],
     f: usize,
     s: usize,
     first: usize,
@@ -130,13 +131,14 @@ pub fn enter_all(
     data: &[u8],
     k: Counts,
 )
-    requires { ⌜ Ready (now t) (now p) f k × PendingIn (now pending) (unpack (now t) .blocks) × (s < 8) × (first + m ≤ 64) × (off + length (now «data») ≤ 32768) ⌝ }
-    ensures { λ _. ⌜ StepAt (pendingOf (now (pending .entry))) (now (t .entry)) (now (p .entry)) (now (t .exit)) (now (p .exit)) f k (Rules.each (Rules.enter real (treeOf (unpack (now (t .entry)) .sets)) s (overlay off (now («data» .entry)))) (Rules.from first m)) ⌝ }
+    requires { ⌜ Ready (now t) (now p) f k × PendingIn pending (unpack (now t) .blocks) × (s < 8) × (first + m ≤ 64) × (off + length (now «data») ≤ 32768) ⌝ }
+    ensures { λ _. ⌜ StepAt (pendingOf pending) (now (t .entry)) (now (p .entry)) (now (t .exit)) (now (p .exit)) f k (Rules.each (Rules.enter real (treeOf (unpack (now (t .entry)) .sets)) s (overlay off (now («data» .entry)))) (Rules.from first m)) ⌝ }
 {
     let mut q = first;
     let mut n = m;
     while 0 < n {
-        enter(t, p, pending, f, s, Page::new(q), off, data, k);
+        let own = pending[q];
+        enter(t, p, own, f, s, Page::new(q), off, data, k);
         q += 1;
         n -= 1;
     }

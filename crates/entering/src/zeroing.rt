@@ -6,9 +6,8 @@ ghost use Rattle.rules.specs.State.{stored, treeOf};
 ghost use Rattle.rules.specs.Storage.{real, zeroFrom};
 ghost use Rattle.tables.specs.Meaning.{entryMeant};
 ghost use Rattle.tables.specs.Packed.{unpack};
-ghost use Rattle.tables.specs.Views.{pendingOf};
 ghost use Rattle.copying.specs.Work.{Ready, Step};
-ghost use Rattle.entering.specs.Pending.{PendingIn, StepAt, entersAs};
+ghost use Rattle.entering.specs.Pending.{OwnIn, StepWith, entersAs};
 use crate::prepare;
 use copying::giving::Counts;
 use maps::reading;
@@ -16,6 +15,7 @@ use tables::entries;
 use tables::entries::Block;
 use tables::entries::Entry;
 use tables::entries::Page;
+use tables::entries::Pending;
 
 // A page, which resolved to e, gets block b and its bytes, zeroed from byte n on.
 fn cut_block(
@@ -41,17 +41,17 @@ fn cut_block(
 pub fn enter_cut(
     t: &mut [u8],
     p: &mut [u8],
-    pending: &[u16; 64],
+    own: Pending,
     f: usize,
     s: usize,
     page: Page,
     n: usize,
     k: Counts,
 )
-    requires { ⌜ Ready (now t) (now p) f k × PendingIn (now pending) (unpack (now t) .blocks) × (s < 8) × (page .0 < 64) × (n ≤ 512) ⌝ }
-    ensures { λ _. ⌜ StepAt (pendingOf (now (pending .entry))) (now (t .entry)) (now (p .entry)) (now (t .exit)) (now (p .exit)) f k (Rules.enter real (treeOf (unpack (now (t .entry)) .sets)) s (λ q. zeroFrom n) (page .0)) ⌝ }
+    requires { ⌜ Ready (now t) (now p) f k × OwnIn own (unpack (now t) .blocks) × (s < 8) × (page .0 < 64) × (n ≤ 512) ⌝ }
+    ensures { λ _. ⌜ StepWith own (page .0) (now (t .entry)) (now (p .entry)) (now (t .exit)) (now (p .exit)) f k (Rules.enter real (treeOf (unpack (now (t .entry)) .sets)) s (λ q. zeroFrom n) (page .0)) ⌝ }
 {
-    let e = entries::held(pending, page);
+    let e = own.held();
     match e {
         Entry::Unmapped => {}
         Entry::Hole => {}

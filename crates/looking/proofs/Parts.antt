@@ -10,7 +10,9 @@ use lib.ListN.{drop, length}
 use borrow.Author.Tests.{ltb-false, ltb-true}
 use Rattle.base.specs.Logic.{test?}
 use Rattle.base.specs.Tabulate.{tab}
+use Rattle.maps.proofs.ManyPages.{range-looks}
 use Rattle.maps.specs.ManyPages.{RangeResolved}
+use Rattle.maps.specs.declared.resolving.ResolvedPages.{ResolvedPages}
 use Rattle.pages.specs.Run.{run, run-front, run-none, run-same, run-then}
 use Rattle.rules.proofs.Formed.Shape.{size-most}
 use Rattle.rules.proofs.Blocks.Tidy.{resolve-named}
@@ -23,39 +25,30 @@ use Rattle.tables.proofs.FormedStore.{FormedStore}
 use Rattle.tables.specs.Calls.{pagesOf, storeOf}
 use Rattle.tables.specs.Packed.{unpack}
 use Rattle.tables.specs.Views.{entriesOf}
+use Rattle.tables.specs.declared.entries.Kept.{Kept}
 use Rattle.looking.specs.Read.{EntriesIn, ReadDone, byteAt, byteKept}
 
--- ---- a part of one page: n bytes from byte k of the file on
+-- ---- a part of one page: n bytes from byte k of the page on
 
-module _ (kept p : List ℕ) (k n : ℕ) (low : k % 512 + n ≤ 512) where
-  byte-in : (i : ℕ) → i < n → byteAt p (entriesOf kept (k / 512)) (k % 512 + i) ≡ byteKept kept p (k + i)
-  unfolding byteKept
-  byte-in i l =
-      let a : (k + i) / 512 ≡ k / 512 = omega arith in
-      let b : (k + i) % 512 ≡ k % 512 + i = omega arith in
-      rw (a, b)
+-- LAW: what is read by an entry e, where it is e′
+pub part-of : (p : List ℕ) (k n : ℕ) (l : List ℕ) (at : ℕ) (e e′ : Entry ℕ) → e′ ≡ e → run l at (λ i. byteAt p e′ (k + i)) n ≡ run l at (λ i. byteAt p e (k + i)) n
+part-of p k n l at e e′ q = ap (λ x. run l at (λ i. byteAt p x (k + i)) n) q
 
-  -- the entry e is kept for the page
-  module _ (e : Entry ℕ) (is : e ≡ entriesOf kept (k / 512)) (l : List ℕ) (at : ℕ) where
-    part-of : (e′ : Entry ℕ) → e ≡ e′ → run l at (λ i. byteAt p e′ (k % 512 + i)) n ≡ run l at (λ i. byteKept kept p (k + i)) n
-    part-of e′ q = run-same l at _ _ n (λ i h. ap (λ x. byteAt p x (k % 512 + i)) (sym q ∙ is) ∙ byte-in i h)
+byte-in : (kept : List Kept) (p : List ℕ) (k n : ℕ) → k % 512 + n ≤ 512 → (i : ℕ) → i < n → byteAt p (entriesOf kept (k / 512)) (k % 512 + i) ≡ byteKept kept p (k + i)
+unfolding byteKept
+byte-in kept p k n low i l =
+    let a : (k + i) / 512 ≡ k / 512 = omega arith in
+    let b : (k + i) % 512 ≡ k % 512 + i = omega arith in
+    rw (a, b)
 
-    pub part-unmapped : e ≡ unmapped → run l at (λ i. 0) n ≡ run l at (λ i. byteKept kept p (k + i)) n
-    part-unmapped q = part-of unmapped q
-
-    pub part-hole : e ≡ hole → run l at (λ i. 0) n ≡ run l at (λ i. byteKept kept p (k + i)) n
-    part-hole q = part-of hole q
-
-    pub part-stored : (b : ℕ) → e ≡ stored b → run l at (λ i. pagesOf p b (k % 512 + i)) n ≡ run l at (λ i. byteKept kept p (k + i)) n
-    part-stored b q = part-of (stored b) q
-
--- LAW: m bytes more
-pub read-more : (kept p : List ℕ) (off : ℕ) (before now after : List ℕ) (done m : ℕ) → now ≡ run before 0 (λ i. byteKept kept p (off + i)) done
-    → after ≡ run now done (λ i. byteKept kept p (off + done + i)) m → after ≡ run before 0 (λ i. byteKept kept p (off + i)) (done + m)
-read-more kept p off before now after done m h e =
+-- LAW: m bytes more, of a page whose entry is e
+pub read-more : (kept : List Kept) (p : List ℕ) (off : ℕ) (before now after : List ℕ) (done m : ℕ) (e : Entry ℕ) → e ≡ entriesOf kept ((off + done) / 512) → (off + done) % 512 + m ≤ 512
+    → now ≡ run before 0 (λ i. byteKept kept p (off + i)) done → after ≡ run now done (λ i. byteAt p e ((off + done) % 512 + i)) m
+    → after ≡ run before 0 (λ i. byteKept kept p (off + i)) (done + m)
+read-more kept p off before now after done m e is low h a =
     let g : ℕ → ℕ = λ i. byteKept kept p (off + i) in
-    e
-    ∙ run-same now done (λ i. byteKept kept p (off + done + i)) (λ i. g (done + i)) m (λ i l. let q : off + done + i ≡ off + (done + i) = omega arith in ap (byteKept kept p) q)
+    a
+    ∙ run-same now done _ (λ i. g (done + i)) m (λ i l. ap (λ x. byteAt p x ((off + done) % 512 + i)) is ∙ byte-in kept p (off + done) m low i l ∙ (let q : off + done + i ≡ off + (done + i) = omega arith in ap (byteKept kept p) q))
     ∙ (λ i. run (h i) (sym (zero-add done) i) (λ j. g (done + j)) m)
     ∙ run-then before 0 g done m
 
@@ -73,16 +66,16 @@ pages-in off n h some = let a : off / 512 ≤ (off + n - 1) / 512 = omega arith 
 pub size-in : (t p : List ℕ) → FormedStore t p → (s f : ℕ) → sizeByReading (treeOf (unpack t .sets)) (unpack t .files f) s ≤ 32768
 size-in t p h s f = size-most (treeOf (unpack t .sets)) (unpack t .files f) (h .files-ok f .shape) s
 
-module _ (t p : List ℕ) (s f : ℕ) (ok : FormedStore t p) (first m : ℕ) (kept : List ℕ) (looks : ℕ) (r : RangeResolved (unpack t) f s first m kept looks) where
+module _ (t p : List ℕ) (s f : ℕ) (ok : FormedStore t p) (first m : ℕ) (x : ResolvedPages) (r : RangeResolved (unpack t) f s first m x) where
   -- LAW: what the pages resolve to names blocks of the pages buffer
-  pub blocks-in : EntriesIn kept p
+  pub blocks-in : EntriesIn (x .kept) p
   blocks-in = record {
     len = r .len;
     blocks = λ q b l e. test? (ltb q first)
-        (λ d. absurd (hole-not (sym (r .others q l (λ x y. let z = ltb-true q first d in omega arith)) ∙ e)))
+        (λ d. absurd (hole-not (sym (r .others q l (λ v w. let z = ltb-true q first d in omega arith)) ∙ e)))
         (λ d. test? (ltb q (first + m))
         (λ c. named q b (sym (r .found q (ltb-false q first d) (ltb-true q (first + m) c)) ∙ e))
-        (λ c. absurd (hole-not (sym (r .others q l (λ x y. let z = ltb-false q (first + m) c in omega arith)) ∙ e))));
+        (λ c. absurd (hole-not (sym (r .others q l (λ v w. let z = ltb-false q (first + m) c in omega arith)) ∙ e))));
   }
     where
       isHole : Entry ℕ → Type 0
@@ -95,8 +88,8 @@ module _ (t p : List ℕ) (s f : ℕ) (ok : FormedStore t p) (first m : ℕ) (ke
 
       named : (q b : ℕ) → resolve (treeOf (unpack t .sets)) (unpack t .files f) s q ≡ stored b → b * 512 + 512 ≤ length p
       named q b e =
-          let x = resolve-named (treeOf (unpack t .sets)) (unpack t .files f) s q b e in
-          let u = ok .blocks-ok .used f (x .0) q b (x .1) in
+          let n = resolve-named (treeOf (unpack t .sets)) (unpack t .files f) s q b e in
+          let u = ok .blocks-ok .used f (n .0) q b (n .1) in
           omega (arith, u .below, ok .pages)
 
   byte-of : (e : Entry ℕ) (i : ℕ) → byteAt p e i ≡ pageOf real (storeOf t p .memory) e i
@@ -106,7 +99,7 @@ module _ (t p : List ℕ) (s f : ℕ) (ok : FormedStore t p) (first m : ℕ) (ke
   byte-of (stored b) i = refl
 
   -- a byte of the pages
-  byte-read : (k : ℕ) → first ≤ k / 512 → k / 512 < first + m → byteKept kept p k ≡ byteByReading (storeOf t p) s f k
+  byte-read : (k : ℕ) → first ≤ k / 512 → k / 512 < first + m → byteKept (x .kept) p k ≡ byteByReading (storeOf t p) s f k
   unfolding byteKept byteByReading
   byte-read k a b = ap (λ e. byteAt p e (k % 512)) (r .found (k / 512) a b) ∙ byte-of (resolve (treeOf (unpack t .sets)) (unpack t .files f) s (k / 512)) (k % 512)
 
@@ -142,16 +135,16 @@ read-none t p s f off n l e z =
     }
 
 -- LAW: n bytes are read
-pub read-done : (t p : List ℕ) (s f off n : ℕ) (before after kept : List ℕ) (looks : ℕ) → FormedStore t p → n ≡ readCount (length before) off (sizeIn t s f) → (n ≡ 0 → ⊥)
-    → RangeResolved (unpack t) f s (off / 512) ((off + n - 1) / 512 - off / 512 + 1) kept looks → after ≡ run before 0 (λ i. byteKept kept p (off + i)) n
-    → ReadDone t p s f off before after n looks
+pub read-done : (t p : List ℕ) (s f off n : ℕ) (before after : List ℕ) (x : ResolvedPages) → FormedStore t p → n ≡ readCount (length before) off (sizeIn t s f) → (n ≡ 0 → ⊥)
+    → RangeResolved (unpack t) f s (off / 512) ((off + n - 1) / 512 - off / 512 + 1) x → after ≡ run before 0 (λ i. byteKept (x .kept) p (off + i)) n
+    → ReadDone t p s f off before after n (x .looks)
 unfolding readInto
-read-done t p s f off n before after kept looks ok e z r h =
+read-done t p s f off n before after x ok e z r h =
     let g : ℕ → ℕ = λ i. byteByReading (storeOf t p) s f (off + i) in
     record {
-      filled = h ∙ run-same before 0 (λ i. byteKept kept p (off + i)) g n (λ i l. byte-read t p s f ok _ _ kept looks r (off + i) (omega arith) (omega arith))
+      filled = h ∙ run-same before 0 (λ i. byteKept (x .kept) p (off + i)) g n (λ i l. byte-read t p s f ok _ _ x r (off + i) (omega arith) (omega arith))
           ∙ run-front before g n (omega arith) ∙ ap (λ k. tab k g ++ drop k before) e;
       counted = e;
-      looked = subst (λ k. looks ≤ k * suc (unpack t .sets s .level)) (sym (count-touched off n z))
-          (let a : unpack t .sets s .level + 1 ≡ suc (unpack t .sets s .level) = omega arith in rw a at (r .looked));
+      looked = subst (λ k. x .looks ≤ k * suc (unpack t .sets s .level)) (sym (count-touched off n z))
+          (let a : unpack t .sets s .level + 1 ≡ suc (unpack t .sets s .level) = omega arith in rw a at (range-looks _ _ _ _ _ _ r));
     }

@@ -11,6 +11,7 @@ use Rattle.rules.specs.State.{Entry, hole, pageBytes, pageCount, stored, treeOf
 use Rattle.tables.specs.Calls.{pagesOf, storeOf}
 use Rattle.tables.specs.Packed.{unpack}
 use Rattle.tables.specs.Views.{entriesOf}
+use Rattle.tables.specs.declared.entries.Kept.{Kept}
 
 -- file f of set s is read from byte off on; the buffer holds `before`, and then `after`
 pub record ReadDone (t p : List ℕ) (s f off : ℕ) (before after : List ℕ) (bytes looks : ℕ) : Type 0 where
@@ -28,10 +29,10 @@ byteAt p hole i = 0
 byteAt p (stored b) i = pagesOf p b i
 
 -- byte i of a file, where the entries of its pages are kept
-unfoldable pub byteKept : List ℕ → List ℕ → ℕ → ℕ
+unfoldable pub byteKept : List Kept → List ℕ → ℕ → ℕ
 byteKept kept p i = byteAt p (entriesOf kept (i / pageBytes)) (i % pageBytes)
 
 -- the entries that are kept name blocks of the pages p
-pub record EntriesIn (kept p : List ℕ) : Type 0 where
+pub record EntriesIn (kept : List Kept) (p : List ℕ) : Type 0 where
   pub len : length kept ≡ pageCount
   pub blocks : (q b : ℕ) → q < pageCount → entriesOf kept q ≡ stored b → b * pageBytes + pageBytes ≤ length p

@@ -1,17 +1,18 @@
 // Reading a file: an accepted read. Its size by reading is `maps::reading::size_of`, the free blocks are
 // `tables::header::free_blocks`.
 ghost use mathlib.Core.Path.{_≡_};
-ghost use Prim.Native.Nat.{_+_, _%_, _≤_, _<_};
+ghost use Prim.Native.Nat.{ℕ, _*_, _+_, _%_, _≤_, _<_};
 ghost use lib.ListN.{length};
 ghost use Rattle.rules.specs.Calls.{readCount};
+ghost use Rattle.rules.specs.State.{stored};
+ghost use Rattle.tables.specs.Meaning.{keptMeant};
 ghost use Rattle.tables.proofs.FormedStore.{FormedStore};
 ghost use Rattle.pages.specs.Run.{run};
-ghost use Rattle.looking.specs.Read.{EntriesIn, ReadDone, byteKept};
+ghost use Rattle.looking.specs.Read.{EntriesIn, ReadDone, byteAt, byteKept};
 use maps::reading;
 use maps::resolving;
-use tables::entries;
 use tables::entries::Entry;
-use tables::entries::Page;
+use tables::entries::Kept;
 
 // "Read: bytes, maps looked at".
 pub struct ReadCounts {
@@ -29,13 +30,13 @@ fn read_count(n: usize, off: usize, size: usize) -> usize
     pages::smaller(n, size - off)
 }
 
-// Reads n bytes of one page, from byte `from` of the file on, to the places of the buffer from `at` on; the entries of the
-// file's pages are kept.
-fn read_part(p: &[u8], kept: &[u16; 64], from: usize, buffer: &mut [u8], at: usize, n: usize)
-    requires { ⌜ EntriesIn (now kept) (now p) × (from < 32768) × (from % 512 + n ≤ 512) × (at + n ≤ length (now buffer)) ⌝ }
-    ensures { λ _. ⌜ now (buffer .exit) ≡ run (now (buffer .entry)) at (λ i. byteKept (now (kept .entry)) (now (p .entry)) (from + i)) n ⌝ }
+// Reads n bytes of one page, from byte `from` of the file on, to the places of the buffer from `at` on; the page's entry is
+// kept.
+fn read_part(p: &[u8], kept: Kept, from: usize, buffer: &mut [u8], at: usize, n: usize)
+    requires { ⌜ ((b : ℕ) → keptMeant kept ≡ stored b → b * 512 + 512 ≤ length (now p)) × (from % 512 + n ≤ 512) × (at + n ≤ length (now buffer)) ⌝ }
+    ensures { λ _. ⌜ now (buffer .exit) ≡ run (now (buffer .entry)) at (λ i. byteAt (now (p .entry)) (keptMeant kept) (from % 512 + i)) n ⌝ }
 {
-    let e = entries::kept_entry(kept, Page::new(from / 512));
+    let e = kept.entry();
     match e {
         Entry::Unmapped => pages::zero_bytes(buffer, at, n),
         Entry::Hole => pages::zero_bytes(buffer, at, n),
@@ -43,15 +44,18 @@ fn read_part(p: &[u8], kept: &[u16; 64], from: usize, buffer: &mut [u8], at: usi
     }
 }
 
-// Reads n bytes of the file from byte `off` on to the buffer's front, page by page.
-fn read_pages(p: &[u8], kept: &[u16; 64], off: usize, n: usize, buffer: &mut [u8])
-    requires { ⌜ EntriesIn (now kept) (now p) × (off + n ≤ 32768) × (n ≤ length (now buffer)) ⌝ }
-    ensures { λ _. ⌜ now (buffer .exit) ≡ run (now (buffer .entry)) 0 (λ i. byteKept (now (kept .entry)) (now (p .entry)) (off + i)) n ⌝ }
+// Reads n bytes of the file from byte `off` on to the buffer's front, page by page; the entries of the file's pages are kept.
+fn read_pages(p: &[u8], kept: [Kept; 64], off: usize, n: usize, buffer: &mut [u8])
+    requires { ⌜ EntriesIn kept (now p) × (off + n ≤ 32768) × (n ≤ length (now buffer)) ⌝ }
+    ensures { λ _. ⌜ now (buffer .exit) ≡ run (now (buffer .entry)) 0 (λ i. byteKept kept (now (p .entry)) (off + i)) n ⌝ }
 {
     let mut done = 0;
     while done < n {
-        let m = pages::smaller(512 - (off + done) % 512, n - done);
-        read_part(p, kept, off + done, buffer, done, m);
+        let from = off + done;
+        let m = pages::smaller(512 - from % 512, n - done);
+        let q = from / 512;
+        let e = kept[q];
+        read_part(p, e, from, buffer, done, m);
         done += m;
     }
 }
@@ -74,11 +78,11 @@ pub fn read_file(
     }
     let first = off / 512;
     let last = (off + n - 1) / 512;
-    let mut kept = entries::all_holes();
-    let looks = resolving::resolve_range(t, f, s, first, last - first + 1, &mut kept);
-    read_pages(p, &kept, off, n, buffer);
+    let r = resolving::resolve_range(t, f, s, first, last - first + 1);
+    let kept = r.kept;
+    read_pages(p, kept, off, n, buffer);
     ReadCounts {
         bytes: n as u32,
-        looks: looks,
+        looks: r.looks,
     }
 }

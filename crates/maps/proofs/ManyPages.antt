@@ -1,41 +1,44 @@
--- Many pages resolved at once: one entry more is kept, those that a map does not leave unmapped, and the way up. Assumes nothing.
-use mathlib.Core.Bool.{_&&_, cond, false, not, true, true≢false}
+-- Many pages resolved at once: one entry more is kept, those that a map leaves unmapped, the way up, and the maps looked at. Assumes nothing.
+use mathlib.Core.Bool.{_&&_, Bool, cond, false, not, true, true≢false}
 use mathlib.Core.List.{List}
 use mathlib.Core.Path.{ap, ap₂, refl, subst, sym, _∙_, _≡_}
-use Prim.Native.Nat.{_*_, _+_, _-_, _<_, _^_, ℕ, _≤_}
-use native.Mathlib.Nat.{mul-le-mul-right}
+use Prim.Native.Nat.{_*_, _+_, _-_, _<_, _^_, suc, zero, ℕ, _≤_}
 use native.Mathlib.Omega.{arith}
 use lib.Bits.{bitAnd}
 use lib.Count.{trailingZeros}
+use lib.Dec.{ltb}
 use lib.ListN.{length}
-use Rattle.base.specs.Count.{count, count-fewer, count-le}
-use Rattle.base.specs.Logic.{and-false, and-left, and-true, same?, test?}
+use borrow.Author.Tests.{ltb-false, ltb-true}
+use Rattle.base.specs.Count.{count, sum}
+use Rattle.base.specs.Logic.{and-true, same?, test?}
 use Rattle.base.specs.Update.{upd, upd-other, upd-same}
-use Rattle.masks.proofs.MaskPages.{and-pages, lowest-gone, lowest-others, lowest-page, no-pages, not-pages, range-count}
+use Rattle.masks.proofs.MaskPages.{and-pages, lowest-gone, lowest-others, lowest-page, no-pages, not-pages}
 use Rattle.masks.proofs.PageMasks.{mask-page}
 use Rattle.masks.specs.Pages.{IsRange, pageMask, pages}
-use Rattle.packing.specs.Bitmap.{number-lt}
+use Rattle.rules.proofs.Blocks.Sums.{sum-zero}
 use Rattle.rules.proofs.Steps.States.{unmapped-is}
 use Rattle.rules.specs.State.{Entry, Tables, hole, isUnmapped, unmapped}
 use Rattle.tables.proofs.KeptEntries.{all-holes}
 use Rattle.tables.specs.Views.{allHoles, entriesOf}
-use Rattle.maps.proofs.Steps.{resolve-above, resolve-here, resolve-level, resolve-low}
-use Rattle.maps.specs.ManyPages.{EntriesKept, MappedKept, PagesResolved, RangeResolved}
-use Rattle.maps.specs.Upward.{resolveFrom}
+use Rattle.tables.specs.declared.entries.Kept.{Kept}
+use Rattle.maps.proofs.Steps.{looks-above, looks-here, looks-low, looks-most, resolve-above, resolve-here, resolve-level, resolve-low}
+use Rattle.maps.specs.ManyPages.{AllMapped, EntriesKept, PagesResolved, RangeResolved, UnmappedIn}
+use Rattle.maps.specs.Upward.{looksFrom, resolveFrom}
+use Rattle.maps.specs.declared.resolving.ResolvedPages.{ResolvedPages}
 
 -- ---- the entries of a mask's pages, one by one
 
 -- the pages left of m are to be kept yet
-pub record KeptSoFar (m : ℕ) (map : ℕ → Entry ℕ) (l₀ l : List ℕ) (left : ℕ) : Type 0 where
+pub record KeptSoFar (m : ℕ) (map : ℕ → Entry ℕ) (l₀ l : List Kept) (left : ℕ) : Type 0 where
   pub len : length l ≡ 64
   pub entries : (p : ℕ) → p < 64 → cond (pages left p) (map p) (entriesOf l p) ≡ cond (pages m p) (map p) (entriesOf l₀ p)
 
-pub kept-start : (m : ℕ) (map : ℕ → Entry ℕ) (l : List ℕ) → length l ≡ 64 → KeptSoFar m map l l m
+pub kept-start : (m : ℕ) (map : ℕ → Entry ℕ) (l : List Kept) → length l ≡ 64 → KeptSoFar m map l l m
 kept-start m map l h = record { len = h; entries = λ p q. refl }
 
-module _ (m : ℕ) (map : ℕ → Entry ℕ) (l₀ l : List ℕ) (left : ℕ) (inv : KeptSoFar m map l₀ l left) where
+module _ (m : ℕ) (map : ℕ → Entry ℕ) (l₀ l : List Kept) (left : ℕ) (inv : KeptSoFar m map l₀ l left) where
   -- LAW: one page more, that of the lowest bit
-  pub kept-more : (l′ : List ℕ) (k q : ℕ) → 0 < left → left < 2 ^ 64 → k ≡ trailingZeros 64 left → q ≡ 63 - k → entriesOf l′ ≡ upd (entriesOf l) q (map q) → length l′ ≡ 64
+  pub kept-more : (l′ : List Kept) (k q : ℕ) → 0 < left → left < 2 ^ 64 → k ≡ trailingZeros 64 left → q ≡ 63 - k → entriesOf l′ ≡ upd (entriesOf l) q (map q) → length l′ ≡ 64
       → KeptSoFar m map l₀ l′ (bitAnd left (left - 1))
   kept-more l′ k q h lt z eq e len = record { len = len; entries = go }
     where
@@ -54,123 +57,165 @@ module _ (m : ℕ) (map : ℕ → Entry ℕ) (l₀ l : List ℕ) (left : ℕ) (i
   pub kept-all : left ≡ 0 → EntriesKept m map l₀ l
   kept-all e = record { len = inv .len; entries = λ p h. sym (ap (λ b. cond b (map p) (entriesOf l p)) (no-pages left p e)) ∙ inv .entries p h }
 
--- ---- those that the map does not leave unmapped
+-- ---- those that the map leaves unmapped
 
 -- LAW: every page is unmapped
-pub mapped-none : (m : ℕ) (map : ℕ → Entry ℕ) (l : List ℕ) → length l ≡ 64 → ((p : ℕ) → map p ≡ unmapped) → MappedKept m map l l m
-mapped-none m map l h u = record {
-  len = h;
-  entries = λ p q. sym (ap (λ b. cond b (map p) (entriesOf l p)) (ap (λ e. pages m p && not (isUnmapped e)) (u p) ∙ and-false (pages m p)));
-  rest-is = λ p q. sym (ap (λ e. pages m p && isUnmapped e) (u p) ∙ and-true (pages m p));
-}
+pub unmapped-all : (m : ℕ) (map : ℕ → Entry ℕ) → m < 2 ^ 64 → ((p : ℕ) → map p ≡ unmapped) → UnmappedIn m map m
+unmapped-all m map h u = record { below = h; rest-is = λ p q. sym (ap (λ e. pages m p && isUnmapped e) (u p) ∙ and-true (pages m p)) }
 
 -- LAW: by the mask of the unmapped pages
-pub mapped-kept : (m u : ℕ) (map : ℕ → Entry ℕ) (l l′ : List ℕ) → u ≡ pageMask isUnmapped map → EntriesKept (bitAnd m ((2 ^ 64 - 1) - u)) map l l′
-    → MappedKept m map l l′ (bitAnd m u)
-mapped-kept m u map l l′ e k = record {
-  len = k .len;
-  entries = λ p h. k .entries p h ∙ ap (λ b. cond b (map p) (entriesOf l p)) (and-pages m ((2 ^ 64 - 1) - u) p ∙ ap (λ b. pages m p && b) (not-pages u p u-lt h ∙ ap not (u-page p h)));
-  rest-is = λ p h. and-pages m u p ∙ ap (λ b. pages m p && b) (u-page p h);
-}
-  where
-    u-lt : u < 2 ^ 64
-    u-lt = subst (λ x. x < 2 ^ 64) (sym e) (number-lt (λ p. isUnmapped (map p)) 0 64)
+pub unmapped-some : (m u : ℕ) (map : ℕ → Entry ℕ) → u ≡ pageMask isUnmapped map → bitAnd m u < 2 ^ 64 → UnmappedIn m map (bitAnd m u)
+unmapped-some m u map e h = record { below = h; rest-is = λ p q. and-pages m u p ∙ ap (λ b. pages m p && b) (ap (λ x. pages x p) e ∙ mask-page isUnmapped map p q) }
 
-    u-page : (p : ℕ) → p < 64 → pages u p ≡ isUnmapped (map p)
-    u-page p h = ap (λ x. pages x p) e ∙ mask-page isUnmapped map p h
+-- LAW: no page is mapped in what is no set
+pub kept-none : (m : ℕ) (map : ℕ → Entry ℕ) (l : List Kept) → length l ≡ 64 → ((p : ℕ) → map p ≡ unmapped) → AllMapped m map → EntriesKept m map l l
+kept-none m map l h u a = record {
+  len = h;
+  entries = λ p q. test? (pages m p)
+      (λ e. absurd (true≢false (ap isUnmapped (sym (u p)) ∙ a p q e)))
+      (λ e. sym (ap (λ b. cond b (map p) (entriesOf l p)) e));
+}
+
+-- ---- the maps looked at, page by page
+
+sum-count : (n : ℕ) (f : ℕ → Bool) (g h : ℕ → ℕ) → ((p : ℕ) → p < n → cond (f p) 1 0 + g p ≡ h p) → count n f + sum n g ≡ sum n h
+unfolding count sum
+sum-count zero f g h e = refl
+sum-count (suc n) f g h e = let a = e n (omega arith) in let b = sum-count n f g h (λ p l. e p (omega arith)) in omega arith
+
+count-sum : (n : ℕ) (f : ℕ → Bool) (h : ℕ → ℕ) → ((p : ℕ) → p < n → cond (f p) 1 0 ≡ h p) → count n f ≡ sum n h
+unfolding count sum
+count-sum zero f h e = refl
+count-sum (suc n) f h e = let a = e n (omega arith) in let b = count-sum n f h (λ p l. e p (omega arith)) in omega arith
+
+sum-most : (n b : ℕ) (g : ℕ → ℕ) → ((p : ℕ) → g p ≤ b) → sum n g ≤ n * b
+unfolding sum
+sum-most zero b g h = omega arith
+sum-most (suc n) b g h = let a = h n in let c = sum-most n b g h in omega arith
+
+-- a sum of a range
+sum-range : (k : ℕ) (first n : ℕ) (g h : ℕ → ℕ) → first + n ≤ k → ((i : ℕ) → i < n → g (first + i) ≡ h i) → ((p : ℕ) → p < k → (first ≤ p → p < first + n → ⊥) → g p ≡ 0) → sum k g ≡ sum n h
+unfolding sum
+sum-range zero first n g h l e o = let z : n ≡ 0 = omega arith in rw z
+sum-range (suc k) first zero g h l e o = sum-zero (suc k) g (λ p q. o p q (λ a b. omega arith))
+sum-range (suc k) first (suc n) g h l e o = test? (ltb k (first + suc n))
+    (λ d. let q : k ≡ first + n = let x = ltb-true k (first + suc n) d in omega arith in
+    let a : g k ≡ h n = ap g q ∙ e n (omega arith) in
+    let b = sum-range k first n g h (omega arith) (λ i m. e i (omega arith)) (λ p m x. o p (omega arith) (λ u v. x u (omega arith))) in omega arith)
+    (λ d. let x = ltb-false k (first + suc n) d in
+    let a = o k (omega arith) (λ u v. omega arith) in
+    let b = sum-range k first (suc n) g h (omega arith) e (λ p m y. o p (omega arith) y) in
+    rw a (omega (arith, b)))
 
 -- ---- the way up
 
-module _ (tb : Tables) (f s level m : ℕ) (l l′ : List ℕ) (rest looks : ℕ) (h : MappedKept m (tb .files f s .map) l l′ rest) (n : looks ≡ count 64 (pages m)) where
+module _ (m : ℕ) (map : ℕ → Entry ℕ) (rest mapped : ℕ) (u : UnmappedIn m map rest) (em : mapped ≡ bitAnd m ((2 ^ 64 - 1) - rest)) where
+  mapped-is : (p : ℕ) → p < 64 → pages mapped p ≡ (pages m p && not (pages rest p))
+  mapped-is p q = ap (λ x. pages x p) em ∙ and-pages m ((2 ^ 64 - 1) - rest) p ∙ ap (λ b. pages m p && b) (not-pages rest p (u .below) q)
+
+  mapped-here : (p : ℕ) (a b : Bool) → p < 64 → pages m p ≡ a → isUnmapped (map p) ≡ b → pages mapped p ≡ (a && not (a && b))
+  mapped-here p a b q on d = mapped-is p q ∙ ap₂ (λ x y. x && not y) on (u .rest-is p q ∙ ap₂ _&&_ on d)
+
+  -- LAW: what is not left is mapped
+  pub all-mapped : AllMapped mapped map
+  all-mapped p q on = test? (isUnmapped (map p))
+      (λ d. test? (pages m p)
+      (λ e. absurd (true≢false (sym on ∙ mapped-here p true true q e d)))
+      (λ e. absurd (true≢false (sym on ∙ mapped-here p false true q e d))))
+      (λ d. d)
+
+module _ (tb : Tables) (f s level m rest mapped : ℕ) (l₀ l : List Kept) (u : UnmappedIn m (tb .files f s .map) rest) (em : mapped ≡ bitAnd m ((2 ^ 64 - 1) - rest))
+    (k : EntriesKept mapped (tb .files f s .map) l₀ l) where
   abbrev map : ℕ → Entry ℕ
   map = tb .files f s .map
 
-  -- a page that is mapped here
-  here : (p : ℕ) → p < 64 → pages m p ≡ true → isUnmapped (map p) ≡ false → entriesOf l′ p ≡ resolveFrom tb f p s level
-  here p q on e =
-      h .entries p q ∙ ap₂ (λ a b. cond (a && not b) (map p) (entriesOf l p)) on e ∙ resolve-here tb f p s level (map p) refl e
-
-  -- a page that is not
-  stays : (p : ℕ) → p < 64 → (pages m p && not (isUnmapped (map p))) ≡ false → entriesOf l′ p ≡ entriesOf l p
-  stays p q e = h .entries p q ∙ ap (λ b. cond b (map p) (entriesOf l p)) e
-
-  stays-out : (p : ℕ) → p < 64 → pages m p ≡ false → entriesOf l′ p ≡ entriesOf l p
-  stays-out p q e = stays p q (ap (λ b. b && not (isUnmapped (map p))) e)
-
-  stays-up : (p : ℕ) → p < 64 → pages m p ≡ true → isUnmapped (map p) ≡ true → entriesOf l′ p ≡ entriesOf l p
-  stays-up p q on e = stays p q (ap₂ (λ a b. a && not b) on e)
-
-  rest-up : (p : ℕ) → p < 64 → pages m p ≡ true → isUnmapped (map p) ≡ true → pages rest p ≡ true
-  rest-up p q on e = h .rest-is p q ∙ ap₂ _&&_ on e
-
-  few-here : looks ≤ 64
-  few-here = let z = count-le 64 (pages m) in omega arith
-
-  -- LAW: no page is unmapped here
-  pub resolved-here : rest ≡ 0 → PagesResolved tb f s level m l l′ looks
-  resolved-here e = record {
-    len = h .len;
-    found = λ p q on o. test? (isUnmapped (map p))
-        (λ d. absurd (true≢false (sym (rest-up p q on d) ∙ no-pages rest p e)))
-        (λ d. here p q on d);
-    others = stays-out;
-    looked = subst (λ x. x ≤ count 64 (pages m) * (level + 1)) (sym n) (le-mul (count 64 (pages m)) level);
-    few = omega (arith, few-here);
-  }
+  -- what is found, where what was kept is right for the pages that are not mapped here
+  found-all : ((p : ℕ) → p < 64 → pages m p ≡ false → entriesOf l₀ p ≡ hole) → ((p : ℕ) → p < 64 → pages m p ≡ true → isUnmapped (map p) ≡ true → entriesOf l₀ p ≡ resolveFrom tb f p s level)
+      → (p : ℕ) → p < 64 → entriesOf l p ≡ cond (pages m p) (resolveFrom tb f p s level) hole
+  found-all out up p q = test? (pages m p)
+      (λ on. test? (isUnmapped (map p))
+      (λ d. here true true on d ∙ up p q on d ∙ sym (ap (λ b. cond b (resolveFrom tb f p s level) hole) on))
+      (λ d. here true false on d ∙ resolve-here tb f p s level (map p) refl d ∙ sym (ap (λ b. cond b (resolveFrom tb f p s level) hole) on)))
+      (λ off. here false (isUnmapped (map p)) off refl ∙ out p q off ∙ sym (ap (λ b. cond b (resolveFrom tb f p s level) hole) off))
     where
-      le-mul : (a b : ℕ) → a ≤ a * (b + 1)
-      le-mul a b = omega arith
+      here : (a b : Bool) → pages m p ≡ a → isUnmapped (map p) ≡ b → entriesOf l p ≡ cond (a && not (a && b)) (map p) (entriesOf l₀ p)
+      here a b on d = k .entries p q ∙ ap (λ x. cond x (map p) (entriesOf l₀ p)) (mapped-here m map rest mapped u em p a b q on d)
 
-  -- LAW: there is no parent to go to
-  pub resolved-low : level ≡ 0 → PagesResolved tb f s level m l l′ looks
-  resolved-low e = record {
-    len = h .len;
-    found = λ p q on o. test? (isUnmapped (map p))
-        (λ d. stays-up p q on d ∙ o ∙ sym (resolve-low tb f p s level e (unmapped-is (map p) d)))
-        (λ d. here p q on d);
-    others = stays-out;
-    looked = subst (λ x. looks ≤ count 64 (pages m) * (x + 1)) (sym e) (omega arith);
-    few = omega (arith, few-here);
-  }
+  module _ (looks : ℕ) (n : looks ≡ count 64 (pages m)) where
+    -- one look for each page
+    looked-here : ((p : ℕ) → p < 64 → pages m p ≡ true → looksFrom tb f p s level ≡ 1) → looks ≡ sum 64 (λ p. cond (pages m p) (looksFrom tb f p s level) 0)
+    looked-here one = n ∙ count-sum 64 (pages m) _ (λ p q. test? (pages m p)
+        (λ on. ap (λ b. cond b 1 0) on ∙ sym (ap (λ b. cond b (looksFrom tb f p s level) 0) on ∙ one p q on))
+        (λ off. ap (λ b. cond b 1 0) off ∙ sym (ap (λ b. cond b (looksFrom tb f p s level) 0) off)))
 
-  -- LAW: the rest is resolved from the parent
-  pub resolved-above : (above : ℕ) (l″ : List ℕ) (up : ℕ) → (level ≡ 0 → ⊥) → above ≡ tb .sets s .parent → PagesResolved tb f above (level - 1) rest l′ l″ up
-      → PagesResolved tb f s level m l l″ (looks + up)
-  resolved-above above l″ up pos e r = record {
-    len = r .len;
-    found = λ p q on o. test? (isUnmapped (map p))
-        (λ d. r .found p q (rest-up p q on d) (stays-up p q on d ∙ o) ∙ ap (λ x. resolveFrom tb f p x (level - 1)) e
-        ∙ sym (resolve-above tb f p s level pos (unmapped-is (map p) d)))
-        (λ d. r .others p q (h .rest-is p q ∙ ap₂ _&&_ on d) ∙ here p q on d);
-    others = λ p q off. r .others p q (h .rest-is p q ∙ ap (λ b. b && isUnmapped (map p)) off) ∙ stays-out p q off;
-    looked = more;
-    few = omega (arith, few-here, r .few);
-  }
-    where
-      fewer : count 64 (pages rest) ≤ count 64 (pages m)
-      fewer = count-fewer 64 (pages m) (pages rest) (λ p q on. and-left (pages m p) (isUnmapped (map p)) (sym (h .rest-is p q) ∙ on))
+    module _ (holes : l₀ ≡ allHoles) where
+      hole-at : (p : ℕ) → p < 64 → entriesOf l₀ p ≡ hole
+      hole-at p q = ap (λ x. entriesOf x p) holes ∙ all-holes p q
 
-      times : (a b c d k : ℕ) → a ≤ b → c ≤ a * (k - 1 + 1) → d ≡ b → (k ≡ 0 → ⊥) → d + c ≤ b * (k + 1)
-      times a b c d k x y z w =
-          let e : k - 1 + 1 ≡ k = omega arith in
-          let y′ : c ≤ a * k = rw e at y in
-          omega (arith, mul-le-mul-right k x)
+      -- LAW: no page is unmapped here
+      pub resolved-here : rest ≡ 0 → PagesResolved tb f s level m (record { kept = l; looks = looks })
+      resolved-here e = record {
+        len = k .len;
+        found = found-all (λ p q off. hole-at p q) (λ p q on d. absurd (none p q on d));
+        looked = looked-here (λ p q on. test? (isUnmapped (map p)) (λ d. absurd (none p q on d)) (λ d. looks-here tb f p s level d));
+      }
+        where
+          none : (p : ℕ) → p < 64 → pages m p ≡ true → isUnmapped (map p) ≡ true → ⊥
+          none p q on d = true≢false (sym (u .rest-is p q ∙ ap₂ _&&_ on d) ∙ no-pages rest p e)
 
-      more : looks + up ≤ count 64 (pages m) * (level + 1)
-      more = times (count 64 (pages rest)) (count 64 (pages m)) up looks level fewer (r .looked) n pos
+      -- LAW: there is no parent to go to
+      pub resolved-low : level ≡ 0 → PagesResolved tb f s level m (record { kept = l; looks = looks })
+      resolved-low e = record {
+        len = k .len;
+        found = found-all (λ p q off. hole-at p q) (λ p q on d. hole-at p q ∙ sym (resolve-low tb f p s level e (unmapped-is (map p) d)));
+        looked = looked-here (λ p q on. looks-low tb f p s level e);
+      }
+
+    -- LAW: the rest is resolved from the parent
+    pub resolved-above : (above : ℕ) (up : ResolvedPages) → (level ≡ 0 → ⊥) → above ≡ tb .sets s .parent → l₀ ≡ up .kept → PagesResolved tb f above (level - 1) rest up
+        → PagesResolved tb f s level m (record { kept = l; looks = looks + up .looks })
+    resolved-above above up pos e el r = record {
+      len = k .len;
+      found = found-all
+          (λ p q off. from p q ∙ ap (λ b. cond b (resolveFrom tb f p above (level - 1)) hole) (u .rest-is p q ∙ ap (λ a. a && isUnmapped (map p)) off))
+          (λ p q on d. from p q ∙ ap (λ b. cond b (resolveFrom tb f p above (level - 1)) hole) (u .rest-is p q ∙ ap₂ _&&_ on d)
+          ∙ ap (λ x. resolveFrom tb f p x (level - 1)) e ∙ sym (resolve-above tb f p s level pos (unmapped-is (map p) d)));
+      looked = ap₂ _+_ n (r .looked) ∙ sum-count 64 (pages m) _ _ (λ p q. more p q);
+    }
+      where
+        from : (p : ℕ) → p < 64 → entriesOf l₀ p ≡ cond (pages rest p) (resolveFrom tb f p above (level - 1)) hole
+        from p q = ap (λ x. entriesOf x p) el ∙ r .found p q
+
+        more : (p : ℕ) → p < 64 → cond (pages m p) 1 0 + cond (pages rest p) (looksFrom tb f p above (level - 1)) 0 ≡ cond (pages m p) (looksFrom tb f p s level) 0
+        more p q = test? (pages m p)
+            (λ on. test? (isUnmapped (map p))
+            (λ d. ap₂ (λ a b. cond a 1 0 + cond b (looksFrom tb f p above (level - 1)) 0) on (u .rest-is p q ∙ ap₂ _&&_ on d)
+            ∙ (let a = looks-above tb f p s level pos (unmapped-is (map p) d) in let b : looksFrom tb f p above (level - 1) ≡ looksFrom tb f p (tb .sets s .parent) (level - 1) = ap (λ x. looksFrom tb f p x (level - 1)) e in
+            let z : 1 + looksFrom tb f p above (level - 1) ≡ looksFrom tb f p s level = omega arith in z)
+            ∙ sym (ap (λ b. cond b (looksFrom tb f p s level) 0) on))
+            (λ d. ap₂ (λ a b. cond a 1 0 + cond b (looksFrom tb f p above (level - 1)) 0) on (u .rest-is p q ∙ ap₂ _&&_ on d) ∙ sym (ap (λ b. cond b (looksFrom tb f p s level) 0) on ∙ looks-here tb f p s level d)))
+            (λ off. ap₂ (λ a b. cond a 1 0 + cond b (looksFrom tb f p above (level - 1)) 0) off (u .rest-is p q ∙ ap (λ a. a && isUnmapped (map p)) off) ∙ sym (ap (λ b. cond b (looksFrom tb f p s level) 0) off))
+
+-- LAW: at most 64 looks at each level
+pub few-looks : (tb : Tables) (f s level m : ℕ) (r : ResolvedPages) → PagesResolved tb f s level m r → r .looks ≤ 64 * (level + 1)
+few-looks tb f s level m r h = subst (λ x. x ≤ 64 * (level + 1)) (sym (h .looked)) (sum-most 64 (level + 1) _ (λ p. test? (pages m p)
+    (λ e. rw e (looks-most tb f p s level))
+    (λ e. rw e (omega arith))))
 
 -- ---- a range
 
--- LAW: from a set with its own level, in an array of holes
-pub range-resolved : (tb : Tables) (f s first n level m : ℕ) (l l′ : List ℕ) (looks : ℕ) → first + n ≤ 64 → level < 8 → level ≡ tb .sets s .level → IsRange m first n → l ≡ allHoles
-    → PagesResolved tb f s level m l l′ looks → RangeResolved tb f s first n l′ looks
-range-resolved tb f s first n level m l l′ looks fit low e r z h = record {
+-- LAW: from a set with its own level
+pub range-resolved : (tb : Tables) (f s first n level m : ℕ) (r : ResolvedPages) → first + n ≤ 64 → level ≡ tb .sets s .level → IsRange m first n
+    → PagesResolved tb f s level m r → RangeResolved tb f s first n r
+range-resolved tb f s first n level m r fit e x h = record {
   len = h .len;
-  found = λ p a b. h .found p (omega arith) (r .inside p a b) (holes p (omega arith)) ∙ resolve-level tb f p s level e;
-  others = λ p q o. h .others p q (r .outside p q o) ∙ holes p q;
-  looked = subst (λ x. looks ≤ n * (x + 1)) e (subst (λ x. looks ≤ x * (level + 1)) (range-count m first n r fit) (h .looked));
-  few = omega (arith, h .few);
+  found = λ p a b. h .found p (omega arith) ∙ ap (λ c. cond c (resolveFrom tb f p s level) hole) (x .inside p a b) ∙ resolve-level tb f p s level e;
+  others = λ p q o. h .found p q ∙ ap (λ c. cond c (resolveFrom tb f p s level) hole) (x .outside p q o);
+  looked = h .looked ∙ sum-range 64 first n _ _ fit
+      (λ i l. ap (λ c. cond c (looksFrom tb f (first + i) s level) 0) (x .inside (first + i) (omega arith) (omega arith)) ∙ ap (looksFrom tb f (first + i) s) e)
+      (λ p l o. ap (λ c. cond c (looksFrom tb f p s level) 0) (x .outside p l o));
 }
-  where
-    holes : (p : ℕ) → p < 64 → entriesOf l p ≡ hole
-    holes p q = ap (λ x. entriesOf x p) z ∙ all-holes p q
+
+-- LAW: "the maps looked at, at most pages read × (level + 1)"
+pub range-looks : (tb : Tables) (f s first n : ℕ) (r : ResolvedPages) → RangeResolved tb f s first n r → r .looks ≤ n * (tb .sets s .level + 1)
+range-looks tb f s first n r h = subst (λ x. x ≤ n * (tb .sets s .level + 1)) (sym (h .looked)) (sum-most n (tb .sets s .level + 1) _ (λ i. looks-most tb f (first + i) s (tb .sets s .level)))

@@ -53,7 +53,7 @@ fn among(w: u64) -> bool
 }
 
 // Is any page of the file unmapped? Four entries at a time.
-pub fn some_unmapped(t: &[u8], f: usize, s: usize) -> bool
+fn some_unmapped(t: &[u8], f: usize, s: usize) -> bool
     requires { ⌜ (length (now t) ≡ tableBytes) × (f < 16) × (s < 8) ⌝ }
     ensures { λ r. ⌜ r ≡ Reading.someUnmapped 64 (unpack (now (t .entry)) .files f s .map) ⌝ }
 {
@@ -70,7 +70,7 @@ pub fn some_unmapped(t: &[u8], f: usize, s: usize) -> bool
 
 // "an own or virgin file depends on the parent set's file as long as it has any unmapped page": a number from 8 on is no
 // set, and its files depend on none.
-pub fn dependent(t: &[u8], f: usize, s: usize) -> bool
+fn dependent(t: &[u8], f: usize, s: usize) -> bool
     requires { ⌜ (length (now t) ≡ tableBytes) × (f < 16) ⌝ }
     ensures { λ r. ⌜ r ≡ Reading.dependent (unpack (now (t .entry)) .files f s) ⌝ }
 {
@@ -85,7 +85,7 @@ pub fn dependent(t: &[u8], f: usize, s: usize) -> bool
 }
 
 // Is the file of set s marked when that of set c is?
-pub fn depends_on(t: &[u8], f: usize, c: usize, s: usize) -> bool
+fn depends_on(t: &[u8], f: usize, c: usize, s: usize) -> bool
     requires { ⌜ (length (now t) ≡ tableBytes) × (f < 16) × (s < 8) ⌝ }
     ensures { λ r. ⌜ r ≡ Reading.reaches (treeOf (unpack (now (t .entry)) .sets)) (unpack (now (t .entry)) .files f) c s ⌝ }
 {

@@ -66,7 +66,7 @@ pub fn parent_in(t: &[u8], s: usize) -> usize
 }
 
 // What a page is in set s, at most `level` parents up: one look for its own map, and one for each parent's that is gone to.
-pub fn resolve(t: &[u8], f: usize, page: Page, s: usize, level: usize) -> Resolved
+fn resolve(t: &[u8], f: usize, page: Page, s: usize, level: usize) -> Resolved
     requires { ⌜ (length (now t) ≡ tableBytes) × (f < 16) × (page .0 < 64) × (level < 8) ⌝ }
     ensures { λ r. ⌜ (entryMeant (r .entry) ≡ resolveFrom (unpack (now (t .entry))) f (page .0) s level) × (1 ≤ r .looks) × (r .looks ≤ level + 1) × (r .looks ≡ looksFrom (unpack (now (t .entry))) f (page .0) s level) ⌝ }
 {

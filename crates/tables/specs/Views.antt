@@ -1,19 +1,21 @@
 -- For the contracts of the code, not for a reader of document 01: tables whose words are well formed, one change of the state each, and what a change of the tables must show.
-use mathlib.Core.Bool.{Bool, cond, false, true}
+use mathlib.Core.Bool.{Bool, false, true}
 use mathlib.Core.List.{List}
 use mathlib.Core.Option.{some}
 use mathlib.Core.Path.{_≡_}
 use Prim.Native.Nat.{_%_, _+_, _<_, ℕ, _≤_}
-use lib.Dec.{ltb}
 use lib.ListN.{getD, length, replicate}
 use Rattle.base.specs.Search.{firstFree}
 use Rattle.base.specs.Update.{upd}
 use Rattle.packing.specs.Fields.{getField}
 use Rattle.rules.specs.Rules.{putEntry}
-use Rattle.rules.specs.State.{Entry, Files, SetRecord, State, Tables, fileCount, largestBlocks, pageCount, setCount, stored, unmapped}
+use Rattle.rules.specs.State.{Entry, Files, SetRecord, State, Tables, fileCount, largestBlocks, pageCount, setCount}
 use Rattle.rules.specs.Storage.{Memory, PageData}
-use Rattle.tables.specs.Layout.{entryWord, headWidths, headWord, headerWidths, headerWord, readEntry, setWidths, setWord, tableBytes}
+use Rattle.tables.specs.Layout.{entryWord, headWidths, headWord, headerWidths, headerWord, setWidths, setWord, tableBytes}
+use Rattle.tables.specs.Meaning.{keptMeant, pendingMeant}
 use Rattle.tables.specs.Packed.{entryFormed, unpack}
+use Rattle.tables.specs.declared.entries.Kept.{Kept}
+use Rattle.tables.specs.declared.entries.Pending.{Pending}
 
 -- zero fields are zero, no kind is 3, the block is 0 unless stored
 pub record PackedTables (t : List ℕ) : Type 0 where
@@ -77,19 +79,16 @@ pub record Took (t t′ : List ℕ) (b : ℕ) : Type 0 where
   pub unused : unpack t .bits b ≡ false
   pub turns : Turns t t′ (took b)
 
--- the blocks pending for pages, in an array of 64 numbers: one from 16,384 on means none
-abbrev pub pendingIn : ℕ → Entry ℕ
-pendingIn n = cond (ltb n 16384) (stored n) unmapped
+-- the blocks pending for 64 pages
+unfoldable pub pendingOf : List Pending → ℕ → Entry ℕ
+pendingOf l p = pendingMeant (getD l p (record { 0 = 65535 }))
 
-unfoldable pub pendingOf : List ℕ → ℕ → Entry ℕ
-pendingOf l p = pendingIn (getD l p 65535)
+unfoldable pub nonePending : List Pending
+nonePending = replicate 64 (record { 0 = 65535 })
 
-unfoldable pub nonePending : List ℕ
-nonePending = replicate 64 65535
+-- the entries that are kept for 64 pages
+unfoldable pub entriesOf : List Kept → ℕ → Entry ℕ
+entriesOf l p = keptMeant (getD l p (record { 0 = 0 }))
 
--- the entries of pages, in an array of 64 words
-unfoldable pub entriesOf : List ℕ → ℕ → Entry ℕ
-entriesOf l p = readEntry (getD l p 0)
-
-unfoldable pub allHoles : List ℕ
-allHoles = replicate 64 16384
+unfoldable pub allHoles : List Kept
+allHoles = replicate 64 (record { 0 = 16384 })

@@ -5,13 +5,12 @@ ghost use mathlib.Core.Bool.{false, not};
 ghost use Prim.Native.Nat.{_%_, _+_, _<_, _≤_};
 ghost use lib.ListN.{length};
 ghost use Rattle.base.specs.Count.{count};
-ghost use Rattle.base.specs.Update.{upd};
 ghost use Rattle.rules.specs.State.{isUnmapped, isStored, stored};
 ghost use Rattle.tables.specs.Layout.{tableBytes, readEntry, writeEntry};
 ghost use Rattle.tables.specs.Packed.{unpack};
 ghost use Rattle.tables.specs.OneReading.{blockFits};
-ghost use Rattle.tables.specs.Views.{PackedTables, Turns, putEntryIn, putBitIn, HeaderIn, Took, allHoles, entriesOf, pendingOf, nonePending};
-ghost use Rattle.tables.specs.Meaning.{entryMeant};
+ghost use Rattle.tables.specs.Views.{PackedTables, Turns, putEntryIn, putBitIn, HeaderIn, Took, allHoles, nonePending};
+ghost use Rattle.tables.specs.Meaning.{entryMeant, keptMeant, pendingMeant};
 use crate::header;
 use crate::places::BITMAP_AT;
 use crate::places::FILE_BYTES;
@@ -32,6 +31,12 @@ pub enum Entry {
     Hole,
     Stored(Block),
 }
+
+// The entry of a page as a map has it, kept undecoded: a hole, or made by a lookup in a map.
+pub struct Kept(u16);
+
+// The block that is pending for a page, or none: made of a block. A number from 16,384 on means none.
+pub struct Pending(u16);
 
 impl Page {
     pub fn new(n: usize) -> Page
@@ -147,56 +152,55 @@ pub fn release_block(t: &mut [u8], b: Block)
     bitmap::clear_bit(t, BITMAP_AT, b.0 as usize);
 }
 
-// No block is pending.
-pub fn none_pending() -> [u16; 64]
+impl Pending {
+    // Block b is pending.
+    pub fn of(b: Block) -> Pending
+        requires { ⌜ b .0 < 16384 ⌝ }
+        ensures { λ r. ⌜ pendingMeant r ≡ stored (b .0) ⌝ }
+    {
+        Pending(b.0)
+    }
+
+    // The block that is pending, as an entry; unmapped where there is none.
+    pub fn held(self) -> Entry
+        ensures { λ r. ⌜ entryMeant r ≡ pendingMeant self ⌝ }
+    {
+        let n = self.0;
+        if n < 16384 {
+            return Entry::Stored(Block(n));
+        }
+        Entry::Unmapped
+    }
+}
+
+impl Kept {
+    // The entry of a page of file f in set s.
+    pub fn at(t: &[u8], f: usize, s: usize, page: Page) -> Kept
+        requires { ⌜ (length (now t) ≡ tableBytes) × (f < 16) × (s < 8) × (page .0 < 64) ⌝ }
+        ensures { λ r. ⌜ keptMeant r ≡ unpack (now (t .entry)) .files f s .map (page .0) ⌝ }
+    {
+        Kept(words::read16(t, MAPS_AT + (s * 16 + f) * FILE_BYTES + page.0 * 2))
+    }
+
+    pub fn entry(self) -> Entry
+        ensures { λ r. ⌜ entryMeant r ≡ keptMeant self ⌝ }
+    {
+        decode(self.0)
+    }
+}
+
+// No block is pending for any page.
+pub fn none_pending() -> [Pending; 64]
     ensures { λ r. ⌜ r ≡ nonePending ⌝ }
 {
-    [65535; 64]
+    let none = Pending(65535);
+    [none; 64]
 }
 
-// Block b is pending for a page.
-pub fn hold(pending: &mut [u16; 64], page: Page, b: Block)
-    requires { ⌜ (page .0 < 64) × (length (now pending) ≡ 64) × (b .0 < 16384) ⌝ }
-    ensures { λ _. ⌜ (pendingOf (now (pending .exit)) ≡ upd (pendingOf (now (pending .entry))) (page .0) (stored (b .0))) × (length (now (pending .exit)) ≡ 64) ⌝ }
-{
-    let i = page.0;
-    pending[i] = b.0;
-}
-
-// The block that is pending for a page.
-pub fn held(pending: &[u16; 64], page: Page) -> Entry
-    requires { ⌜ (page .0 < 64) × (length (now pending) ≡ 64) ⌝ }
-    ensures { λ r. ⌜ entryMeant r ≡ pendingOf (now (pending .entry)) (page .0) ⌝ }
-{
-    let i = page.0;
-    let n = pending[i];
-    if n < 16384 {
-        return Entry::Stored(Block(n));
-    }
-    Entry::Unmapped
-}
-
-// An array of entries that are all holes.
-pub fn all_holes() -> [u16; 64]
+// A hole is kept for every page.
+pub fn all_holes() -> [Kept; 64]
     ensures { λ r. ⌜ r ≡ allHoles ⌝ }
 {
-    [16384; 64]
-}
-
-// Keeps the entry of a page of file f in set s.
-pub fn keep_entry(t: &[u8], f: usize, s: usize, page: Page, kept: &mut [u16; 64])
-    requires { ⌜ (length (now t) ≡ tableBytes) × (f < 16) × (s < 8) × (page .0 < 64) × (length (now kept) ≡ 64) ⌝ }
-    ensures { λ _. ⌜ (entriesOf (now (kept .exit)) ≡ upd (entriesOf (now (kept .entry))) (page .0) (unpack (now (t .entry)) .files f s .map (page .0))) × (length (now (kept .exit)) ≡ 64) ⌝ }
-{
-    let i = page.0;
-    kept[i] = words::read16(t, MAPS_AT + (s * 16 + f) * FILE_BYTES + i * 2);
-}
-
-// The entry that is kept for a page.
-pub fn kept_entry(kept: &[u16; 64], page: Page) -> Entry
-    requires { ⌜ (page .0 < 64) × (length (now kept) ≡ 64) ⌝ }
-    ensures { λ r. ⌜ entryMeant r ≡ entriesOf (now (kept .entry)) (page .0) ⌝ }
-{
-    let i = page.0;
-    decode(kept[i])
+    let hole = Kept(16384);
+    [hole; 64]
 }

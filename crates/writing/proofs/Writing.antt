@@ -21,10 +21,11 @@ use Rattle.tables.specs.Packed.{unpack}
 use Rattle.tables.specs.Views.{Turns, nonePending, pendingOf}
 use Rattle.changing.specs.declared.Totals.{Totals}
 use Rattle.copying.specs.declared.giving.Counts.{Counts}
+use Rattle.tables.specs.declared.entries.Pending.{Pending}
 
 -- ---- the whole write
 
-module _ {t p t₁ t₂ t₃ l₀ l t₄ p₄ t₅ p₅ t₆ : List ℕ} {f : ℕ} {k k₁ k₂ : Counts} (s q n : ℕ) (lay : ℕ → PageData → PageData) (end z y : ℕ) (el : l₀ ≡ nonePending) (ey : y ≡ max z end) (re : Ready t p f k)
+module _ {t p t₁ t₂ t₃ t₄ p₄ t₅ p₅ t₆ : List ℕ} {l₀ l : List Pending} {f : ℕ} {k k₁ k₂ : Counts} (s q n : ℕ) (lay : ℕ → PageData → PageData) (end z y : ℕ) (el : l₀ ≡ nonePending) (ey : y ≡ max z end) (re : Ready t p f k)
     (a : Turns t t₁ (settled f s)) (b : Alone t₁ t₂ f (settleChildren (unpack t₁ .sets) s)) (c : Reserves t₂ t₃ l₀ l f k k₁ (each (reserve real (treeOf (unpack t₂ .sets)) s) (from q n)))
     (d : Step t₃ p t₄ p₄ f k₁ k₂ (giveAll real (treeOf (unpack t₃ .sets)) s (from q n)))
     (e : StepAt (pendingOf l) t₄ p₄ t₅ p₅ f k₂ (each (enter real (treeOf (unpack t₄ .sets)) s lay) (from q n))) (zz : z ≡ unpack t₅ .files f s .size)

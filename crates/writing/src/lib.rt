@@ -17,7 +17,6 @@ use copying::giving;
 use copying::giving::Counts;
 use copying::settling;
 use entering::reserving;
-use tables::entries;
 use tables::files;
 use tables::header;
 
@@ -36,12 +35,13 @@ fn write_pages(
     requires { ⌜ Ready (now t) (now p) f k × (s < 8) × (unpack (now t) .sets s .used ≡ true) × (first + m ≤ 64) × (off + length (now «data») ≤ 32768) × (Rules.ownNeed real s (Rules.from first m) (unpack (now t) .files f) ≤ k .left) ⌝ }
     ensures { λ r. ⌜ Changed (now (t .entry)) (now (p .entry)) (now (t .exit)) (now (p .exit)) f k r (Rules.change real (treeOf (unpack (now (t .entry)) .sets)) s (Rules.from first m) (Rules.from first m) [] (overlay off (now («data» .entry))) (λ n. max n (off + length (now («data» .entry))))) ⌝ }
 {
-    let mut pending = entries::none_pending();
     settling::settle_set(t, f, s);
     settling::settle_children(t, f, s);
-    let a = reserving::reserve_all(t, &mut pending, f, s, first, m, k);
+    let r = reserving::reserve_all(t, f, s, first, m, k);
+    let pending = r.pending;
+    let a = r.counts;
     let b = giving::give_all(t, p, f, s, first, m, a);
-    entering::enter_all(t, p, &pending, f, s, first, m, off, data, b);
+    entering::enter_all(t, p, pending, f, s, first, m, off, data, b);
     let z = files::size_at(&*t, f, s);
     let n = pages::larger(z, off + data.len());
     dropping::resize(t, f, s, n);

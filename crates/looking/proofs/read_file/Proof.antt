@@ -31,33 +31,32 @@ fits c =
 
 resolve-range-requires : tie.Need-resolve-range-requires
 resolve-range-requires c κs =
-    let i = c .before .before in
-    let n = i .before in
+    let n = c .before in
     let s = n .before .before .before .before .before in
-    (s .pre .0 .packed .len, s .pre .1, s .pre .2, pages-in (s .args .off) (n .read-count .result) (fits i .0) (i .if1 .left), c .before .all-holes .ensures)
+    (s .pre .0 .packed .len, s .pre .1, s .pre .2, pages-in (s .args .off) (n .read-count .result) (fits c .0) (c .if1 .left))
 
 read-pages-requires : tie.Need-read-pages-requires
 read-pages-requires c κs =
     let r = c .before .before in
-    let i = r .before .before .before in
+    let i = r .before in
     let s = i .before .before .before .before .before .before in
     let a = s .args in
-    (blocks-in (a .t .now) (a .p .now) (a .s) (a .f) (s .pre .0) _ _ _ _ (r .resolve-range .ensures), fits i .0, fits i .1)
+    (blocks-in (a .t .now) (a .p .now) (a .s) (a .f) (s .pre .0) _ _ _ (r .resolve-range .ensures), fits i .0, fits i .1)
 
 returns-2 : tie.Need-returns-2
 returns-2 c =
     let g = c .before .before in
     let r = g .before .before .before in
-    let i = r .before .before .before in
+    let i = r .before in
     let n = i .before in
     let s = n .before .before .before .before .before in
     let a = s .args in
-    read-done (a .t .now) (a .p .now) (a .s) (a .f) (a .off) (n .read-count .result) (a .buffer .now) _ _ _ (s .pre .0) (counted n) (i .if1 .left) (r .resolve-range .ensures)
+    read-done (a .t .now) (a .p .now) (a .s) (a .f) (a .off) (n .read-count .result) (a .buffer .now) _ (r .resolve-range .result) (s .pre .0) (counted n) (i .if1 .left) (r .resolve-range .ensures)
     (g .read-pages .ensures)
 
 pub read-file-spec : {M : Type 1} → statement M
 read-file-spec =
     tie.close
     (tie.spec
-    (λ c κs. search needs) (λ c κs. search needs) returns (λ c. search needs) (λ c. search needs) (λ c κs. search needs) (λ c. search needs) (λ c. search needs)
+    (λ c κs. search needs) (λ c κs. search needs) returns (λ c. search needs) (λ c. search needs) (λ c. search needs) (λ c. search needs)
     resolve-range-requires read-pages-requires (λ c. search needs) (λ c. search needs) returns-2)

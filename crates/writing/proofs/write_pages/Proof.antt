@@ -1,5 +1,5 @@
 -- `writing::write_pages` meets its contract. Assumes nothing.
-use mathlib.Core.Path.{subst, sym, _∙_}
+use mathlib.Core.Path.{refl, subst, sym, _∙_}
 use Prim.Native.Nat.{_+_, _≤_, ℕ}
 use native.Mathlib.Omega.{arith}
 use lib.ListN.{length}
@@ -15,15 +15,14 @@ use Rattle.writing.proofs.write_pages.Tie as tie
 settle-children-requires : tie.Need-settle-children-requires
 settle-children-requires c κs =
     let ss = c .before .before .before in
-    let s = ss .before .before .before .before .before .before in
+    let s = ss .before .before .before .before .before in
     (ss .settle-set .ensures .packed, s .pre .0 .file, s .pre .1, settled-used (s .args .f) (s .args .s) (ss .settle-set .ensures) (s .pre .2))
 
 reserve-all-requires : tie.Need-reserve-all-requires
 reserve-all-requires c κs =
-    let sk = c .before .before .before .before in
+    let sk = c .before .before .before in
     let ss = sk .before .before .before .before in
-    let np = ss .before .before in
-    let s = np .before .before .before .before in
+    let s = ss .before .before .before .before .before in
     let a = s .args in
     let re = both-ready (a .s) (s .pre .0) (ss .settle-set .ensures) (sk .settle-children .ensures .1) in (
       re .packed,
@@ -31,16 +30,15 @@ reserve-all-requires c κs =
       re .file,
       s .pre .1,
       s .pre .3,
-      none-in _ _ (np .none-pending .ensures),
       subst (λ (x : ℕ). x ≤ a .k .left) (sym (both-need (a .s) (s .pre .0) (ss .settle-set .ensures) (sk .settle-children .ensures .1) (from (a .first) (a .m)))) (s .pre .5),
     )
 
 give-all-requires : tie.Need-give-all-requires
 give-all-requires c κs =
-    let r = c .before .before .before .before in
-    let sk = r .before .before .before .before .before in
+    let r = c .before .before .before .before .before .before in
+    let sk = r .before .before .before .before in
     let ss = sk .before .before .before .before in
-    let s = ss .before .before .before .before .before .before in
+    let s = ss .before .before .before .before .before in
     let a = s .args in
     let re = both-ready (a .s) (s .pre .0) (ss .settle-set .ensures) (sk .settle-children .ensures .1) in (
       reserves-ready re (r .reserve-all .ensures),
@@ -51,32 +49,34 @@ give-all-requires c κs =
 
 enter-all-requires : tie.Need-enter-all-requires
 enter-all-requires c κs =
-    let g = c .before .before .before .before .before .before .before in
-    let r = g .before .before .before .before .before in
-    let s = r .before .before .before .before .before .before .before .before .before .before .before .before .before .before .before in
+    let g = c .before .before .before .before .before .before in
+    let r = g .before .before .before .before .before .before .before in
+    let s = r .before .before .before .before .before .before .before .before .before .before .before .before .before in
     (g .give-all .ensures .ready, pending-kept (r .reserve-all .ensures) (g .give-all .ensures), s .pre .1, s .pre .3, s .pre .4)
 
 size-at-requires : tie.Need-size-at-requires
 size-at-requires c κs =
     let e = c .before .before .before .before .before in
-    let s = e .before .before .before .before .before .before .before .before .before .before .before .before .before .before .before .before .before .before .before .before .before .before .before .before .before .before .before .before in
+    let s = e .before .before .before .before .before .before .before .before .before .before .before .before .before .before .before .before .before .before .before .before .before .before .before .before .before .before .before in
     (e .enter-all .ensures .ready .packed .len, e .enter-all .ensures .ready .file, s .pre .1)
 
 add-larger : tie.Need-add-larger
-add-larger c = let s = c .before .before .before .before .before .before .before .before .before .before .before .before .before .before .before .before .before .before .before .before .before .before .before .before .before .before .before .before .before .before .before .before .before .before in omega (arith, s .pre .4)
+add-larger c =
+    let s = c .before .before .before .before .before .before .before .before .before .before .before .before .before .before .before .before .before .before .before .before .before .before .before .before .before .before .before .before .before .before .before .before .before in
+    omega (arith, s .pre .4)
 
 resize-requires : tie.Need-resize-requires
 resize-requires c κs =
     let l = c .before in
     let z = l .before in
     let e = z .before .before .before .before .before .before in
-    let s = e .before .before .before .before .before .before .before .before .before .before .before .before .before .before .before .before .before .before .before .before .before .before .before .before .before .before .before .before in
+    let s = e .before .before .before .before .before .before .before .before .before .before .before .before .before .before .before .before .before .before .before .before .before .before .before .before .before .before .before in
     (e .enter-all .ensures .ready .packed, e .enter-all .ensures .ready .file, s .pre .1, omega (arith, l .larger .ensures, z .size-at .ensures .1, s .pre .4))
 
 same-length : tie.Need-same-length
 same-length c =
     let r = c .before .before in
-    let s = r .before .before .before .before .before .before .before .before .before .before .before .before .before .before .before .before .before .before .before .before .before .before .before .before .before .before .before .before .before .before .before .before .before .before .before .before .before in
+    let s = r .before .before .before .before .before .before .before .before .before .before .before .before .before .before .before .before .before .before .before .before .before .before .before .before .before .before .before .before .before .before .before .before .before .before .before .before in
     r .resize .ensures .packed .len ∙ sym (s .pre .0 .packed .len)
 
 returns : tie.Need-returns
@@ -85,18 +85,17 @@ returns c =
     let l = h .before .before in
     let z = l .before in
     let e = z .before .before .before .before .before .before in
-    let g = e .before .before .before .before .before .before .before .before in
-    let r = g .before .before .before .before .before in
-    let sk = r .before .before .before .before .before in
+    let g = e .before .before .before .before .before .before .before in
+    let r = g .before .before .before .before .before .before .before in
+    let sk = r .before .before .before .before in
     let ss = sk .before .before .before .before in
-    let np = ss .before .before in
-    let s = np .before .before .before .before in
+    let s = ss .before .before .before .before .before in
     let a = s .args in
-    written (a .s) (a .first) (a .m) (overlay (a .off) (a .«data» .now)) (a .off + length (a .«data» .now)) (z .size-at .result) (l .larger .result) (np .none-pending .ensures) (l .larger .ensures)
+    written (a .s) (a .first) (a .m) (overlay (a .off) (a .«data» .now)) (a .off + length (a .«data» .now)) (z .size-at .result) (l .larger .result) refl (l .larger .ensures)
     (s .pre .0) (ss .settle-set .ensures) (sk .settle-children .ensures .1) (r .reserve-all .ensures) (g .give-all .ensures) (e .enter-all .ensures) (z .size-at .ensures .0) (h .resize .ensures)
 
 pub write-pages-spec : {M : Type 1} → statement M
 write-pages-spec =
     tie.close
     (tie.spec
-    (λ c κs. search needs) (λ c κs. search needs) settle-children-requires reserve-all-requires give-all-requires enter-all-requires size-at-requires add-larger (λ c κs. search needs) resize-requires same-length (λ c. search needs) returns)
+    (λ c κs. search needs) settle-children-requires reserve-all-requires give-all-requires enter-all-requires size-at-requires add-larger (λ c κs. search needs) resize-requires same-length (λ c. search needs) returns)

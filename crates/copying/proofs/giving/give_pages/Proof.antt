@@ -1,10 +1,14 @@
 -- `copying::giving::give_pages` meets its contract. The loop's invariant: giving the m pages is what is done and then giving the n pages from q on. Assumes nothing.
-use mathlib.Core.Path.{_≡_, sym, _∙_}
+use mathlib.Core.Path.{_≡_, ap, sym, _∙_}
 use Prim.Native.Nat.{_+_, _≤_}
 use native.Mathlib.Omega.{arith}
+use lib.ListN.{getD}
 use borrow.Author.Needs.{needs}
+use Rattle.tables.proofs.KeptEntries.{entries-at}
+use Rattle.tables.specs.Meaning.{keptMeant}
 use Rattle.tables.specs.Packed.{unpack}
-use Rattle.copying.specs.Work.{giveChildren}
+use Rattle.tables.specs.Views.{entriesOf}
+use Rattle.copying.specs.Work.{giveChildren, shown}
 use Rattle.copying.proofs.Steps.{going-done, going-pages, going-tables, going-used}
 use Rattle.copying.proofs.Chains.{pages-out}
 use Rattle.copying.proofs.Given.{PagesGoing, pages-next, pages-start}
@@ -12,10 +16,10 @@ use Rattle.copying.proofs.giving.give_pages.Statement.{statement}
 use Rattle.copying.proofs.giving.give_pages.Tie as tie
 
 abbrev Inv-loop : tie.InvT-loop
-Inv-loop t₀ p₀ kept f s first m w₀ q₀ n₀ t p w q n = (first ≤ q) × (q + n ≡ first + m) × PagesGoing t₀ p₀ t p f w₀ w s first m q n
+Inv-loop t₀ p₀ f s first m kept w₀ q₀ n₀ t p w q n = (first ≤ q) × (q + n ≡ first + m) × PagesGoing t₀ p₀ t p f w₀ w s first m q n
 
 abbrev μ-loop : tie.MeasureT-loop
-μ-loop t₀ p₀ kept f s first m w₀ q₀ n₀ t p w q n = n
+μ-loop t₀ p₀ f s first m kept w₀ q₀ n₀ t p w q n = n
 
 -- the function's start, from the loop's test
 abbrev start : tie.At-loop Inv-loop μ-loop → tie.Start Inv-loop μ-loop
@@ -27,28 +31,33 @@ loop-holds c =
     let a = s .args in
     (omega arith, omega arith, pages-start (a .s) (a .first) (a .m) (s .pre .0))
 
-kept-entry-requires : tie.Need-kept-entry-requires Inv-loop μ-loop
-kept-entry-requires c κs = (omega (arith, c .new .ensures), start (c .before .before) .pre .4)
+-- the entry of the page whose turn it is
+entry-is : (c : tie.After-x Inv-loop μ-loop) → let l = c .before .before in let s = start l in
+    keptMeant (getD (s .args .t3) (l .loop .q) (record { 0 = 0 })) ≡ entriesOf (s .args .t3) (l .loop .q)
+entry-is c =
+    let l = c .before .before in
+    let s = start l in
+    entries-at (s .args .t3) (l .loop .q) _ (omega (arith, s .pre .4))
 
 give-children-requires : tie.Need-give-children-requires Inv-loop μ-loop
 give-children-requires c κs =
-    let e = c .before .before in
-    let y = e .before .new in
-    let l = e .before .before .before in
+    let y = c .before .new in
+    let x = c .before .before .before .before in
+    let l = x .before .before in
     let s = start l in
     let g = l .loop .inv .2 in (
       g .going .ready,
       s .pre .1,
       omega (arith, y .ensures),
       going-used (g .going) (s .args .s) (s .pre .3),
-      e .kept-entry .ensures ∙ s .pre .5 (y .result .0) (omega (arith, y .ensures)) (omega (arith, y .ensures)) ∙ sym (g .same (y .result .0)),
+      c .entry .ensures ∙ entry-is x ∙ s .pre .5 (l .loop .q) (omega arith) (omega arith) ∙ sym (g .same (l .loop .q)) ∙ ap (shown _ _ _) (sym (y .ensures)),
     )
 
 loop-again : tie.Need-loop-again Inv-loop μ-loop
 loop-again c =
     let g = c .before .before .before .before in
-    let y = g .before .before .before .before in
-    let l = y .before .before in
+    let y = g .before .before in
+    let l = y .before .before .before .before .before in
     let a = start l .args in
     (omega arith, omega arith, pages-next (a .s) (a .first) (a .m) (l .loop .q) (l .loop .n) _ (l .loop .inv .2) (omega arith) (y .new .ensures) (g .give-children .ensures))
 
@@ -68,5 +77,5 @@ pub give-pages-spec : {M : Type 1} → statement M
 give-pages-spec =
     tie.close
     (tie.spec
-    Inv-loop μ-loop loop-holds (λ c κs. search needs) kept-entry-requires give-children-requires (λ c. omega arith) (λ c. omega arith) (λ c. omega arith)
+    Inv-loop μ-loop loop-holds (λ c. omega arith) (λ c. omega arith) (λ c κs. search needs) (λ c κs. search needs) give-children-requires (λ c. omega arith) (λ c. omega arith) (λ c. omega arith)
     loop-again same-length same-length-2 returns)
