@@ -1,5 +1,5 @@
 -- Lines as texts written one after the other. Assumes nothing.
-use mathlib.Core.Bool.{cond, false, true}
+use mathlib.Core.Bool.{Bool, cond, false, true}
 use mathlib.Core.List.{_++_, List, append-assoc, append-nil, _∷_, []}
 use mathlib.Core.Path.{ap, refl, sym, _≡_}
 use Prim.Native.Nat.{_+_, ℕ}
@@ -24,20 +24,20 @@ pub six-end : (a b c d e f : List ℕ) →
     words (a ∷ b ∷ []) ++ (words (c ∷ d ∷ e ∷ f ∷ []) ++ (newline ∷ [])) ≡ words (a ∷ b ∷ c ∷ d ∷ e ∷ f ∷ []) ++ (newline ∷ [])
 six-end a b c d e f = simp (append-assoc, append-nil)
 
-module _ (map : ℕ → Entry ℕ) where
+module _ (root : Bool) (map : ℕ → Entry ℕ) where
   -- a page at which no extent begins, and one at which one does
-  pub page-none : (p : ℕ) → begins map p ≡ false → [] ≡ cond (begins map p) (extLine p (map p)) []
+  pub page-none : (p : ℕ) → begins map p ≡ false → [] ≡ cond (begins map p) (extLine root p (map p)) []
   page-none p h = rw h
 
-  pub page-some : (p : ℕ) → begins map p ≡ true → extLine p (map p) ≡ cond (begins map p) (extLine p (map p)) []
+  pub page-some : (p : ℕ) → begins map p ≡ true → extLine root p (map p) ≡ cond (begins map p) (extLine root p (map p)) []
   page-some p h = rw h
 
   -- no page, one page more
-  pub extents-none : [] ≡ extents map 0
+  pub extents-none : [] ≡ extents root map 0
   unfolding extents
   extents-none = refl
 
-  pub extents-more : (p : ℕ) → extents map p ++ cond (begins map p) (extLine p (map p)) [] ≡ extents map (p + 1)
+  pub extents-more : (p : ℕ) → extents root map p ++ cond (begins map p) (extLine root p (map p)) [] ≡ extents root map (p + 1)
   unfolding extents
   extents-more p = rw (add-one p)
 

@@ -1,11 +1,11 @@
--- The lines of a session, and the listing of a store. Document 01, "The session program": "Lines".
+-- The lines of a session, and the listing of a store. Document 01, "The session program": "Lines"; document 02, Ask 1.
 use mathlib.Core.Bool.{Bool, cond, false, not, true}
 use mathlib.Core.List.{_++_, List, _∷_, []}
 use Prim.Native.Nat.{suc, zero, ℕ}
 use lib.Dec.{eqb, leb}
 use lib.ListN.{length}
 use Rattle.base.specs.Logic.{digit}
-use Rattle.listing.specs.Text.{decimal, intoBuffer, line, minusOne, nameCall, nameEnd, nameExt, nameFile, nameSet}
+use Rattle.listing.specs.Text.{decimal, intoBuffer, line, minusOne, minusTwo, nameCall, nameEnd, nameExt, nameFile, nameSet}
 use Rattle.rules.specs.Numbers.{Answer}
 use Rattle.rules.specs.Reading.{sizeByReading}
 use Rattle.rules.specs.State.{Entry, SetRecord, State, Tables, absent, childrenOf, fileCount, highestLevel, hole, marked, own, pageCount, stored, treeOf, unmapped, virgin}
@@ -31,22 +31,24 @@ setLine s r = line nameSet (decimal s ∷ decimal (r .level) ∷ decimal (r .par
 unfoldable pub fileLine : ℕ → ℕ → State → ℕ → List ℕ
 fileLine s f state size = line nameFile (decimal s ∷ decimal f ∷ decimal (stateNumber state) ∷ decimal size ∷ [])
 
--- the block of an entry; "of pages not stored, shown as -1"
-abbrev pub blockWord : Entry ℕ → List ℕ
-blockWord unmapped = minusOne
-blockWord hole = minusOne
-blockWord (stored b) = decimal b
+-- the word for an entry: its block, or the mark of a page not stored; `root`: the file is of set 0. 01: "shown as -1"; 02: "Set 0 keeps -1 for its holes. In any other set a hole is
+-- listed as -2 and an unmapped page as -1"
+abbrev pub blockWord : Bool → Entry ℕ → List ℕ
+blockWord root unmapped = minusOne
+blockWord root hole = cond root minusOne minusTwo
+blockWord root (stored b) = decimal b
 
 -- "`ext` first page, block."
-unfoldable pub extLine : ℕ → Entry ℕ → List ℕ
-extLine p e = line nameExt (decimal p ∷ blockWord e ∷ [])
+unfoldable pub extLine : Bool → ℕ → Entry ℕ → List ℕ
+extLine root p e = line nameExt (decimal p ∷ blockWord root e ∷ [])
 
--- is a page with the second entry in the same run as the page before it with the first: "pages in consecutive blocks, or … pages not stored"
+-- does a page with the second entry join the run of the page before it, which has the first? 01: "pages in consecutive blocks, or of pages not stored"; 02, of a hole and an
+-- unmapped page: "the two no longer join in one run". In set 0 they do not meet, as 01 has it of well-formed tables: "no unmapped entry outside absent files".
 abbrev pub continues : Entry ℕ → Entry ℕ → Bool
 continues unmapped unmapped = true
-continues unmapped hole = true
+continues unmapped hole = false
 continues unmapped (stored b) = false
-continues hole unmapped = true
+continues hole unmapped = false
 continues hole hole = true
 continues hole (stored b) = false
 continues (stored a) unmapped = false
@@ -58,14 +60,14 @@ abbrev pub begins : (ℕ → Entry ℕ) → ℕ → Bool
 begins map zero = true
 begins map (suc p) = not (continues (map p) (map (suc p)))
 
--- the extents of the pages below n of a file's own map
-unfoldable pub extents : (ℕ → Entry ℕ) → ℕ → List ℕ
-extents map zero = []
-extents map (suc n) = extents map n ++ cond (begins map n) (extLine n (map n)) []
+-- the extents that begin below page n of a file's own map; `root`: the file is of set 0
+unfoldable pub extents : Bool → (ℕ → Entry ℕ) → ℕ → List ℕ
+extents root map zero = []
+extents root map (suc n) = extents root map n ++ cond (begins map n) (extLine root n (map n)) []
 
--- "`ext 64 -1` closes a file."
+-- "`ext 64 -1` closes a file."; 02: "The closing line stays `ext 64 -1` in every set."
 unfoldable pub extEnd : List ℕ
-extEnd = extLine pageCount hole
+extEnd = line nameExt (decimal pageCount ∷ minusOne ∷ [])
 
 -- a text for each set of a list, one after the other
 unfoldable pub inTurn : (ℕ → List ℕ) → List ℕ → List ℕ
@@ -73,11 +75,15 @@ inTurn text [] = []
 inTurn text (s ∷ ss) = text s ++ inTurn text ss
 
 module _ (tb : Tables) where
+  -- the lines of an own or virgin file f in set s
+  abbrev pub liveText : State → ℕ → ℕ → List ℕ
+  liveText state f s = fileLine s f state (sizeByReading (treeOf (tb .sets)) (tb .files f) s) ++ (extents (eqb s 0) (tb .files f s .map) pageCount ++ extEnd)
+
   -- the lines of file f in set s: "absent ones left out"; "Marked files have no `ext`."
   abbrev pub fileTextAs : State → ℕ → ℕ → List ℕ
   fileTextAs absent f s = []
-  fileTextAs own f s = fileLine s f own (sizeByReading (treeOf (tb .sets)) (tb .files f) s) ++ (extents (tb .files f s .map) pageCount ++ extEnd)
-  fileTextAs virgin f s = fileLine s f virgin (sizeByReading (treeOf (tb .sets)) (tb .files f) s) ++ (extents (tb .files f s .map) pageCount ++ extEnd)
+  fileTextAs own f s = liveText own f s
+  fileTextAs virgin f s = liveText virgin f s
   fileTextAs marked f s = fileLine s f marked 0
 
   unfoldable pub fileText : ℕ → ℕ → List ℕ

@@ -1,4 +1,4 @@
--- Numbers and lines as bytes. Document 01, "The session program".
+-- Numbers and lines as bytes. Document 01, "The session program"; document 02, Ask 1.
 use mathlib.Core.Bool.{cond}
 use mathlib.Core.List.{_++_, List, _∷_, []}
 use Prim.Native.Nat.{_%_, _+_, _/_, suc, zero, ℕ}
@@ -53,6 +53,10 @@ nameExt = 101 ∷ 120 ∷ 116 ∷ []
 -- "shown as -1"
 abbrev pub minusOne : List ℕ
 minusOne = 45 ∷ 49 ∷ []
+
+-- 02: "a hole is listed as -2"
+abbrev pub minusTwo : List ℕ
+minusTwo = 45 ∷ 50 ∷ []
 
 -- a text in a lent buffer, from its front on, as much of it as fits; the bytes behind it stay
 unfoldable pub intoBuffer : List ℕ → List ℕ → List ℕ

@@ -3,9 +3,10 @@ ghost use mathlib.Core.List.{[], _++_};
 ghost use mathlib.Core.Path.{_≡_};
 ghost use mathlib.Core.Bool.{cond};
 ghost use Prim.Native.Nat.{_+_, _<_, _≤_};
+ghost use lib.Dec.{eqb};
 ghost use lib.ListN.{length};
 ghost use Rattle.tables.specs.Layout.{tableBytes};
-ghost use Rattle.rules.specs.State.{stored};
+ghost use Rattle.rules.specs.State.{hole, stored};
 ghost use Rattle.tables.specs.OneReading.{blockFits};
 ghost use Rattle.tables.specs.Packed.{unpack};
 ghost use Rattle.tables.specs.Meaning.{entryMeant};
@@ -16,6 +17,17 @@ use tables::entries;
 use tables::entries::Block;
 use tables::entries::Entry;
 use tables::entries::Page;
+
+// Does an entry after a hole go on with its run?
+fn behind_hole(e: Entry) -> bool
+    ensures { λ r. ⌜ r ≡ continues hole (entryMeant e) ⌝ }
+{
+    match e {
+        Entry::Unmapped => false, // "the two no longer join in one run"
+        Entry::Hole => true,
+        Entry::Stored(b) => false,
+    }
+}
 
 // Does an entry after one in block a go on with its run?
 fn behind_stored(a: Block, e: Entry) -> bool
@@ -29,14 +41,14 @@ fn behind_stored(a: Block, e: Entry) -> bool
     }
 }
 
-// "of pages in consecutive blocks, or of pages not stored"
+// "of pages in consecutive blocks, or of pages not stored"; holes and unmapped pages "no longer join in one run"
 fn goes_on(before: Entry, e: Entry) -> bool
     requires { ⌜ blockFits (entryMeant before) ⌝ }
     ensures { λ r. ⌜ r ≡ continues (entryMeant before) (entryMeant e) ⌝ }
 {
     match before {
-        Entry::Unmapped => !entries::is_stored(e),
-        Entry::Hole => !entries::is_stored(e),
+        Entry::Unmapped => entries::is_unmapped(e),
+        Entry::Hole => behind_hole(e),
         Entry::Stored(a) => behind_stored(a, e),
     }
 }
@@ -57,19 +69,19 @@ fn starts(t: &[u8], f: usize, s: usize, p: usize) -> bool
 // The extent that begins at page p, if one does.
 fn list_page(t: &[u8], f: usize, s: usize, p: usize, out: &mut [u8], cur: usize) -> usize
     requires { ⌜ (length (now t) ≡ tableBytes) × (f < 16) × (s < 8) × (p < 64) × (cur < 4294960000) ⌝ }
-    ensures { λ r. ⌜ Wrote (now (out .entry)) (now (out .exit)) cur r (cond (begins (unpack (now (t .entry)) .files f s .map) p) (extLine p (unpack (now (t .entry)) .files f s .map p)) []) × (r ≤ cur + 16) ⌝ }
+    ensures { λ r. ⌜ Wrote (now (out .entry)) (now (out .exit)) cur r (cond (begins (unpack (now (t .entry)) .files f s .map) p) (extLine (eqb s 0) p (unpack (now (t .entry)) .files f s .map p)) []) × (r ≤ cur + 16) ⌝ }
 {
     if !starts(t, f, s, p) {
         return cur;
     }
     let e = entries::entry_at(t, f, s, Page::new(p));
-    put_ext(out, cur, p, e)
+    put_ext(out, cur, s == 0, p, e)
 }
 
 // All extents of a file, and the line that closes it.
 pub fn list_extents(t: &[u8], f: usize, s: usize, out: &mut [u8], cur: usize) -> usize
     requires { ⌜ (length (now t) ≡ tableBytes) × (f < 16) × (s < 8) × (cur < 4294900000) ⌝ }
-    ensures { λ r. ⌜ Wrote (now (out .entry)) (now (out .exit)) cur r (extents (unpack (now (t .entry)) .files f s .map) 64 ++ extEnd) × (r ≤ cur + 1040) ⌝ }
+    ensures { λ r. ⌜ Wrote (now (out .entry)) (now (out .exit)) cur r (extents (eqb s 0) (unpack (now (t .entry)) .files f s .map) 64 ++ extEnd) × (r ≤ cur + 1040) ⌝ }
 {
     let mut at = cur;
     let mut p = 0;
@@ -77,5 +89,5 @@ pub fn list_extents(t: &[u8], f: usize, s: usize, out: &mut [u8], cur: usize) ->
         at = list_page(t, f, s, p, out, at);
         p += 1;
     }
-    put_ext(out, at, 64, Entry::Hole)
+    put_ext(out, at, s == 0, 64, Entry::Unmapped)
 }

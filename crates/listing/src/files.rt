@@ -1,14 +1,11 @@
 // The files of a set.
-ghost use mathlib.Core.List.{_++_};
 ghost use mathlib.Core.Path.{_≡_};
 ghost use Prim.Native.Nat.{_+_, _<_, _≤_};
 ghost use lib.ListN.{length};
 ghost use Rattle.tables.specs.Layout.{tableBytes};
 ghost use Rattle.tables.specs.Packed.{unpack};
-ghost use Rattle.rules.specs.Reading;
-ghost use Rattle.rules.specs.State.{treeOf};
 ghost use Rattle.tables.specs.Meaning.{stateMeant};
-ghost use Rattle.listing.specs.Listing.{extEnd, extents, fileLine, fileText, fileTexts, setText};
+ghost use Rattle.listing.specs.Listing.{fileText, fileTexts, liveText, setText};
 ghost use Rattle.listing.specs.Written.{Wrote};
 use crate::extents::list_extents;
 use crate::lines::put_file;
@@ -21,7 +18,7 @@ use tables::sets;
 // The line of an own or virgin file, and its extents.
 fn list_live(t: &[u8], f: usize, s: usize, l: State, out: &mut [u8], cur: usize) -> usize
     requires { ⌜ (length (now t) ≡ tableBytes) × (f < 16) × (s < 8) × (cur < 4294800000) ⌝ }
-    ensures { λ r. ⌜ Wrote (now (out .entry)) (now (out .exit)) cur r (fileLine s f (stateMeant l) (Reading.sizeByReading (treeOf (unpack (now (t .entry)) .sets)) (unpack (now (t .entry)) .files f) s) ++ (extents (unpack (now (t .entry)) .files f s .map) 64 ++ extEnd)) × (r ≤ cur + 1069) ⌝ }
+    ensures { λ r. ⌜ Wrote (now (out .entry)) (now (out .exit)) cur r (liveText (unpack (now (t .entry))) (stateMeant l) f s) × (r ≤ cur + 1069) ⌝ }
 {
     let n = size_of(t, f, s);
     let at = put_file(out, cur, s, f, l, n);

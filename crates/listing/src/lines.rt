@@ -6,6 +6,7 @@ ghost use Rattle.tables.specs.Layout.{stateNumber};
 ghost use Rattle.tables.specs.Meaning.{entryMeant, setMeant, stateMeant};
 ghost use Rattle.listing.specs.Listing.{blockWord, callLine, endLine, extLine, fileLine, setLine};
 ghost use Rattle.base.specs.Logic;
+ghost use Rattle.rules.specs.State.{hole};
 ghost use Rattle.tables.specs.OneReading.{blockFits};
 ghost use Rattle.listing.specs.Text.{blank, decimal, newline, words};
 ghost use Rattle.listing.specs.Written.{Wrote};
@@ -111,25 +112,35 @@ pub fn put_file(out: &mut [u8], cur: usize, s: usize, f: usize, l: State, size: 
     put_four(out, y, s, f, n, size)
 }
 
-// A blank and the block of an entry, or -1.
-fn put_block(out: &mut [u8], cur: usize, e: Entry) -> usize
+// "Set 0 keeps -1 for its holes. In any other set a hole is listed as -2": the byte behind the sign.
+fn hole_digit(root: bool) -> u8
+    ensures { λ r. ⌜ (45 ∷ r ∷ []) ≡ blockWord root hole ⌝ }
+{
+    if root {
+        return b'1';
+    }
+    b'2'
+}
+
+// A blank and the block of an entry, of set 0 if `root`; -1 or -2 for a page not stored.
+fn put_block(out: &mut [u8], cur: usize, root: bool, e: Entry) -> usize
     requires { ⌜ (cur + 6 < 4294967000) × blockFits (entryMeant e) ⌝ }
-    ensures { λ r. ⌜ Wrote (now (out .entry)) (now (out .exit)) cur r (blank ∷ blockWord (entryMeant e)) × (r ≤ cur + 6) ⌝ }
+    ensures { λ r. ⌜ Wrote (now (out .entry)) (now (out .exit)) cur r (blank ∷ blockWord root (entryMeant e)) × (r ≤ cur + 6) ⌝ }
 {
     match e {
         Entry::Unmapped => put_three(out, cur, b' ', b'-', b'1'),
-        Entry::Hole => put_three(out, cur, b' ', b'-', b'1'),
+        Entry::Hole => put_three(out, cur, b' ', b'-', hole_digit(root)),
         Entry::Stored(b) => put_word(out, cur, b.number()),
     }
 }
 
 // "`ext` first page, block."
-pub fn put_ext(out: &mut [u8], cur: usize, p: usize, e: Entry) -> usize
+pub fn put_ext(out: &mut [u8], cur: usize, root: bool, p: usize, e: Entry) -> usize
     requires { ⌜ (cur + 16 < 4294967000) × (p < 65) × blockFits (entryMeant e) ⌝ }
-    ensures { λ r. ⌜ Wrote (now (out .entry)) (now (out .exit)) cur r (extLine p (entryMeant e)) × (r ≤ cur + 16) ⌝ }
+    ensures { λ r. ⌜ Wrote (now (out .entry)) (now (out .exit)) cur r (extLine root p (entryMeant e)) × (r ≤ cur + 16) ⌝ }
 {
     let x = put_three(out, cur, b'e', b'x', b't');
     let y = put_word(out, x, p);
-    let z = put_block(out, y, e);
+    let z = put_block(out, y, root, e);
     put(out, z, b'\n')
 }

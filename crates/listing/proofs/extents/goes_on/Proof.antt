@@ -1,11 +1,10 @@
 -- `listing::extents::goes_on` meets its contract. Assumes nothing.
-use mathlib.Core.Bool.{not}
 use mathlib.Core.Path.{ap, subst, sym, _∙_}
 use borrow.Author.Needs.{needs}
 use Rattle.tables.specs.Meaning.{entryMeant}
 use Rattle.tables.specs.OneReading.{blockFits}
 use Rattle.listing.specs.Listing.{continues}
-use Rattle.listing.proofs.Runs.{behind-hole, behind-unmapped}
+use Rattle.listing.proofs.Runs.{behind-unmapped}
 use Rattle.listing.proofs.extents.goes_on.Statement.{statement}
 use Rattle.listing.proofs.extents.goes_on.Tie as tie
 
@@ -15,11 +14,11 @@ behind-stored-requires c κs = subst (λ e. blockFits (entryMeant e)) (c .before
 
 returns : tie.Need-returns
 unfolding entryMeant
-returns c = ap not (c .is-stored .ensures) ∙ sym (behind-unmapped (entryMeant (c .before .before .before .args .e))) ∙ ap (λ b. continues (entryMeant b) (entryMeant (c .before .before .before .args .e))) (sym (c .before .enum-told .given .1))
+returns c = c .is-unmapped .ensures ∙ sym (behind-unmapped (entryMeant (c .before .before .before .args .e))) ∙ ap (λ b. continues (entryMeant b) (entryMeant (c .before .before .before .args .e))) (sym (c .before .enum-told .given .1))
 
 returns-2 : tie.Need-returns-2
 unfolding entryMeant
-returns-2 c = ap not (c .is-stored2 .ensures) ∙ sym (behind-hole (entryMeant (c .before .before .before .args .e))) ∙ ap (λ b. continues (entryMeant b) (entryMeant (c .before .before .before .args .e))) (sym (c .before .enum-told2 .given .1))
+returns-2 c = c .behind-hole .ensures ∙ ap (λ b. continues (entryMeant b) (entryMeant (c .before .before .before .args .e))) (sym (c .before .enum-told2 .given .1))
 
 returns-3 : tie.Need-returns-3
 unfolding entryMeant

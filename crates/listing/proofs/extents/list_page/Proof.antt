@@ -1,6 +1,7 @@
 -- `listing::extents::list_page` meets its contract. Assumes nothing.
 use mathlib.Core.Path.{ap, subst, sym, _∙_}
 use native.Mathlib.Omega.{arith}
+use lib.Dec.{eqb}
 use borrow.Author.Needs.{needs}
 use borrow.Author.Tests.{not-false, not-true}
 use Rattle.tables.specs.OneReading.{blockFits}
@@ -14,7 +15,7 @@ use Rattle.tables.proofs.PackUnpack.{unpack-fits}
 
 returns : tie.Need-returns
 returns c = let a = c .before .before .before .before .args in let m = unpack (a .t .now) .files (a .f) (a .s) .map in
-    (wrote-as (page-none m (a .p) (sym (c .before .starts .ensures) ∙ not-true (c .before .starts .result) (c .if1 .taken))) (wrote-none (a .out .now) (a .cur)), omega arith)
+    (wrote-as (page-none (eqb (a .s) 0) m (a .p) (sym (c .before .starts .ensures) ∙ not-true (c .before .starts .result) (c .if1 .taken))) (wrote-none (a .out .now) (a .cur)), omega arith)
 
 put-ext-requires : tie.Need-put-ext-requires
 put-ext-requires c κs =
@@ -38,7 +39,7 @@ returns-2 c =
     let start = at-starts .before .before .before in
     let a = start .args in
     let m = unpack (a .t .now) .files (a .f) (a .s) .map in (
-      wrote-as (ap (extLine (a .p)) (at-entry-at .entry-at .ensures ∙ ap m (at-new .new .ensures)) ∙ page-some m (a .p) (sym (at-starts .starts .ensures) ∙ not-false (at-starts .starts .result) (at-if1 .if1 .left))) (at-put-ext .put-ext .ensures .0),
+      wrote-as (ap (extLine (eqb (a .s) 0) (a .p)) (at-entry-at .entry-at .ensures ∙ ap m (at-new .new .ensures)) ∙ page-some (eqb (a .s) 0) m (a .p) (sym (at-starts .starts .ensures) ∙ not-false (at-starts .starts .result) (at-if1 .if1 .left))) (at-put-ext .put-ext .ensures .0),
       omega arith,
     )
 

@@ -3,6 +3,7 @@ use mathlib.Core.List.{_++_}
 use mathlib.Core.Path.{ap}
 use Prim.Native.Nat.{ℕ}
 use native.Mathlib.Omega.{arith}
+use lib.Dec.{eqb}
 use borrow.Author.Needs.{needs}
 use Rattle.tables.specs.Meaning.{stateMeant}
 use Rattle.tables.specs.Packed.{unpack}
@@ -18,7 +19,7 @@ returns c =
     let at-size-of = at-put-file .before .before in
     let start = at-size-of .before .before .before in
     let a = start .args in (
-      wrote-as (ap (λ (n : ℕ). fileLine (a .s) (a .f) (stateMeant (a .l)) n ++ (extents (unpack (a .t .now) .files (a .f) (a .s) .map) 64 ++ extEnd)) (at-size-of .size-of .ensures .0))
+      wrote-as (ap (λ (n : ℕ). fileLine (a .s) (a .f) (stateMeant (a .l)) n ++ (extents (eqb (a .s) 0) (unpack (a .t .now) .files (a .f) (a .s) .map) 64 ++ extEnd)) (at-size-of .size-of .ensures .0))
           (wrote-then (at-put-file .put-file .ensures .0) (at-list-extents .list-extents .ensures .0)),
       omega arith,
     )

@@ -24,7 +24,7 @@ returns c =
     let at-put-three = at-put-word .before .before .before .before in
     let start = at-put-three .before .before .before in
     let a = start .args in (
-      wrote-then (at-put-three .put-three .ensures .0) (wrote-as (two-end (decimal (a .p)) (blockWord (entryMeant (a .e)))) (wrote-then (at-put-word .put-word .ensures .0) (wrote-then (at-put-block .put-block .ensures .0) (at-put .put .ensures .0)))),
+      wrote-then (at-put-three .put-three .ensures .0) (wrote-as (two-end (decimal (a .p)) (blockWord (a .root) (entryMeant (a .e)))) (wrote-then (at-put-word .put-word .ensures .0) (wrote-then (at-put-block .put-block .ensures .0) (at-put .put .ensures .0)))),
       omega (arith, at-put-word .put-word .ensures .2 (omega arith)),
     )
 
