@@ -1,6 +1,7 @@
-//! A second implementation of the sweep store, written from document 01 and
-//! its readings (docs/DECISIONS.md) alone. Clarity goes before speed: each call unpacks
-//! the tables to a plain state, does the paper's steps, and packs.
+//! A second implementation of the sweep store, written from document 01, Ask 1
+//! of document 02 and their readings (docs/DECISIONS.md) alone. Clarity goes
+//! before speed: each call unpacks the tables to a plain state, does the
+//! paper's steps, and packs.
 //!
 //! The words are those of document 01: set, file, page, block, own, virgin,
 //! marked, hole, stored, unmapped, next start, needs.

@@ -141,29 +141,32 @@ fn list_file(state: &State, set: usize, file: usize, output: &mut String) {
     }
     for page in 0..PAGES {
         if page == 0 || !continues(record.entries[page - 1], record.entries[page]) {
-            list_extent(record.entries[page], page, output);
+            list_extent(set, record.entries[page], page, output);
         }
     }
-    // "`ext 64 -1` closes a file."
+    // "`ext 64 -1` closes a file." Document 02: "The closing line stays
+    // `ext 64 -1` in every set."
     line(output, "ext 64 -1");
 }
 
 /// Whether an entry is in the same extent as the one before it. "An extent is
 /// a longest run in the file's own map of pages in consecutive blocks, or of
-/// pages not stored".
+/// pages not stored". Document 02, of a hole and an unmapped page: "the two no
+/// longer join in one run." (Set 0 has no unmapped page.)
 fn continues(before: Entry, entry: Entry) -> bool {
-    match (before.kind == Kind::Stored, entry.kind == Kind::Stored) {
-        (true, true) => entry.block == before.block + 1,
-        (false, false) => true,
-        _ => false,
+    match (before.kind, entry.kind) {
+        (Kind::Stored, Kind::Stored) => entry.block == before.block + 1,
+        (before, entry) => before == entry,
     }
 }
 
-/// "`ext` first page, block", or -1 for pages not stored.
-fn list_extent(entry: Entry, page: usize, output: &mut String) {
-    if entry.kind == Kind::Stored {
-        line(output, &format!("ext {page} {}", entry.block));
-    } else {
-        line(output, &format!("ext {page} -1"));
+/// "`ext` first page, block", and pages not stored "shown as -1". Document 02:
+/// "Set 0 keeps -1 for its holes. In any other set a hole is listed as -2 and
+/// an unmapped page as -1".
+fn list_extent(set: usize, entry: Entry, page: usize, output: &mut String) {
+    match entry.kind {
+        Kind::Stored => line(output, &format!("ext {page} {}", entry.block)),
+        Kind::Hole if set != 0 => line(output, &format!("ext {page} -2")),
+        _ => line(output, &format!("ext {page} -1")),
     }
 }

@@ -25,6 +25,15 @@ fn file(name: &str, bytes: &[u8]) -> String {
     path.to_str().unwrap().to_string()
 }
 
+/// What `oracle session` prints for this input.
+fn session(input: &[u8]) -> String {
+    let mut program = Command::new(env!("CARGO_BIN_EXE_oracle"));
+    let mut child =
+        program.arg("session").stdin(Stdio::piped()).stdout(Stdio::piped()).spawn().unwrap();
+    child.stdin.take().unwrap().write_all(input).unwrap();
+    String::from_utf8(child.wait_with_output().unwrap().stdout).unwrap()
+}
+
 #[test]
 fn check_says_well_formed_or_each_broken_rule() {
     let mut state = State::formatted(3);
@@ -75,13 +84,23 @@ fn rows_random_and_session_run() {
     assert_eq!(status(&["rows"]), 0);
     assert!(printed(&["random", "7", "2"]).ends_with("random: ok\n"));
 
-    let mut program = Command::new(env!("CARGO_BIN_EXE_oracle"));
-    let mut child =
-        program.arg("session").stdin(Stdio::piped()).stdout(Stdio::piped()).spawn().unwrap();
-    child.stdin.take().unwrap().write_all(&[0x10, 0, 0, 0, 0, 0, 0, 0, 1]).unwrap();
-    let output = child.wait_with_output().unwrap();
     let wanted = "call 1 1 0 0 0 0\nend 2\nset 0 0 8 1\nfile 0 0 1 0\next 0 -1\next 64 -1\n";
-    assert_eq!(String::from_utf8(output.stdout).unwrap(), wanted);
+    assert_eq!(session(&[0x10, 0, 0, 0, 0, 0, 0, 0, 1]), wanted);
+}
+
+/// Ask 1 of document 02: a new file is all holes, -1 in set 0 and -2 in set 1.
+#[test]
+fn session_lists_holes_by_set() {
+    let input = [
+        [0x10, 0, 0, 0, 0, 0, 0, 0],
+        [0x60, 0x01, 0, 0, 0, 0, 0, 0],
+        [0x11, 0x10, 0, 0, 0, 0, 0, 0],
+    ];
+    let wanted = "call 1 1 0 0 0 0\ncall 2 6 0 0 0 0\ncall 3 1 0 0 0 0\n\
+        set 0 0 8 1\nfile 0 0 1 0\next 0 -1\next 64 -1\n\
+        set 1 1 0 1\nfile 1 0 2 0\next 0 -1\next 64 -1\n\
+        file 1 1 1 0\next 0 -2\next 64 -1\n";
+    assert_eq!(session(&input.concat()), wanted);
 }
 
 /// Without a library to compare with, `compare` says so.

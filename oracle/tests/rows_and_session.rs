@@ -1,5 +1,5 @@
-//! Rows M1 to M12, the worked session to the byte, and what the session
-//! program does with bad and odd calls.
+//! Rows M1 to M12, the worked session to the byte, what the session program
+//! does with bad and odd calls, and how it lists holes (Ask 1 of document 02).
 
 use oracle::rows::rows;
 use oracle::session::session;
@@ -140,4 +140,322 @@ fn the_listing_goes_children_in_order_and_marked_files_have_no_extents() {
         "file 3 0 3 0",
     ];
     assert_eq!(tail, wanted);
+}
+
+#[test]
+fn a_file_all_holes_is_one_run_and_so_is_a_virgin_file() {
+    // File 0 of set 0 and file 1 of set 1 are all holes, file 0 of set 1 is virgin.
+    let input = "1000000000000000 6001000000000000 1110000000000000";
+    let wanted = "\
+call 1 1 0 0 0 0
+call 2 6 0 0 0 0
+call 3 1 0 0 0 0
+set 0 0 8 1
+file 0 0 1 0
+ext 0 -1
+ext 64 -1
+set 1 1 0 1
+file 1 0 2 0
+ext 0 -1
+ext 64 -1
+file 1 1 1 0
+ext 0 -2
+ext 64 -1
+";
+    assert_eq!(run(input), wanted);
+}
+
+#[test]
+fn holes_beside_stored_pages_are_listed_by_set() {
+    // File 0 is created in set 0 and in set 1, and pages 1, 2, 4 and 62 are
+    // written in both: holes at the front, between and at the end.
+    let input = "6001000000000000 1000000000000000 1100000000000000 \
+        2000020004004100 2000080002004100 20007C0002004100 \
+        2100020004004200 2100080002004200 21007C0002004200";
+    let wanted = "\
+call 1 6 0 0 0 0
+call 2 1 0 0 0 0
+call 3 1 0 0 0 0
+call 4 2 0 2 0 0
+call 5 2 0 1 0 0
+call 6 2 0 1 0 0
+call 7 2 0 2 0 0
+call 8 2 0 1 0 0
+call 9 2 0 1 0 0
+set 0 0 8 1
+file 0 0 1 32256
+ext 0 -1
+ext 1 0
+ext 3 -1
+ext 4 2
+ext 5 -1
+ext 62 3
+ext 63 -1
+ext 64 -1
+set 1 1 0 1
+file 1 0 1 32256
+ext 0 -2
+ext 1 4
+ext 3 -2
+ext 4 6
+ext 5 -2
+ext 62 7
+ext 63 -2
+ext 64 -1
+";
+    assert_eq!(run(input), wanted);
+}
+
+#[test]
+fn holes_given_by_the_parents_writes_do_not_join_unmapped_pages() {
+    // The file of set 0 is all holes when the read-only set 1 is made. Writes
+    // of pages 0, 5 to 7 and 63 in set 0 make these pages holes in set 1.
+    let input = "1000000000000000 5001000000000000 \
+        2000000002004100 20000A0006004100 20007E0002004100";
+    let wanted = "\
+call 1 1 0 0 0 0
+call 2 5 0 0 0 0
+call 3 2 0 1 0 0
+call 4 2 0 3 0 0
+call 5 2 0 1 0 0
+set 0 0 8 1
+file 0 0 1 32768
+ext 0 0
+ext 1 -1
+ext 5 1
+ext 8 -1
+ext 63 4
+ext 64 -1
+set 1 1 0 0
+file 1 0 1 0
+ext 0 -2
+ext 1 -1
+ext 5 -2
+ext 8 -1
+ext 63 -2
+ext 64 -1
+";
+    assert_eq!(run(input), wanted);
+}
+
+#[test]
+fn holes_given_by_a_delete_in_the_parent() {
+    // Page 1 is copied to the read-only set 1, all others become holes there.
+    let input = "1000000000000000 2000020002004100 5001000000000000 4000000000000000";
+    let wanted = "\
+call 1 1 0 0 0 0
+call 2 2 0 1 0 0
+call 3 5 0 0 0 0
+call 4 4 0 0 1 0
+set 0 0 8 1
+set 1 1 0 0
+file 1 0 1 1024
+ext 0 -2
+ext 1 1
+ext 2 -2
+ext 64 -1
+";
+    assert_eq!(run(input), wanted);
+}
+
+#[test]
+fn holes_made_by_truncates_in_copies() {
+    let input = "\
+        1000000000000000 200000000C004100 \
+        1010000000000000 2010040004004100 \
+        1020000000000000 3020800000000000 \
+        6001000000000000 6002000000000000 \
+        2100020002004200 3100040000000000 2100080002004200 \
+        3110006400000000 3120780000000000 \
+        3210000000000000 3220000000000000";
+    // In set 0: file 0 has pages 0 to 5, file 1 pages 2 and 3, file 2 none and
+    // the largest size.
+    // In set 1: file 0 has page 1 written, is cut to 1,024, has page 4 written;
+    // file 1 is cut to 100, over a hole, so its page 0 stays unmapped; file 2
+    // is cut to 60 pages.
+    // In set 2: file 0 is virgin, files 1 and 2 are cut to 0.
+    let wanted = "\
+call 1 1 0 0 0 0
+call 2 2 0 6 0 0
+call 3 1 0 0 0 0
+call 4 2 0 2 0 0
+call 5 1 0 0 0 0
+call 6 3 0 0 0 0
+call 7 6 0 0 0 0
+call 8 6 0 0 0 0
+call 9 2 0 1 0 0
+call 10 3 0 0 0 0
+call 11 2 0 1 0 0
+call 12 3 0 0 0 0
+call 13 3 0 0 0 0
+call 14 3 0 0 0 0
+call 15 3 0 0 0 0
+set 0 0 8 1
+file 0 0 1 3072
+ext 0 0
+ext 6 -1
+ext 64 -1
+file 0 1 1 2048
+ext 0 -1
+ext 2 6
+ext 4 -1
+ext 64 -1
+file 0 2 1 32768
+ext 0 -1
+ext 64 -1
+set 1 1 0 1
+file 1 0 1 2560
+ext 0 -1
+ext 1 8
+ext 2 -2
+ext 4 9
+ext 5 -2
+ext 6 -1
+ext 64 -1
+file 1 1 1 100
+ext 0 -1
+ext 1 -2
+ext 4 -1
+ext 64 -1
+file 1 2 1 30720
+ext 0 -1
+ext 60 -2
+ext 64 -1
+set 2 1 0 1
+file 2 0 2 3072
+ext 0 -1
+ext 64 -1
+file 2 1 1 0
+ext 0 -2
+ext 4 -1
+ext 64 -1
+file 2 2 1 0
+ext 0 -2
+ext 64 -1
+";
+    assert_eq!(run(input), wanted);
+}
+
+#[test]
+fn holes_of_copies_at_every_level() {
+    // Sets 7, 6, 5, 4 and 3, each made from the one before, are levels 1 to 5.
+    // The file is all holes; then level n writes page n, from the root down,
+    // and level n + 1 gets a hole there.
+    let input = "1000000000000000 \
+        6007000000000000 6706000000000000 6605000000000000 6504000000000000 6403000000000000 \
+        2000000002004100 2700020002004200 2600040002004300 2500060002004400 2400080002004500 \
+        23000A0002004600";
+    let wanted = "\
+call 1 1 0 0 0 0
+call 2 6 0 0 0 0
+call 3 6 0 0 0 0
+call 4 6 0 0 0 0
+call 5 6 0 0 0 0
+call 6 6 0 0 0 0
+call 7 2 0 1 0 0
+call 8 2 0 1 0 0
+call 9 2 0 1 0 0
+call 10 2 0 1 0 0
+call 11 2 0 1 0 0
+call 12 2 0 1 0 0
+set 0 0 8 1
+file 0 0 1 512
+ext 0 0
+ext 1 -1
+ext 64 -1
+set 7 1 0 1
+file 7 0 1 1024
+ext 0 -2
+ext 1 1
+ext 2 -1
+ext 64 -1
+set 6 2 7 1
+file 6 0 1 1536
+ext 0 -1
+ext 1 -2
+ext 2 2
+ext 3 -1
+ext 64 -1
+set 5 3 6 1
+file 5 0 1 2048
+ext 0 -1
+ext 2 -2
+ext 3 3
+ext 4 -1
+ext 64 -1
+set 4 4 5 1
+file 4 0 1 2560
+ext 0 -1
+ext 3 -2
+ext 4 4
+ext 5 -1
+ext 64 -1
+set 3 5 4 1
+file 3 0 1 3072
+ext 0 -1
+ext 4 -2
+ext 5 5
+ext 6 -1
+ext 64 -1
+";
+    assert_eq!(run(input), wanted);
+}
+
+#[test]
+fn a_marked_file_with_a_hole_has_no_extents() {
+    // File 0 of set 1 has a hole, page 9; then file 1 of set 0 fills the store.
+    let full = "1000000000000000 2000000002004100 6001000000000000 2000120002004100 \
+        1120000000000000 1010000000000000 \
+        2010000010004300 2010100010004300 2010200010004300 2010300010004300 \
+        2010400010004300 2010500010004300 2010600010004300 201070000C004300";
+    let calls = "\
+call 1 1 0 0 0 0
+call 2 2 0 1 0 0
+call 3 6 0 0 0 0
+call 4 2 0 1 0 0
+call 5 1 0 0 0 0
+call 6 1 0 0 0 0
+call 7 2 0 8 0 0
+call 8 2 0 8 0 0
+call 9 2 0 8 0 0
+call 10 2 0 8 0 0
+call 11 2 0 8 0 0
+call 12 2 0 8 0 0
+call 13 2 0 8 0 0
+call 14 2 0 6 0 0
+";
+    let set_0 = "\
+set 0 0 8 1
+file 0 0 1 5120
+ext 0 0
+ext 1 -1
+ext 9 1
+ext 10 -1
+ext 64 -1
+file 0 1 1 31744
+ext 0 2
+ext 62 -1
+ext 64 -1
+";
+    let before = "\
+set 1 1 0 1
+file 1 0 1 512
+ext 0 -1
+ext 9 -2
+ext 10 -1
+ext 64 -1
+file 1 2 1 0
+ext 0 -2
+ext 64 -1
+";
+    assert_eq!(run(full), [calls, set_0, before].concat());
+    let after = "\
+set 1 1 0 1
+file 1 0 3 0
+file 1 2 1 0
+ext 0 -2
+ext 64 -1
+";
+    let marking = format!("{full} 2000000000014400");
+    assert_eq!(run(&marking), [calls, "call 15 2 0 0 0 1\n", set_0, after].concat());
 }
