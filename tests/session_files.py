@@ -151,12 +151,15 @@ def answer_words(answer):
 
 def listing_words(listing):
     """Each line of the listing with what it says."""
+    in_set = None
     for place, (word, numbers) in enumerate(listing):
+        if word == "set":
+            in_set = numbers[0]
         line = " ".join([word, *map(str, numbers)])
-        yield line, line_words(word, numbers, listing[place + 1:])
+        yield line, line_words(word, numbers, in_set, listing[place + 1:])
 
 
-def line_words(word, numbers, after):
+def line_words(word, numbers, in_set, after):
     if word == "set":
         number, level, parent, writeable = numbers
         kind = "writeable" if writeable else "read-only"
@@ -170,6 +173,8 @@ def line_words(word, numbers, after):
         return ""
     last = after[0][1][0] - 1
     pages = f"    page {first}" if last == first else f"    pages {first} to {last}"
-    if block < 0:
-        return f"{pages}: not stored here"
+    if block == (-1 if in_set == 0 else -2):
+        return f"{pages}: a hole" if last == first else f"{pages}: holes"
+    if block == -1:
+        return f"{pages}: unmapped, read through the parent"
     return f"{pages}: from block {block} on" if last > first else f"{pages}: block {block}"

@@ -30,6 +30,9 @@ write set 0 file 0 at 600 length 10 fill 0x42
 WORKED_HEX = "1000000000000000 2000000004004100 5001000000000000 20000258000A4200"
 SVG = "{http://www.w3.org/2000/svg}"
 
+# A listing of set 0 with one file, pages 0 and 1 in blocks 7 and 8.
+ROOT_FILE = "set 0 0 8 1\nfile 0 0 1 1024\next 0 7\next 2 -1\next 64 -1\n"
+
 
 def run(tool, *arguments, data=b""):
     command = [sys.executable, os.path.join(ROOT, "tools", tool), *arguments]
@@ -39,6 +42,12 @@ def run(tool, *arguments, data=b""):
 def read(*path):
     with open(os.path.join(ROOT, *path), encoding="utf-8") as file:
         return file.read()
+
+
+def copy_file(number, parent, extents):
+    """A listing's lines of a copy with one file; the parent is set 0 or a copy of it."""
+    level = 1 if parent == 0 else 2
+    return f"set {number} {level} {parent} 1\nfile {number} 0 1 1024\n{extents}ext 64 -1\n"
 
 
 class Calls(unittest.TestCase):
@@ -159,19 +168,22 @@ class Picture(unittest.TestCase):
     def parts(self, svg, kind, tag="rect"):
         return [part for part in xml.fromstring(svg).iter(SVG + tag) if part.get("class") == kind]
 
+    def titles(self, svg, kind, tag="rect"):
+        return [part.findtext(SVG + "title") for part in self.parts(svg, kind, tag)]
+
     def test_blocks_have_the_colour_of_the_set_that_holds_them(self):
         svg = self.drawn(self.listing)
         titles = [(part.findtext(SVG + "title"), part.get("fill")) for part in xml.fromstring(svg).iter(SVG + "rect")]
         held = [(title, fill) for title, fill in titles if title and re.match(r"block \d+: set", title)]
         free = [title for title, _ in titles if title and title.endswith("not listed")]
-        self.assertEqual((len(held), len(free)), (42, 22))
+        self.assertEqual((len(held), len(free)), (47, 17))
         for title, fill in held:
             self.assertEqual(fill, picture.STRONG[int(re.match(r"block \d+: set (\d)", title)[1])], title)
 
     def test_shared_pages_are_shown(self):
         svg = self.drawn(self.listing)
-        shared = [part.findtext(SVG + "title") for part in self.parts(svg, "shared")]
-        self.assertEqual(len(shared), 37)
+        shared = self.titles(svg, "shared")
+        self.assertEqual(len(shared), 39)
         self.assertIn("block 13: set 0, file 3, page 11; also read by set 1, 2, 4, 6", shared)
         through = [part.findtext(SVG + "title") for part in self.parts(svg, "page") if part.get("fill") in picture.PALE]
         self.assertIn("page 1: block 14, held by set 2", through)
@@ -191,9 +203,56 @@ class Picture(unittest.TestCase):
         svg = self.drawn("set 0 0 8 1\nfile 0 0 1 1024\next 0 0\next 2 -1\next 64 -1\nset 1 1 0 0\nfile 1 0 1 1024\next 0 -1\next 64 -1\n")
         self.assertEqual(len(self.parts(svg, "shared")), 2)
 
+    def test_a_hole_of_a_copy_ends_the_resolving(self):
+        expected = {-1: [(0, 8), (0, 8), (0, 8)], -2: [(0, 8), (1, picture.HOLE), (1, picture.HOLE)]}
+        for mark, found in expected.items():  # page 1 in set 0, in set 1, and in set 2, a copy of set 1
+            listing = ROOT_FILE + copy_file(1, 0, f"ext 0 -1\next 1 {mark}\next 2 -1\n") + copy_file(2, 1, "ext 0 -1\n")
+            sets = picture.read_listing(listing).sets
+            self.assertEqual([picture.resolve(sets, number, 0, 1) for number in (0, 1, 2)], found)
+            self.assertEqual(picture.resolve(sets, 2, 0, 2), (0, picture.HOLE))
+            drawn = [title for title in self.titles(self.drawn(listing), "page") if title and title.startswith("page 1: block 8")]
+            self.assertEqual(len(drawn), 3 if mark == -1 else 1)
+
+    def test_a_hole_of_a_copy_is_not_counted_as_sharing(self):
+        listing = ROOT_FILE + copy_file(1, 0, "ext 0 -1\next 1 -2\next 2 -1\n") + copy_file(2, 1, "ext 0 -1\n") + copy_file(3, 0, "ext 0 -1\n")
+        shared = ["block 7: set 0, file 0, page 0; also read by set 1, 2, 3", "block 8: set 0, file 0, page 1; also read by set 3"]
+        self.assertEqual(self.titles(self.drawn(listing), "shared"), shared)
+
+    def test_holes_of_copies_have_a_look_of_their_own(self):
+        svg = self.drawn(self.listing)
+        holes = self.parts(svg, "hole", "path")
+        found = [(part.get("stroke"), part.findtext(SVG + "title")) for part in holes]
+        key = [(picture.STRONG[1], None)]
+        in_set_1 = [(picture.STRONG[1], f"page {page}: a hole of set 1") for page in (4, 5)]
+        in_set_2 = [(picture.STRONG[2], f"page {page}: a hole of set 2") for page in (5, 6, 7, 4, 5)]
+        self.assertEqual(found, in_set_1 + in_set_2 + key)
+        self.assertEqual(self.listing.count(" -2\n"), 3)
+        self.assertEqual(len({part.get("d") for part in holes}), len(holes))  # each at its own place
+
+    def test_the_look_of_a_hole_is_for_holes_of_copies_alone(self):
+        no_hole = ROOT_FILE + copy_file(1, 0, "ext 0 -1\n")
+        self.assertEqual(self.titles(self.drawn(no_hole), "hole", "path"), [None])  # the key
+        hole_above = no_hole.replace("ext 0 7\n", "ext 0 -1\n")
+        self.assertEqual(self.titles(self.drawn(hole_above), "hole", "path"), [None])
+        self.assertEqual(self.titles(self.drawn(hole_above), "page"), [None, None])  # the key
+        created = ROOT_FILE + copy_file(1, 0, "ext 0 -2\n")
+        self.assertEqual(len(self.titles(self.drawn(created), "hole", "path")), 64 + 1)
+
+    def test_the_key_tells_holes_from_unmapped_pages(self):
+        words = [part.text for part in self.parts(self.drawn(self.listing), "small", "text")]
+        self.assertIn("a hole of a copy: 512 zeros, whatever the parent has", words)
+        self.assertIn("unmapped: read through the parent; colour of the set that holds it", words)
+        self.assertIn("a hole of set 0; in a copy, an unmapped page that is a hole further up the tree", words)
+
+    def test_text_and_key_stay_inside_the_picture(self):
+        drawn = xml.fromstring(self.drawn("set 0 0 8 1\n"))
+        for part in drawn.iter(SVG + "text"):
+            self.assertLess(float(part.get("x")) + 6.2 * len(part.text), int(drawn.get("width")), part.text)
+            self.assertLess(float(part.get("y")), int(drawn.get("height")), part.text)
+
     def test_number_of_blocks(self):
         self.assertIn("Blocks 0 to 63", self.drawn(self.listing))
-        self.assertIn("Blocks 0 to 41", self.drawn(self.listing, "--blocks", "1"))  # 41 is the highest in the listing
+        self.assertIn("Blocks 0 to 46", self.drawn(self.listing, "--blocks", "1"))  # 46 is the highest in the listing
         self.assertIn("Blocks 0 to 99", self.drawn(self.listing, "--blocks", "100"))
 
     def test_a_title_is_escaped(self):
@@ -201,6 +260,7 @@ class Picture(unittest.TestCase):
 
     def test_bad_listings_name_line_and_what_was_expected(self):
         start = "set 0 0 8 1\nfile 0 0 1 512\n"
+        copy = "set 0 0 8 1\nset 1 1 0 0\nfile 1 0 1 512\n"
         bad = {
             "": "line 1: expected a line 'set'; found the end of the input",
             "sets 0\n": "line 1: expected call, end, set, file or ext; found 'sets 0'",
@@ -222,7 +282,11 @@ class Picture(unittest.TestCase):
             start + "ext 0 0\next 0 1\n": "line 4: expected a page from 1 to 64; found 0",
             start + "ext 0 -2\n": "line 3: expected -1 or a block from 0 to 4095; found -2",
             start + "ext 0 4096\n": "line 3: expected -1 or a block from 0 to 4095; found 4096",
+            copy + "ext 0 -3\n": "line 4: expected -2, -1 or a block from 0 to 4095; found -3",
+            copy + "ext 0 4096\n": "line 4: expected -2, -1 or a block from 0 to 4095; found 4096",
             start + "ext 0 0\next 64 0\n": "line 4: expected -1 after page 64; found 0",
+            start + "ext 0 0\next 64 -2\n": "line 4: expected -1 after page 64; found -2",
+            copy + "ext 0 -2\next 64 -2\n": "line 5: expected -1 after page 64; found -2",
             start + "ext 0 0\next 2 1\next 64 -1\n": "line 5: expected each block once; found block 1 also in file 0 of set 0",
         }
         for listing, expected in bad.items():
@@ -314,6 +378,34 @@ class SessionPrograms(unittest.TestCase):
         self.assertIn("the file expects 0; 0, 1, 0; found 8", ran.stdout)
         for arguments in ((), (path, "no-such-program"), ("no-such-file", "cat")):
             self.assertEqual(self.run_test("run-session", *arguments).returncode, 2, arguments)
+
+    def test_run_session_tells_holes_from_unmapped_pages(self):
+        path = os.path.join(files.FOLDER, "bench-afternoon.hex")
+        ran = self.run_test("run-session", path, self.printing(read("tests", "sessions", "bench-afternoon.out")))
+        self.assertEqual(ran.returncode, 0, ran.stderr)
+        lines = [" ".join(line.split()) for line in ran.stdout.splitlines()]
+        in_set_0, in_set_1 = (lines[lines.index(f"file {number} 3 1 6144 file 3, own, 6144 bytes") + 1:] for number in (0, 1))
+        self.assertEqual(in_set_0[:2], ["ext 0 -1 pages 0 to 3: holes", "ext 4 40 pages 4 to 5: from block 40 on"])
+        self.assertEqual(
+            in_set_1[:4],
+            [
+                "ext 0 -1 pages 0 to 3: unmapped, read through the parent",
+                "ext 4 -2 pages 4 to 5: holes",
+                "ext 6 -1 pages 6 to 63: unmapped, read through the parent",
+                "ext 64 -1",
+            ],
+        )
+        one_page = files.read_output(ROOT_FILE + copy_file(1, 0, "ext 0 -1\next 1 -2\next 2 -1\n")).listing
+        self.assertIn(("ext 1 -2", "    page 1: a hole"), list(files.listing_words(one_page)))
+
+    def test_the_manuals_listing_is_that_of_its_session(self):
+        manual = read("docs", "MANUAL.md")
+        path = os.path.join(files.FOLDER, "manual-listing.hex")
+        texts = [calls.to_text(step.data) for step in files.read_session(path).steps]
+        self.assertIn("\n".join(["```", *texts, "```"]), manual)
+        found = re.search(r"```\n(call 1 1 0 0 0 0\ncall 2 2 0 1 0 0\n.*?)```", manual, re.DOTALL)[1]
+        lines = [line.split("   ")[0] for line in found.splitlines()]
+        self.assertEqual("\n".join(lines) + "\n", read("tests", "sessions", "manual-listing.out"))
 
     def test_compare_sessions_names_the_first_line_that_differs(self):
         oracle = self.printing("set 0 0 8 1\nfile 0 0 1 0\next 0 -1\next 64 -1\n")

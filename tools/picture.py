@@ -8,8 +8,10 @@ Above stands the tree of sets: each set with its files, each file with its 64 pa
 pages have the colour of the set that holds them. A page that a copy reads through its parent has the holder's colour, paler,
 and a dot; its block has a thick frame and the number of sets that read it through others. Marked files are struck out.
 
-A listing shows a hole of a copy as -1 like a page that was not copied yet; where the parent has that page stored, it is drawn
-as read through the parent. Blocks of marked files are not in a listing.
+A listing has -1 for a hole of set 0. In any other set it has -2 for a hole and -1 for an unmapped page, which is read through
+the parent. A hole is 512 zeros, whatever the parent has: in a copy it is a white cell with a frame and a stroke in the copy's
+colour. A plain white cell is a hole of set 0, or an unmapped page that resolves to a hole of another set. Blocks of marked files
+are not in a listing.
 Exit status: 0 well, 1 a bad listing (the line is named with what was expected), 2 bad usage.
 """
 import collections
@@ -18,7 +20,8 @@ from xml.sax.saxutils import escape
 
 PAGES = 64
 MOST_BLOCKS = 4096
-NO_SET = 8
+ROOT, NO_SET = 0, 8
+UNMAPPED, HOLE = -1, -2  # in place of a block; a listing has -1 for a hole of set 0
 STATES = {1: "own", 2: "virgin", 3: "marked"}
 
 # A colour for each set: strong where the set holds a block, pale where another set reads it.
@@ -39,15 +42,15 @@ class Set:
 class File:
     def __init__(self, number, state, size):
         self.number, self.state, self.size = number, state, size
-        self.extents = []  # (first page, block or -1)
+        self.extents = []  # (first page, block, UNMAPPED or HOLE)
         self.closed = state == 3
 
-    def blocks(self):
-        """Page by page the block, or None where the page is not stored."""
+    def entries(self):
+        """Page by page the block, UNMAPPED or HOLE."""
         found = []
         ends = [first for first, _ in self.extents[1:]] + [PAGES]
         for (first, block), end in zip(self.extents, ends):
-            found += [block + step if block >= 0 else None for step in range(end - first)]
+            found += [block + step if block >= 0 else block for step in range(end - first)]
         return found
 
 
@@ -102,8 +105,10 @@ class Reader:
             expect(block == -1, "-1 after page 64", block)
             file.closed = True
             return
-        expect(-1 <= block < MOST_BLOCKS, f"-1 or a block from 0 to {MOST_BLOCKS - 1}", block)
-        file.extents.append((first, block))
+        root = self.set.number == ROOT
+        marks = "-1" if root else "-2, -1"
+        expect((-1 if root else -2) <= block < MOST_BLOCKS, f"{marks} or a block from 0 to {MOST_BLOCKS - 1}", block)
+        file.extents.append((first, HOLE if root and block == -1 else block))
 
     def hold(self, file, first, block, end):
         for step in range(end - first if block >= 0 else 0):
@@ -139,15 +144,14 @@ def read_listing(source):
 
 
 def resolve(sets, number, file, page):
-    """The set that holds the page as this set reads it, and the block; (None, None) for a hole."""
+    """The set whose map the page is found in, and the block or HOLE there. An unmapped page is what it is in the parent set."""
     entry = sets.get(number)
     while entry is not None and file in entry.files and entry.files[file].state != 3:
-        record = entry.files[file]
-        block = record.blocks()[page]
-        if block is not None:
+        block = entry.files[file].entries()[page]
+        if block != UNMAPPED:
             return entry.number, block
         entry = sets.get(entry.parent)
-    return None, None
+    return None, UNMAPPED
 
 
 def readers(sets):
@@ -157,7 +161,7 @@ def readers(sets):
         for file, record in entry.files.items():
             for page in range(PAGES if record.state != 3 else 0):
                 holder, block = resolve(sets, number, file, page)
-                if holder is not None and holder != number:
+                if block >= 0 and holder != number:
                     found[block].append(number)
     return found
 
@@ -187,9 +191,13 @@ class Drawing:
         self.add(f"<text {attributes}>{escape(text)}</text>")
 
     def box(self, x, y, width, height, fill, kind, title=None):
-        inner = f"<title>{escape(title)}</title>" if title else ""
-        shape = f'<rect x="{x}" y="{y}" width="{width}" height="{height}" fill="{fill}" class="{kind}"'
-        self.add(f"{shape}>{inner}</rect>" if inner else f"{shape}/>")
+        self.titled("rect", f'x="{x}" y="{y}" width="{width}" height="{height}" fill="{fill}" class="{kind}"', title)
+
+    def titled(self, tag, attributes, title):
+        if title:
+            self.add(f"<{tag} {attributes}><title>{escape(title)}</title></{tag}>")
+        else:
+            self.add(f"<{tag} {attributes}/>")
 
     def line(self, x1, y1, x2, y2, kind):
         self.add(f'<path d="M{x1} {y1}L{x2} {y2}" class="{kind}"/>')
@@ -206,6 +214,7 @@ text { font-family: "DejaVu Sans", Verdana, sans-serif; font-size: 12px; fill: #
 .set { stroke: #888888; stroke-width: 1 }
 .page { stroke: #FFFFFF; stroke-width: 1 }
 .none { stroke: #DDDDDD; stroke-width: 1 }
+.hole { fill: #FFFFFF; stroke-width: 1.2 }
 .block { stroke: #AAAAAA; stroke-width: 1 }
 .shared { stroke: #000000; stroke-width: 2.5 }
 .tree { stroke: #888888; stroke-width: 2; fill: none }
@@ -272,8 +281,10 @@ def draw_file(drawing, sets, entry, file, x, y):
     drawing.add(f'<path d="{edges}" class="none"/>')
     for page in range(PAGES):
         holder, block = resolve(sets, entry.number, file.number, page)
-        if holder is not None:
+        if block >= 0:
             draw_page(drawing, entry, page, holder, block, strip + page * CELL, y)
+        elif holder == entry.number != ROOT:
+            draw_hole(drawing, holder, strip + page * CELL, y, f"page {page}: a hole of set {holder}")
     end = strip + round(file.size / 512 * CELL, 1)
     drawing.line(end, y - 2, end, y + STRIP_HEIGHT + 2, "size")
 
@@ -282,9 +293,19 @@ def draw_page(drawing, entry, page, holder, block, x, y):
     if holder == entry.number:
         drawing.box(x, y, CELL, STRIP_HEIGHT, STRONG[holder], "page", f"page {page}: block {block}")
     else:
-        title = f"page {page}: block {block}, held by set {holder}"
-        drawing.box(x, y, CELL, STRIP_HEIGHT, PALE[holder], "page", title)
-        drawing.add(f'<circle cx="{x + CELL / 2}" cy="{y + STRIP_HEIGHT / 2}" r="2" fill="{STRONG[holder]}"/>')
+        draw_shared(drawing, holder, x, y, f"page {page}: block {block}, held by set {holder}")
+
+
+def draw_shared(drawing, holder, x, y, title=None):
+    drawing.box(x, y, CELL, STRIP_HEIGHT, PALE[holder], "page", title)
+    drawing.add(f'<circle cx="{x + CELL / 2}" cy="{y + STRIP_HEIGHT / 2}" r="2" fill="{STRONG[holder]}"/>')
+
+
+def draw_hole(drawing, number, x, y, title=None):
+    """A hole of a copy: a frame and a stroke from corner to corner."""
+    width, height = CELL - 5, STRIP_HEIGHT - 5
+    shape = f"M{x + 2.5} {y + 2.5}h{width}v{height}h-{width}zl{width} {height}"
+    drawing.titled("path", f'd="{shape}" stroke="{STRONG[number]}" class="hole"', title)
 
 
 def draw_blocks(drawing, listing, blocks, y):
@@ -316,26 +337,30 @@ def draw_block(drawing, block, holder, reading, x, y):
 
 def draw_key(drawing, y):
     x = MARGIN
-    entries = (
-        (STRONG[0], "page", "stored in this set's own map"),
-        (PALE[0], "page", "read through the parent; colour of the set that holds it"),
-        ("#FFFFFF", "none", "not stored anywhere: a hole"),
-    )
-    for fill, kind, words in entries:
-        drawing.box(x, y, CELL, STRIP_HEIGHT, fill, kind)
-        if fill == PALE[0]:
-            drawing.add(f'<circle cx="{x + CELL / 2}" cy="{y + STRIP_HEIGHT / 2}" r="2" fill="{STRONG[0]}"/>')
-        drawing.text(x + 18, y + 12, words, "small")
-        x += 40 + 6 * len(words)
-    drawing.line(x, y - 2, x, y + STRIP_HEIGHT + 2, "size")
-    drawing.text(x + 8, y + 12, "size of the file", "small")
+    drawing.box(x, y, CELL, STRIP_HEIGHT, STRONG[ROOT], "page")
+    x = draw_meaning(drawing, x, y, "stored in this set's own map")
+    draw_shared(drawing, ROOT, x, y)
+    x = draw_meaning(drawing, x, y, "unmapped: read through the parent; colour of the set that holds it")
+    drawing.line(x + CELL / 2, y - 2, x + CELL / 2, y + STRIP_HEIGHT + 2, "size")
+    draw_meaning(drawing, x, y, "size of the file")
+    x, y = MARGIN, y + 24
+    draw_hole(drawing, ROOT + 1, x, y)
+    x = draw_meaning(drawing, x, y, "a hole of a copy: 512 zeros, whatever the parent has")
+    drawing.box(x, y, CELL, STRIP_HEIGHT, "#FFFFFF", "none")
+    draw_meaning(drawing, x, y, "a hole of set 0; in a copy, an unmapped page that is a hole further up the tree")
     notes = (
         "Thick frame: the block is shared; +2 says that two more sets read it. Struck out: a marked file; its blocks are not in the listing.",
-        "White blocks are free, or held by a marked file. A hole of a copy that the listing shows as -1 looks like a page read through the parent.",
+        "White blocks are free, or held by a marked file. A listing has -2 for a hole of a copy, -1 for its unmapped pages and for holes of set 0.",
     )
     for place, words in enumerate(notes):
         drawing.text(MARGIN, y + 36 + 16 * place, words, "small")
     return y + 40 + 16 * len(notes)
+
+
+def draw_meaning(drawing, x, y, words):
+    """What the cell at x means; gives the place of the next cell."""
+    drawing.text(x + 18, y + 12, words, "small")
+    return x + 40 + 6 * len(words)
 
 
 def main(arguments):
