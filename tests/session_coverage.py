@@ -28,7 +28,11 @@ FIELDS = [
 ENDS = SHORTS + OPS + [("length", 2)] + FIELDS
 
 LAST_BLOCK = 63
-NOT_STORED = -1
+
+# What an `ext` line of a copy says of its pages: a block, or one of the two marks of document 02, Ask 1. In set 0, -1 is a hole.
+UNMAPPED, HOLE = -1, -2
+MARKS = {UNMAPPED: "unmapped pages", HOLE: "holes"}
+KINDS = ("a run", *MARKS.values())
 
 SHAPES = (
     "a file with no page stored",
@@ -45,6 +49,19 @@ SHAPES = (
     "a run after a run, blocks further back",
     "a run up to block 63 and one from block 0",
 )
+IN_COPIES = (
+    "holes at page 0",
+    "holes between other runs",
+    "holes up to page 63",
+    "a hole of one page",
+    "holes of several pages",
+    "a file that is all holes",
+    "a virgin file, all unmapped",
+    *(f"{kind} after {before}" for kind in KINDS for before in KINDS if kind != before or kind == "a run"),
+    *(f"holes in a set of level {level}" for level in range(1, 6)),
+    *(f"holes in set {number}" for number in range(1, 8)),
+)
+ALL_HOLES_IN_ROOT = "a file of set 0 that is all holes"
 
 
 def wanted():
@@ -59,7 +76,8 @@ def wanted():
     names += [f"a set of level {level}" for level in range(6)]
     names += ["a read-only set", "a writeable set", "two children of a set", "a child with a lower number listed later"]
     names += ["an own file", "a virgin file", "a marked file"]
-    return names + [f"extents: {shape}" for shape in SHAPES]
+    names += [f"extents: {shape}" for shape in SHAPES]
+    return names + [f"extents of copies: {shape}" for shape in IN_COPIES] + [ALL_HOLES_IN_ROOT]
 
 
 def seen(data, output):
@@ -103,19 +121,25 @@ def count_end(data, output, count):
 
 def count_listing(listing, count):
     children = collections.defaultdict(list)
-    extents = []
+    holder, extents = None, []
     for word, numbers in listing:
         if word == "set":
             number, level, parent, writeable = numbers
             count[f"a set of level {level}"] += 1
             count["a writeable set" if writeable else "a read-only set"] += 1
             children[parent].append(number)
+            holder = (number, level)
         elif word == "file":
-            count[("an own file", "a virgin file", "a marked file")[numbers[2] - 1]] += 1
+            state = ("an own file", "a virgin file", "a marked file")[numbers[2] - 1]
+            count[state] += 1
         elif numbers[0] < 64:
             extents.append(tuple(numbers))
         else:
             count_shapes(extents, count)
+            if holder[0]:
+                count_in_copy(*holder, state, extents, count)
+            else:
+                count[ALL_HOLES_IN_ROOT] += extents == [(0, -1)]
             extents = []
     for numbers in children.values():
         count["two children of a set"] += len(numbers) == 2
@@ -128,23 +152,49 @@ def count_shapes(extents, count):
         count[f"extents: {shape}"] += bool(holds)
 
     ends = [first for first, _ in extents[1:]] + [64]
-    add("a file with no page stored", [block for _, block in extents] == [NOT_STORED])
-    add("a file stored in one run of 64", len(extents) == 1 and extents[0][1] != NOT_STORED)
+    add("a file with no page stored", all(block < 0 for _, block in extents))
+    add("a file stored in one run of 64", len(extents) == 1 and extents[0][1] >= 0)
     blocks = [block for _, block in extents]
     for place, ((first, block), end) in enumerate(zip(extents, ends)):
-        stored, inner = block != NOT_STORED, 0 < place < len(extents) - 1
+        stored, inner = block >= 0, 0 < place < len(extents) - 1
         add("a run at page 0" if stored else "pages not stored at page 0", place == 0)
         add("a run up to page 63" if stored else "pages not stored up to page 63", end == 64)
         add("a run of one page", stored and end == first + 1)
         add("a run of several pages", stored and end > first + 1)
-        beside = blocks[place - 1] if place else NOT_STORED
-        add("a run between pages not stored", stored and inner and beside == blocks[place + 1] == NOT_STORED)
+        beside = blocks[place - 1] if place else UNMAPPED
+        add("a run between pages not stored", stored and inner and beside < 0 and blocks[place + 1] < 0)
         add("pages not stored between runs", not stored and inner)
-        if stored and beside != NOT_STORED:
+        if stored and beside >= 0:
             last = beside + first - extents[place - 1][0] - 1
             add("a run after a run, blocks further on", block > last)
             add("a run after a run, blocks further back", block < last)
             add("a run up to block 63 and one from block 0", (last, block) == (LAST_BLOCK, 0))
+
+
+def kind(block):
+    return MARKS.get(block, "a run")
+
+
+def count_in_copy(number, level, state, extents, count):
+    """What the extents of a file of a set other than 0 show of holes and unmapped pages."""
+
+    def add(shape, holds):
+        assert shape in IN_COPIES, shape
+        count[f"extents of copies: {shape}"] += bool(holds)
+
+    ends = [first for first, _ in extents[1:]] + [64]
+    add("a file that is all holes", extents == [(0, HOLE)])
+    add("a virgin file, all unmapped", state == "a virgin file" and extents == [(0, UNMAPPED)])
+    for place, ((first, block), end) in enumerate(zip(extents, ends)):
+        if place:
+            add(f"{kind(block)} after {kind(extents[place - 1][1])}", True)
+        hole = block == HOLE
+        add("holes at page 0", hole and first == 0)
+        add("holes between other runs", hole and 0 < place < len(extents) - 1)
+        add("holes up to page 63", hole and end == 64)
+        add("a hole of one page" if end == first + 1 else "holes of several pages", hole)
+        add(f"holes in a set of level {level}", hole)
+        add(f"holes in set {number}", hole)
 
 
 def out_of_table(count):
