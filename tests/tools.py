@@ -412,7 +412,7 @@ class SessionPrograms(unittest.TestCase):
         other = self.printing("set 0 0 8 1\nfile 0 0 1 9\next 0 -1\next 64 -1\n")
         same = self.run_test("compare-sessions", oracle, oracle, "1", "1")
         self.assertEqual(same.returncode, 1)  # these outputs show next to nothing
-        self.assertIn("shown by the session files: 8 of", same.stdout)
+        self.assertIn("shown by the session files: 9 of", same.stdout)
         self.assertIn("the file expects 0; 0, 0, 0; found not read", same.stdout)
         self.assertNotIn("the program has", same.stdout)
         ran = self.run_test("compare-sessions", other, oracle, "1", "1")
