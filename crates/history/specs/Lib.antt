@@ -1,4 +1,5 @@
 pub mod Image
 pub mod Events
 pub mod Demand3
+pub mod Others
 pub mod Claims

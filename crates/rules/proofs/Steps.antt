@@ -7,3 +7,4 @@ pub mod StepFour
 pub mod WriterSteps
 pub mod Pending
 pub mod Erased
+pub mod Handing

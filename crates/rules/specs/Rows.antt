@@ -58,10 +58,10 @@ rows =
     ∷ record { blocks = 1; calls = make 0 1 true ∷ remove 0 ∷ []; gives = refusal 11 }
     ∷ record { blocks = 1; calls = make 0 1 true ∷ remove 1 ∷ remove 0 ∷ []; gives = refusal 12 }
     -- M11: 1,024 bytes stored, virgin child, room, truncate to 512
-    ∷ record { blocks = 3; calls = create 0 0 ∷ write 0 0 0 (replicate 1024 7) ∷ make 0 1 true ∷ truncate 0 0 512 ∷ []; gives = gives 0 0 1 0 }
-    -- M12: B = 2 full with one file, set 1 made, delete in set 0; then 2 free
-    ∷ record { blocks = 2; calls = create 0 0 ∷ write 0 0 0 (replicate 1024 7) ∷ make 0 1 true ∷ delete 0 0 ∷ []; gives = gives 0 0 0 1 }
-    ∷ record { blocks = 2; calls = create 0 0 ∷ write 0 0 0 (replicate 1024 7) ∷ make 0 1 true ∷ delete 0 0 ∷ tellFree ∷ []; gives = gives 0 2 0 0 }
+    ∷ record { blocks = 3; calls = create 0 0 ∷ write 0 0 0 (replicate 1024 7) ∷ make 0 1 true ∷ truncate 0 0 512 ∷ []; gives = gives 0 0 0 0 }
+    -- M12: B = 2 full with one file, set 1 made, delete in set 0; then none free
+    ∷ record { blocks = 2; calls = create 0 0 ∷ write 0 0 0 (replicate 1024 7) ∷ make 0 1 true ∷ delete 0 0 ∷ []; gives = gives 0 0 0 0 }
+    ∷ record { blocks = 2; calls = create 0 0 ∷ write 0 0 0 (replicate 1024 7) ∷ make 0 1 true ∷ delete 0 0 ∷ tellFree ∷ []; gives = gives 0 0 0 0 }
     ∷ []
 
 -- each row's answer is the one given

@@ -39,6 +39,10 @@ cutPages n z = from (n / pageBytes) (suc ((z - 1) / pageBytes - n / pageBytes))
 unfoldable pub keptPages : {K : Type 0} → ℕ → Entry K → List ℕ
 keptPages n e = cond (not (eqb (n % pageBytes) 0) && isStored e) (n / pageBytes ∷ []) []
 
+-- the page of n, where n is no multiple of 512: "the part page of a truncate"
+unfoldable pub partPages : ℕ → List ℕ
+partPages n = cond (eqb (n % pageBytes) 0) [] (n / pageBytes ∷ [])
+
 -- "All other touched pages become holes in this map"
 unfoldable pub droppedPages : ℕ → ℕ → List ℕ
 droppedPages n z = cond (eqb (n % pageBytes) 0) (cutPages n z) (from (suc (n / pageBytes)) ((z - 1) / pageBytes - n / pageBytes))
@@ -69,6 +73,10 @@ module _ {K : Type 0} where
   -- 64 holes
   unfoldable pub holes : ℕ → Entry K
   holes p = cond (ltb p pageCount) hole unmapped
+
+-- How a page is given to the children that need it: copied; or, where it is stored in the file's own map, handed to the first of them and copied for the others.
+pub data Giving : Type 0 where
+  copied handed : Giving
 
 -- What a call works on: the memory, the files of its number, the blocks pending for pages of the writer from step 3 until they enter its map in step 5, the counts.
 pub record Work (S : Storage) : Type 0 where
@@ -152,9 +160,23 @@ module _ (S : Storage) (t : Tree) where
   unfoldable pub give : ℕ → ℕ → ℕ → Work S → Work S
   give s p c w = cond (needs (w .files) c p) (supply (resolve t (w .files) s p) c p w) w
 
-  -- "For each touched page ascending, for each child in order of making that needs it"
-  unfoldable pub giveAll : ℕ → List ℕ → Work S → Work S
-  giveAll s ps w = each (λ p. each (give s p) (t .children s)) ps w
+  -- "takes over the block itself": page p, stored in the map of set s, moves to the map of set c
+  unfoldable pub handOver : ℕ → ℕ → ℕ → Work S → Work S
+  handOver s p c w = withFiles w (putEntry (putEntry (w .files) c p (w .files s .map p)) s p hole)
+
+  -- "the first child that needs it takes over the block itself. Other children needing it still get copies", which are made before the block moves
+  unfoldable pub hand : ℕ → ℕ → List ℕ → Work S → Work S
+  hand s p [] w = w
+  hand s p (c ∷ cs) w = cond (needs (w .files) c p) (handOver s p c (each (give s p) cs w)) (hand s p cs w)
+
+  -- "for each child in order of making that needs it"
+  unfoldable pub givePage : Giving → ℕ → ℕ → Work S → Work S
+  givePage copied s p w = each (give s p) (t .children s) w
+  givePage handed s p w = cond (isStored (w .files s .map p)) (hand s p (t .children s) w) (each (give s p) (t .children s) w)
+
+  -- "For each touched page ascending"
+  unfoldable pub giveAll : Giving → ℕ → List ℕ → Work S → Work S
+  giveAll how s ps w = each (givePage how s) ps w
 
   -- Step 5, for one page. "Old bytes are carried to own pages, new bytes laid over": lay makes the new page of the old one.
   unfoldable pub enterAs : Entry (S .Block) → ℕ → ℕ → S .Page → Work S → Work S
@@ -175,12 +197,12 @@ module _ (S : Storage) (t : Tree) where
   dropPage s p w =
       record { memory = freeEntry S (w .files s .map p) (w .memory); files = putEntry (w .files) s p hole; pending = w .pending; taken = w .taken; copies = w .copies; marks = w .marks }
 
-  -- A change of the file in set s, steps 2 to 5: the touched pages ps are given to the children; of these rs get new bytes by lay, ds become holes; the size is changed by resized.
+  -- A change of the file in set s, steps 2 to 5: of the touched pages, ps are copied to the children and ds handed over; of ps, rs get new bytes by lay; ds become holes; the size is changed by resized.
   unfoldable pub change : ℕ → List ℕ → List ℕ → List ℕ → (ℕ → S .Page → S .Page) → (ℕ → ℕ) → Work S → Work S
   change s ps rs ds lay resized w =
       let w₁ : Work S = each settle (s ∷ t .children s) w in
       let w₂ : Work S = each (reserve s) rs w₁ in
-      let w₃ : Work S = giveAll s ps w₂ in
+      let w₃ : Work S = giveAll handed s ds (giveAll copied s ps w₂) in
       let w₄ : Work S = each (enter s lay) rs w₃ in
       let w₅ : Work S = each (dropPage s) ds w₄ in
       resize s (resized (w₅ .files s .size)) w₅
@@ -196,7 +218,7 @@ module _ (S : Storage) (t : Tree) where
   truncateAs true above s n z w = w
   truncateAs false true s n z w = change s [] [] [] (λ p v. v) (λ m. n) w
   truncateAs false false s n z w =
-      change s (cutPages n z) (keptPages n (resolve t (w .files) s (n / pageBytes))) (droppedPages n z) (λ p. S .cut (n % pageBytes)) (λ m. n) w
+      change s (partPages n) (keptPages n (resolve t (w .files) s (n / pageBytes))) (droppedPages n z) (λ p. S .cut (n % pageBytes)) (λ m. n) w
 
   unfoldable pub truncateFile : ℕ → ℕ → Work S → Work S
   truncateFile s n w = let z : ℕ = sizeByReading t (w .files) s in truncateAs (eqb n z) (ltb z n) s n z w
@@ -213,7 +235,7 @@ module _ (S : Storage) (t : Tree) where
 
   -- "Delete does step 2 for the children and step 4 for all 64 pages, frees the file's blocks, leaves it absent. A marked file is only freed and made absent."
   unfoldable pub deleteAs : Bool → ℕ → Work S → Work S
-  deleteAs true s w = eraseFile s (giveAll s (from 0 pageCount) (each settle (t .children s) w))
+  deleteAs true s w = eraseFile s (giveAll handed s (from 0 pageCount) (each settle (t .children s) w))
   deleteAs false s w = eraseFile s w
 
   unfoldable pub deleteFile : ℕ → Work S → Work S

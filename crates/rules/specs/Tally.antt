@@ -123,13 +123,27 @@ module _ (t : Tree) where
   childTurn s p c x =
       cond (live (x .files c .state) && isUnmapped (x .files c .map p)) (childPage (kindAt (x .files) s p) p c x) x
 
-  -- the turns at page p, if it passes: the children in order of making
-  abbrev pub pageTurns : ℕ → (ℕ → Bool) → ℕ → Turn → Turn
-  pageTurns s touches p x = cond (touches p) (eachChild (childTurn s p) (t .children s) x) x
+  -- page p, stored in the map of set s, is taken over by child c: no copy, and no block is taken
+  unfoldable pub takenOver : ℕ → ℕ → ℕ → Turn → Turn
+  takenOver s p c x = record { files = tallyKind s p hole (tallyKind c p (stored tt) (x .files)); free = x .free; copies = x .copies; marks = x .marks }
+
+  -- the first of the children that needs it takes it over, when those behind it have their copies
+  unfoldable pub handTurns : ℕ → ℕ → List ℕ → Turn → Turn
+  handTurns s p [] x = x
+  handTurns s p (c ∷ cs) x =
+      cond (live (x .files c .state) && isUnmapped (x .files c .map p)) (takenOver s p c (eachChild (childTurn s p) cs x)) (handTurns s p cs x)
+
+  -- the turns at page p of the file in set s, handed over if it may be
+  unfoldable pub pageTurns : ℕ → Bool → ℕ → Turn → Turn
+  pageTurns s hands p x = cond (hands && isStored (x .files s .map p)) (handTurns s p (t .children s) x) (eachChild (childTurn s p) (t .children s) x)
+
+  -- the same if the page passes
+  abbrev pub atPage : ℕ → (ℕ → Bool) → (ℕ → Bool) → ℕ → Turn → Turn
+  atPage s touches hands p x = cond (touches p) (pageTurns s (hands p) p x) x
 
   -- step 4 for the pages below 64 that pass, of the file in set s
-  unfoldable pub tallyGive : ℕ → (ℕ → Bool) → Turn → Turn
-  tallyGive s touches x = eachPage (pageTurns s touches) pageCount x
+  unfoldable pub tallyGive : ℕ → (ℕ → Bool) → (ℕ → Bool) → Turn → Turn
+  tallyGive s touches hands x = eachPage (atPage s touches hands) pageCount x
 
 -- which pages a write of n bytes at off touches, n at least 1; which a truncate from z to n bytes
 unfoldable pub writeTouches : ℕ → ℕ → ℕ → Bool
@@ -154,9 +168,9 @@ pub record TallyResult : Type 0 where
   pub tally : Tally
 
 -- Steps 2 to 4 of a call that changes the file in set s: virgin files of the sets cs become own, taken blocks are taken, then the children have their turns.
-unfoldable pub tallyTurns : Tally → ℕ → ℕ → List ℕ → ℕ → (ℕ → Bool) → Turn
-tallyTurns ta f s cs taken touches =
-    tallyGive (ta .tree) s touches (record { files = eachChild (tallySettle (ta .tree)) cs (ta .files f); free = ta .free - taken; copies = 0; marks = 0 })
+unfoldable pub tallyTurns : Tally → ℕ → ℕ → List ℕ → ℕ → (ℕ → Bool) → (ℕ → Bool) → Turn
+tallyTurns ta f s cs taken touches hands =
+    tallyGive (ta .tree) s touches hands (record { files = eachChild (tallySettle (ta .tree)) cs (ta .files f); free = ta .free - taken; copies = 0; marks = 0 })
 
 -- what the call leaves: the file in set s is y, and released blocks are free again
 unfoldable pub tallyLeaves : Tally → ℕ → ℕ → ℕ → Turn → TallyFile → ℕ → TallyResult
@@ -169,7 +183,7 @@ tallyLeaves ta f s taken x y released = record {
 unfoldable pub tallyWrite : ℕ → ℕ → ℕ → ℕ → Tally → TallyResult
 tallyWrite s f off n ta =
     let taken : ℕ = tallyWriteNeed (ta .files f) s off n in
-    let x : Turn = tallyTurns ta f s (s ∷ ta .tree .children s) taken (writeTouches off n) in
+    let x : Turn = tallyTurns ta f s (s ∷ ta .tree .children s) taken (writeTouches off n) (λ p. false) in
     tallyLeaves ta f s taken x
     (record { state = own; size = max (x .files s .size) (off + n); map = λ p. cond (ltb p pageCount && writeTouches off n p) (stored tt) (x .files s .map p) })
     0
@@ -182,15 +196,15 @@ cutKinds n z k m p =
 unfoldable pub tallyCut : ℕ → ℕ → ℕ → ℕ → Tally → TallyResult
 tallyCut s f n z ta =
     let taken : ℕ = tallyTruncateNeed (ta .tree) (ta .files f) s n in
-    let x : Turn = tallyTurns ta f s (s ∷ ta .tree .children s) taken (truncateTouches n z) in
+    let x : Turn = tallyTurns ta f s (s ∷ ta .tree .children s) taken (truncateTouches n z) (λ p. not (partPage n p)) in
     tallyLeaves ta f s taken x
     (record { state = own; size = n; map = cutKinds n z (kindAt (ta .tree) (ta .files f) s (n / pageBytes)) (x .files s .map) })
-    (count pageCount (λ p. truncateTouches n z p && not (partPage n p) && isStored (ta .files f s .map p)))
+    (count pageCount (λ p. truncateTouches n z p && not (partPage n p) && isStored (x .files s .map p)))
 
 -- "At t equal to the size, nothing changes. Above it, step 2 and the new size only."
 unfoldable pub tallyGrow : ℕ → ℕ → ℕ → Tally → TallyResult
 tallyGrow s f n ta =
-    let x : Turn = tallyTurns ta f s (s ∷ ta .tree .children s) 0 (λ p. false) in
+    let x : Turn = tallyTurns ta f s (s ∷ ta .tree .children s) 0 (λ p. false) (λ p. false) in
     tallyLeaves ta f s 0 x (record { state = own; size = n; map = x .files s .map }) 0
 
 unfoldable pub tallyTruncate : ℕ → ℕ → ℕ → Tally → TallyResult
@@ -204,8 +218,8 @@ storedPages x = count pageCount (λ p. isStored (x .map p))
 
 unfoldable pub tallyDelete : ℕ → ℕ → Tally → TallyResult
 tallyDelete s f ta =
-    let x : Turn = tallyTurns ta f s (cond (live (ta .files f s .state)) (ta .tree .children s) []) 0 (λ p. live (ta .files f s .state)) in
-    tallyLeaves ta f s 0 x (record { state = absent; size = 0; map = λ p. unmapped }) (storedPages (ta .files f s))
+    let x : Turn = tallyTurns ta f s (cond (live (ta .files f s .state)) (ta .tree .children s) []) 0 (λ p. live (ta .files f s .state)) (λ p. true) in
+    tallyLeaves ta f s 0 x (record { state = absent; size = 0; map = λ p. unmapped }) (storedPages (x .files s))
 
 -- a file of a set that is made: "own and virgin files become virgin in it, marked ones marked"
 unfoldable pub tallyChild : TallyFile → TallyFile

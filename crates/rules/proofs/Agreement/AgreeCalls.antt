@@ -3,7 +3,7 @@ use mathlib.Core.Bool.{Bool, false, true, true≢false}
 use mathlib.Core.List.{List, List·Memᴰ, _∷_, []}
 use mathlib.Core.Option.{Option, none, some}
 use mathlib.Core.Path.{ap, refl, subst, sym, _∙_, _≡_}
-use Prim.Native.Nat.{_%_, _+_, _/_, max, ℕ}
+use Prim.Native.Nat.{_%_, _+_, _/_, _<_, _≤_, max, ℕ}
 use native.Mathlib.Omega.{arith}
 use lib.Dec.{eqb, ltb}
 use lib.ListN.{length}
@@ -21,21 +21,23 @@ use Rattle.rules.proofs.Steps.OneStep.{FilesOk, TreeOk}
 use Rattle.rules.proofs.Steps.States.{live-present}
 use Rattle.rules.proofs.Agreement.Remove.{remove-agree}
 use Rattle.rules.proofs.Agreement.CreateMake.{create-agree, make-agree}
-use Rattle.rules.proofs.Agreement.Truncate.{agree-cut, agree-more, agree-same, dropped-in, kept-in, kept-once}
+use Rattle.rules.proofs.Agreement.Truncate.{agree-cut, agree-more, agree-same, apart, dropped-in, dropped-under, kept-in, kept-once, kept-part}
 use Rattle.rules.specs.Calls.{Store, accepted, begin, created, formatted, made, removed, treeIn, viewOf, worked}
 use Rattle.rules.specs.Numbers.{Call, View, create, delete, format, make, numberOf, read, remove, tellFree, tellSize, truncate, write}
 use Rattle.rules.specs.Plain.{Plain, cutOrFill, isNone, overwrite, plainCall, plainFormat, present, putFile}
 use Rattle.rules.specs.Reading.{resolve, sizeByReading}
-use Rattle.rules.specs.Rules.{change, cutPages, deleteFile, droppedPages, keptPages, touched, truncateAs, truncateFile, writeFile}
+use Rattle.rules.specs.Rules.{change, cutPages, deleteFile, droppedPages, keptPages, partPages, touched, truncateAs, truncateFile, writeFile}
 use Rattle.rules.specs.Sets.{appendSet, rootAlone, unlinkSet}
 use Rattle.rules.specs.State.{File, Files, Tree, absentFile, isAbsent, live, treeOf}
 use Rattle.rules.specs.Storage.{PageData, overlay, zeroFrom}
 use Rattle.rules.specs.Trees.{addChild, rootTree, takeAway}
+use Rattle.rules.proofs.Steps.Handing.{ProperTree}
 
 -- the sets and files are in order
 pub record Orderly (st : Store model) : Type 0 where
-  pub tree-ok : TreeOk (treeIn model st)
+  pub proper : ProperTree (treeIn model st)
   pub files-ok : (f : ℕ) → FilesOk (treeIn model st) (st .files f)
+  pub small : (f s : ℕ) → sizeByReading (treeIn model st) (st .files f) s ≤ 32768
   pub unused : (f s : ℕ) → st .sets s .used ≡ false → isAbsent (st .files f s .state) ≡ true
 
 -- sets, presence, sizes and bytes are those of the plain store
@@ -76,7 +78,7 @@ module _ (st : Store model) (pl : Plain) (g : Plainly st pl) where
         let t = treeIn model st in
         let ps : List ℕ = touched off (length (x ∷ bs)) in
         let q = listed s f al in
-        let w = changed t (v .tree-ok) s ps ps [] (λ p m. m) (λ p m. elim m [ ]) (touched-once off (length (x ∷ bs))) (overlay off (x ∷ bs)) (λ n. max n (off + length (x ∷ bs))) (begin model st f) (v .files-ok f) al in
+        let w = changed t (v .proper) s ps ps [] (λ p m. m) (λ p m k. elim m [ ]) (λ p m. elim m [ ]) (touched-once off (length (x ∷ bs))) (overlay off (x ∷ bs)) (λ n. max n (off + length (x ∷ bs))) (begin model st f) (v .files-ok f) al in
         one-file f s _ (present (pl .files f s) (λ l. overwrite l off (x ∷ bs))) _
         (rw (q .1) (agree-write t s off (off + length (x ∷ bs)) (x ∷ bs) (q .0) (st .files f) _ (pl .files f) (q .1) al w refl (g .agree f)))
 
@@ -99,16 +101,19 @@ module _ (st : Store model) (pl : Plain) (g : Plainly st pl) where
             → Agree (treeIn model st) (truncateAs model (treeIn model st) x y s n z (begin model st f) .files) (upd (pl .files f) s (some (cutOrFill l n)))
         go true y e d = agree-same t s n l (st .files f) (pl .files f) has al (g .agree f) (eqb-true n z e ∙ len)
         go false true e d =
-            let r = changed t (v .tree-ok) s [] [] [] (λ p m. m) (λ p m. m) tt (λ p x. x) (λ m. n) (begin model st f) (v .files-ok f) al in
+            let r = changed t (v .proper) s [] [] [] (λ p m. m) (λ p m k. elim m [ ]) (λ p m. elim m [ ]) tt (λ p x. x) (λ m. n) (begin model st f) (v .files-ok f) al in
             let h = ltb-true z n d in
             agree-more t s n l (st .files f) _ (pl .files f) has al (g .agree f) (omega (arith, len)) r
         go false false e d =
+            let a = ltb-false z n d in let a′ = eqb-false n z e in
+            let less : n < z = omega arith in
+            let most : z ≤ 32768 = v .small f s in
             let k = resolve t (st .files f) s (n / 512) in
-            let r = changed t (v .tree-ok) s (cutPages n z) (keptPages n k) (droppedPages n z) (kept-in n z k) (dropped-in n z) (kept-once n k) (λ p. zeroFrom (n % 512)) (λ m. n) (begin model st f) (v .files-ok f) al in
+            let r = changed t (v .proper) s (partPages n) (keptPages n k) (droppedPages n z) (kept-part n k) (apart n z k) (λ p m. dropped-under n z p most less m) (kept-once n k) (λ p. zeroFrom (n % 512)) (λ m. n) (begin model st f) (v .files-ok f) al in
             let h = ltb-false z n d in let h′ = eqb-false n z e in
             agree-cut t s n l (st .files f) _ (pl .files f) has al (g .agree f) (omega (arith, len))
             (subst (λ y. Changed t s (keptPages n k) (droppedPages n y) (λ p. zeroFrom (n % 512)) (λ m. n) (st .files f)
-            (change model t s (cutPages n z) (keptPages n k) (droppedPages n z) (λ p. zeroFrom (n % 512)) (λ m. n) (begin model st f) .files)) len r)
+            (change model t s (partPages n) (keptPages n k) (droppedPages n z) (λ p. zeroFrom (n % 512)) (λ m. n) (begin model st f) .files)) len r)
 
     truncate-plain : (s f n : ℕ) → live (st .files f s .state) ≡ true
         → Plainly (worked model st f (truncateFile model (treeIn model st) s n (begin model st f)) .store) (plainCall (truncate s f n) pl)
@@ -120,7 +125,7 @@ module _ (st : Store model) (pl : Plain) (g : Plainly st pl) where
     delete-plain : (s f : ℕ) → Plainly (worked model st f (deleteFile model (treeIn model st) s (begin model st f)) .store) (plainCall (delete s f) pl)
     unfolding worked plainCall
     delete-plain s f =
-        one-file f s _ none _ (agree-gone (treeIn model st) s (st .files f) _ (pl .files f) (g .agree f) (deleted (treeIn model st) (v .tree-ok) s (begin model st f) (v .files-ok f)))
+        one-file f s _ none _ (agree-gone (treeIn model st) s (st .files f) _ (pl .files f) (g .agree f) (deleted (treeIn model st) (v .proper) s (begin model st f) (v .files-ok f)))
 
     module _ (made-tree : (s c : ℕ) (w : Bool) → MayMake now s c → treeOf (appendSet s c w (st .sets)) ≡ addChild (treeOf (st .sets)) s c w)
         (removed-tree : (c : ℕ) → MayRemove now c → treeOf (unlinkSet c (st .sets)) ≡ takeAway (treeOf (st .sets)) c)
@@ -143,7 +148,7 @@ module _ (st : Store model) (pl : Plain) (g : Plainly st pl) where
           record {
             trees = ap (λ t. takeAway t c) (g .trees) ∙ sym (removed-tree c m);
             agree = λ f. rw (removed-tree c m)
-                (remove-agree (treeIn model st) (v .tree-ok) c none-in (st .files f) (upd (st .files f) c absentFile) (v .files-ok f)
+                (remove-agree (treeIn model st) (v .proper .ok) c none-in (st .files f) (upd (st .files f) c absentFile) (v .files-ok f)
                 (ap (λ (y : File PageData). y .state) (upd-same (st .files f) c absentFile)) (λ x n. upd-other (st .files f) c absentFile x n) (pl .files f) (g .agree f));
           }
 

@@ -1,7 +1,7 @@
 -- Any change of one file over the model: the write, and both truncates. Assumes nothing.
 use mathlib.Core.Bool.{false}
 use mathlib.Core.List.{List, List·Memᴰ, List·Memᴰ·head, List·Memᴰ·tail, _∷_}
-use mathlib.Core.Logic.{⊎-elim}
+use mathlib.Core.Logic.{_⊎_, inl, inr, ⊎-elim}
 use mathlib.Core.Path.{ap, refl, subst, sym, _∙_, _≡_}
 use Prim.Native.Nat.{_<_, ℕ}
 use Rattle.base.specs.Logic.{same?}
@@ -12,9 +12,10 @@ use Rattle.rules.proofs.Steps.States.{alive-own, live-present}
 use Rattle.rules.proofs.Steps.StepFour.{ChildServed, Going, each-all, each-inv, giveAll-done, giveAll-going, served-refl}
 use Rattle.rules.proofs.Steps.WriterSteps.{Entered, IsPending, NoDup, Settled, bytes, enter-all, laid, mem?, reserve-files, reserve-pending, resolve-here, settle-no-virgin, settle-each, size-here}
 use Rattle.rules.specs.Reading.{needs, resolve, sizeByReading}
-use Rattle.rules.specs.Rules.{Work, change, dropPage, each, enter, giveAll, putEntry, reserve, resize, settle}
+use Rattle.rules.specs.Rules.{Work, change, copied, dropPage, each, enter, giveAll, handed, putEntry, reserve, resize, settle}
 use Rattle.rules.specs.State.{File, Files, Tree, hole, isAbsent, live, own, stored, unmapped, virgin}
 use Rattle.rules.specs.Storage.{PageData}
+use Rattle.rules.proofs.Steps.Handing.{AllHanded, ProperTree, Served, all-handed, served-any, served-then}
 
 -- pages dropped
 module _ (t : Tree) (s : ℕ) where
@@ -48,10 +49,10 @@ pub record Changed (t : Tree) (s : ℕ) (rs ds : List ℕ) (lay : ℕ → PageDa
   pub old-page : (p : ℕ) → p < 64 → (List·Memᴰ p rs → ⊥) → (List·Memᴰ p ds → ⊥) → resolve t b s p ≡ resolve t a s p
   pub new-size : sizeByReading t b s ≡ sz (sizeByReading t a s)
 
-module _ (t : Tree) (ok : TreeOk t) (s : ℕ) (ps rs ds : List ℕ) (in-r : (p : ℕ) → List·Memᴰ p rs → List·Memᴰ p ps) (in-d : (p : ℕ) → List·Memᴰ p ds → List·Memᴰ p ps)
+module _ (t : Tree) (ok : TreeOk t) (s : ℕ) (ps rs ds : List ℕ) (in-r : (p : ℕ) → List·Memᴰ p rs → List·Memᴰ p ps) (apart : (p : ℕ) → List·Memᴰ p ds → List·Memᴰ p rs → ⊥)
     (lay : ℕ → PageData → PageData) (sz : ℕ → ℕ) (a b₁ b₃ b₄ b₅ : Files PageData)
     (al : Alive a s) (r₁ : Settled t a b₁) (no-virgin : (c : ℕ) → List·Memᴰ c (s ∷ t .children s) → b₁ c .state ≡ virgin → ⊥)
-    (r₃ : ChildServed t s b₁ b₃) (idle : (p : ℕ) → List·Memᴰ p ps → (c : ℕ) → List·Memᴰ c (t .children s) → needs b₃ c p ≡ false) (r₄ : Entered t s lay rs b₃ b₄) (r₅ : Dropped t s ds b₄ b₅) where
+    (r₃ : Served t s (λ p. List·Memᴰ p ds) b₁ b₃) (idle : (p : ℕ) → List·Memᴰ p ps ⊎ List·Memᴰ p ds → (c : ℕ) → List·Memᴰ c (t .children s) → needs b₃ c p ≡ false) (r₄ : Entered t s lay rs b₃ b₄) (r₅ : Dropped t s ds b₄ b₅) where
   last : Files PageData
   last = upd b₅ s (record { state = own; size = sz (b₅ s .size); map = b₅ s .map })
 
@@ -67,7 +68,7 @@ module _ (t : Tree) (ok : TreeOk t) (s : ℕ) (ps rs ds : List ℕ) (in-r : (p :
   own₁ = alive-own (b₁ s .state) (r₁ .live′ s ∙ al) (no-virgin s (List·Memᴰ·head refl))
 
   alive₃ : Alive b₃ s
-  alive₃ = ap (λ (x : File PageData). live (x .state)) (r₃ .self) ∙ ap live own₁
+  alive₃ = ap live (r₃ .state ∙ own₁)
 
   back : (x : ℕ) → Alive last x → Alive b₃ x
   back x h = same? s x (λ e. subst (Alive b₃) e alive₃) (λ n. ap (λ (f : File PageData). live (f .state)) (sym (last-x x n)) ∙ h)
@@ -75,11 +76,11 @@ module _ (t : Tree) (ok : TreeOk t) (s : ℕ) (ps rs ds : List ℕ) (in-r : (p :
   forth : (x : ℕ) → Alive b₃ x → Alive last x
   forth x h = same? s x (λ e. subst (Alive last) e (ap (λ (f : File PageData). live (f .state)) last-s)) (λ n. ap (λ (f : File PageData). live (f .state)) (last-x x n) ∙ h)
 
-  page₃ : (x p : ℕ) → p < 64 → Alive b₃ x → resolve t b₃ x p ≡ resolve t a x p
-  page₃ x p l h = r₃ .keep .page x p l h ∙ r₁ .keep .page x p l (r₃ .keep .alive x h)
+  page₃ : (x p : ℕ) → p < 64 → (s ≡ x → List·Memᴰ p ds → ⊥) → Alive b₃ x → resolve t b₃ x p ≡ resolve t a x p
+  page₃ x p l n h = r₃ .page x p l n h ∙ r₁ .keep .page x p l (r₃ .alive x h)
 
   size₃ : (x : ℕ) → Alive b₃ x → sizeByReading t b₃ x ≡ sizeByReading t a x
-  size₃ x h = r₃ .keep .size x h ∙ r₁ .keep .size x (r₃ .keep .alive x h)
+  size₃ x h = r₃ .size x h ∙ r₁ .keep .size x (r₃ .alive x h)
 
   untouched : (p : ℕ) → (List·Memᴰ p rs → ⊥) → (List·Memᴰ p ds → ⊥) → (x : ℕ) → last x .map p ≡ b₃ x .map p
   untouched p o d x =
@@ -106,34 +107,39 @@ module _ (t : Tree) (ok : TreeOk t) (s : ℕ) (ps rs ds : List ℕ) (in-r : (p :
       bare = λ x p l v. same? s x (λ e. let z : last s .state ≡ own = ap (λ (f : File PageData). f .state) last-s in cc)
           (λ n. ap (λ (f : File PageData). f .map p) (last-x x n) ∙ r₃ .ok′ .bare x p l (ap (λ (f : File PageData). f .state) (sym (last-x x n)) ∙ v));
     };
-    alive = λ x h. r₁ .keep .alive x (r₃ .keep .alive x (back x h));
+    alive = λ x h. r₁ .keep .alive x (r₃ .alive x (back x h));
     presence = λ x. same? s x
         (λ e. subst (λ y. isAbsent (last y .state) ≡ isAbsent (a y .state)) e (live-present (last s .state) (forth s alive₃) ∙ sym (live-present (a s .state) al)))
-        (λ n. ap (λ (f : File PageData). isAbsent (f .state)) (last-x x n) ∙ r₃ .keep .presence x ∙ r₁ .keep .presence x);
+        (λ n. ap (λ (f : File PageData). isAbsent (f .state)) (last-x x n) ∙ r₃ .presence x ∙ r₁ .keep .presence x);
     self = forth s alive₃;
     page = λ x p l n h.
         ⊎-elim
-        (λ m. cut-page t ok b₃ last (r₃ .ok′) s last-x p l (idle p m) x n (back x h))
-        (λ o. resolve-same t b₃ last p (untouched p (λ m. o (in-r p m)) (λ m. o (in-d p m))) x)
-        (mem? p ps) ∙ page₃ x p l (back x h);
+        (λ m. cut-page t ok b₃ last (r₃ .ok′) s last-x p l (idle p (inl m)) x n (back x h))
+        (λ o. ⊎-elim
+        (λ m. cut-page t ok b₃ last (r₃ .ok′) s last-x p l (idle p (inr m)) x n (back x h))
+        (λ d. resolve-same t b₃ last p (untouched p (λ m. o (in-r p m)) d) x)
+        (mem? p ds))
+        (mem? p ps) ∙ page₃ x p l (λ e. absurd (n e)) (back x h);
     size = λ x n h. cut-size t ok b₃ last (r₃ .ok′) s last-x (λ c m v. no-virgin c (List·Memᴰ·tail m) (r₃ .no-new-virgin c v)) x n (back x h) ∙ size₃ x (back x h);
-    new-page = λ p l m d. resolve-here t last s p _ (entered p m d) refl ∙ ap (λ e. stored (lay p (bytes e))) (page₃ s p l alive₃);
+    new-page = λ p l m d. resolve-here t last s p _ (entered p m d) refl ∙ ap (λ e. stored (lay p (bytes e))) (page₃ s p l (λ _ k. d k) alive₃);
     cut-page′ = λ p l m. resolve-here t last s p hole (holed p m) refl;
-    old-page = λ p l o d. resolve-same t b₃ last p (untouched p o d) s ∙ page₃ s p l alive₃;
+    old-page = λ p l o d. resolve-same t b₃ last p (untouched p o d) s ∙ page₃ s p l (λ _ k. d k) alive₃;
     new-size =
         size-here t last s (ap (λ (f : File PageData). f .state) last-s) ∙ ap (λ (f : File PageData). f .size) last-s
-        ∙ ap sz (r₅ .size′ ∙ r₄ .size′ ∙ ap (λ (f : File PageData). f .size) (r₃ .self) ∙ sym (size-here t b₁ s own₁) ∙ r₁ .keep .size s (r₁ .live′ s ∙ al));
+        ∙ ap sz (r₅ .size′ ∙ r₄ .size′ ∙ r₃ .length ∙ sym (size-here t b₁ s own₁) ∙ r₁ .keep .size s (r₁ .live′ s ∙ al));
   }
 
-module _ (t : Tree) (ok : TreeOk t) (s : ℕ) (ps rs ds : List ℕ) (in-r : (p : ℕ) → List·Memᴰ p rs → List·Memᴰ p ps) (in-d : (p : ℕ) → List·Memᴰ p ds → List·Memᴰ p ps) (nd : NoDup rs)
+module _ (t : Tree) (proper : ProperTree t) (s : ℕ) (ps rs ds : List ℕ) (in-r : (p : ℕ) → List·Memᴰ p rs → List·Memᴰ p ps) (apart : (p : ℕ) → List·Memᴰ p ds → List·Memᴰ p rs → ⊥) (low-d : (p : ℕ) → List·Memᴰ p ds → p < 64) (nd : NoDup rs)
     (lay : ℕ → PageData → PageData) (sz : ℕ → ℕ) (w : Work model) (k : FilesOk t (w .files)) (a : Alive (w .files) s) where
   pub changed : Changed t s rs ds lay sz (w .files) (change model t s ps rs ds lay sz w .files)
   unfolding change resize last
   changed =
+      let ok = proper .ok in
       let i : Settled t (w .files) (w .files) = record { ok′ = k; keep = keep-refl t (w .files); live′ = λ s. refl; no-new-virgin = λ s h. h } in
       let w₁ : Work model = each (settle model t) (s ∷ t .children s) w in
       let w₂ : Work model = each (reserve model t s) rs w₁ in
-      let w₃ : Work model = giveAll model t s ps w₂ in
+      let wₚ : Work model = giveAll model t copied s ps w₂ in
+      let w₃ : Work model = giveAll model t handed s ds wₚ in
       let w₄ : Work model = each (enter model t s lay) rs w₃ in
       let w₅ : Work model = each (dropPage model t s) ds w₄ in
       let e₂ : w₂ .files ≡ w₁ .files = reserve-files t s rs w₁ in
@@ -141,6 +147,11 @@ module _ (t : Tree) (ok : TreeOk t) (s : ℕ) (ps rs ds : List ℕ) (in-r : (p :
       let no-virgin : (c : ℕ) → List·Memᴰ c (s ∷ t .children s) → w₂ .files c .state ≡ virgin → ⊥ = rw e₂ (settle-no-virgin t ok w (s ∷ t .children s) i) in
       let no-virgin′ : (c : ℕ) → List·Memᴰ c (t .children s) → w₂ .files c .state ≡ virgin → ⊥ = λ c m. no-virgin c (List·Memᴰ·tail m) in
       let g : Going t ok s w₂ w₂ = record { served = served-refl (r₁ .ok′); pending = refl } in
-      let g₃ : Going t ok s w₂ w₃ = giveAll-going t ok s w₂ no-virgin′ ps g in
-      let pending : (p : ℕ) → List·Memᴰ p rs → IsPending (w₃ .pending p) = λ p m. rw (g₃ .pending) (reserve-pending t s rs w₁ p m) in
-      assembled t ok s ps rs ds in-r in-d lay sz (w .files) (w₂ .files) (w₃ .files) (w₄ .files) (w₅ .files) a r₁ no-virgin (g₃ .served) (giveAll-done t ok s w₂ no-virgin′ ps g) (enter-all t s lay rs nd w₃ pending) (drop-all t s ds w₄)
+      let gₚ : Going t ok s w₂ wₚ = giveAll-going t ok s w₂ no-virgin′ ps g in
+      let g₃ : AllHanded t ok s (proper .once s) (λ p. List·Memᴰ p ds) ds wₚ w₃ =
+      all-handed t ok s (proper .once s) (λ p. List·Memᴰ p ds) ds (λ p m. (low-d p m, m)) wₚ (gₚ .served .ok′) (λ c m v. no-virgin′ c m (gₚ .served .no-new-virgin c v)) in
+      let r₃ : Served t s (λ p. List·Memᴰ p ds) (w₂ .files) (w₃ .files) = served-then (served-any (gₚ .served)) (g₃ .served) in
+      let idle : (p : ℕ) → List·Memᴰ p ps ⊎ List·Memᴰ p ds → (c : ℕ) → List·Memᴰ c (t .children s) → needs (w₃ .files) c p ≡ false = λ p o c l.
+      ⊎-elim (λ m. g₃ .served .less c p (giveAll-done t ok s w₂ no-virgin′ ps g p m c l)) (λ m. g₃ .idle p m c l) o in
+      let pending : (p : ℕ) → List·Memᴰ p rs → IsPending (w₃ .pending p) = λ p m. rw (g₃ .pending ∙ gₚ .pending) (reserve-pending t s rs w₁ p m) in
+      assembled t ok s ps rs ds in-r apart lay sz (w .files) (w₂ .files) (w₃ .files) (w₄ .files) (w₅ .files) a r₁ no-virgin r₃ idle (enter-all t s lay rs nd w₃ pending) (drop-all t s ds w₄)

@@ -6,16 +6,17 @@ use mathlib.Core.Path.{ap, refl, subst, sym, _∙_, _≡_}
 use Prim.Native.Nat.{_<_, ℕ}
 use native.Mathlib.Omega.{arith}
 use Rattle.base.specs.Update.{upd, upd-other, upd-same}
-use Rattle.rules.proofs.Agreement.Agree.{Agree, agree-one, from-mem}
+use Rattle.rules.proofs.Agreement.Agree.{Agree, agree-one, from-high, from-mem}
 use Rattle.rules.proofs.Storages.Model.{model}
 use Rattle.rules.proofs.Steps.OneStep.{Alive, FilesOk, TreeOk, cut-page, cut-size, keep-refl, needs-yes}
 use Rattle.rules.proofs.Agreement.CreateMake.{away-page, away-size}
 use Rattle.rules.proofs.Steps.StepFour.{ChildServed, Going, giveAll-done, giveAll-going, served-refl}
 use Rattle.rules.proofs.Steps.WriterSteps.{Settled, settle-no-virgin, settle-each}
 use Rattle.rules.specs.Reading.{needs, resolve, sizeByReading}
-use Rattle.rules.specs.Rules.{Work, deleteAs, deleteFile, each, eraseFile, from, giveAll, settle}
+use Rattle.rules.specs.Rules.{Work, deleteAs, deleteFile, each, eraseFile, from, giveAll, handed, settle}
 use Rattle.rules.specs.State.{File, Files, Tree, absent, isAbsent, live, unmapped, virgin}
 use Rattle.rules.specs.Storage.{PageData}
+use Rattle.rules.proofs.Steps.Handing.{AllHanded, ProperTree, Served, all-handed}
 
 -- the file of set s is gone, the others read what they read
 pub record Gone (t : Tree) (s : ℕ) (a b : Files PageData) : Type 0 where
@@ -71,7 +72,7 @@ module _ (t : Tree) (ok : TreeOk t) (s : ℕ) (a b : Files PageData) (empty : b 
     }
 
   -- a live file: the children have been given what they need
-  module _ (b₁ b₃ : Files PageData) (r₁ : Settled t a b₁) (no-virgin : (c : ℕ) → List·Memᴰ c (t .children s) → b₁ c .state ≡ virgin → ⊥) (r₃ : ChildServed t s b₁ b₃)
+  module _ (b₁ b₃ : Files PageData) (r₁ : Settled t a b₁) (no-virgin : (c : ℕ) → List·Memᴰ c (t .children s) → b₁ c .state ≡ virgin → ⊥) (r₃ : Served t s (λ p. Unit {0}) b₁ b₃)
       (idle : (p : ℕ) → p < 64 → (c : ℕ) → List·Memᴰ c (t .children s) → needs b₃ c p ≡ false) (others : (x : ℕ) → (s ≡ x → ⊥) → b x ≡ b₃ x) where
     was₃ : (x : ℕ) → (s ≡ x → ⊥) → Alive b x → Alive b₃ x
     was₃ x n al = ap (λ (f : File PageData). live (f .state)) (sym (others x n)) ∙ al
@@ -88,27 +89,29 @@ module _ (t : Tree) (ok : TreeOk t) (s : ℕ) (a b : Files PageData) (empty : b 
         bare = gone-bare b₃ others (r₃ .ok′);
       };
       empty = empty;
-      alive = λ x n al. r₁ .keep .alive x (r₃ .keep .alive x (was₃ x n al));
-      presence = λ x n. ap (λ (f : File PageData). isAbsent (f .state)) (others x n) ∙ r₃ .keep .presence x ∙ r₁ .keep .presence x;
-      page = λ x p l n al. cut-page t ok b₃ b (r₃ .ok′) s others p l (idle p l) x n (was₃ x n al) ∙ r₃ .keep .page x p l (was₃ x n al) ∙ r₁ .keep .page x p l (r₃ .keep .alive x (was₃ x n al));
-      size = λ x n al. cut-size t ok b₃ b (r₃ .ok′) s others (λ c m v. no-virgin c m (r₃ .no-new-virgin c v)) x n (was₃ x n al) ∙ r₃ .keep .size x (was₃ x n al) ∙ r₁ .keep .size x (r₃ .keep .alive x (was₃ x n al));
+      alive = λ x n al. r₁ .keep .alive x (r₃ .alive x (was₃ x n al));
+      presence = λ x n. ap (λ (f : File PageData). isAbsent (f .state)) (others x n) ∙ r₃ .presence x ∙ r₁ .keep .presence x;
+      page = λ x p l n al. cut-page t ok b₃ b (r₃ .ok′) s others p l (idle p l) x n (was₃ x n al) ∙ r₃ .page x p l (λ e. absurd (n e)) (was₃ x n al) ∙ r₁ .keep .page x p l (r₃ .alive x (was₃ x n al));
+      size = λ x n al. cut-size t ok b₃ b (r₃ .ok′) s others (λ c m v. no-virgin c m (r₃ .no-new-virgin c v)) x n (was₃ x n al) ∙ r₃ .size x (was₃ x n al) ∙ r₁ .keep .size x (r₃ .alive x (was₃ x n al));
     }
 
-module _ (t : Tree) (ok : TreeOk t) (s : ℕ) (w : Work model) (k : FilesOk t (w .files)) where
+module _ (t : Tree) (proper : ProperTree t) (s : ℕ) (w : Work model) (k : FilesOk t (w .files)) where
   pub erased : live (w .files s .state) ≡ false → Gone t s (w .files) (eraseFile model t s w .files)
-  erased dead = gone-marked t ok s (w .files) _ (erase-empty t s w) k dead (erase-others t s w)
+  erased dead = gone-marked t (proper .ok) s (w .files) _ (erase-empty t s w) k dead (erase-others t s w)
 
   deleted-live : Gone t s (w .files) (deleteAs model t true s w .files)
   unfolding deleteAs
   deleted-live =
+      let ok = proper .ok in
       let i : Settled t (w .files) (w .files) = record { ok′ = k; keep = keep-refl t (w .files); live′ = λ s. refl; no-new-virgin = λ s h. h } in
       let w₁ : Work model = each (settle model t) (t .children s) w in
-      let w₂ : Work model = giveAll model t s (from 0 64) w₁ in
+      let w₂ : Work model = giveAll model t handed s (from 0 64) w₁ in
       let r₁ : Settled t (w .files) (w₁ .files) = settle-each t ok w (t .children s) i in
       let no-virgin : (c : ℕ) → List·Memᴰ c (t .children s) → w₁ .files c .state ≡ virgin → ⊥ = settle-no-virgin t ok w (t .children s) i in
-      let g : Going t ok s w₁ w₁ = record { served = served-refl (r₁ .ok′); pending = refl } in
-      gone-live t ok s (w .files) (eraseFile model t s w₂ .files) (erase-empty t s w₂) (w₁ .files) (w₂ .files) r₁ no-virgin (giveAll-going t ok s w₁ no-virgin (from 0 64) g .served)
-      (λ p l. giveAll-done t ok s w₁ no-virgin (from 0 64) g p (from-mem 0 64 p (omega arith) l)) (erase-others t s w₂)
+      let g : AllHanded t ok s (proper .once s) (λ p. Unit {0}) (from 0 64) w₁ w₂ =
+      all-handed t ok s (proper .once s) (λ p. Unit {0}) (from 0 64) (λ p m. (from-high 0 64 p m, tt)) w₁ (r₁ .ok′) no-virgin in
+      gone-live t ok s (w .files) (eraseFile model t s w₂ .files) (erase-empty t s w₂) (w₁ .files) (w₂ .files) r₁ no-virgin (g .served)
+      (λ p l. g .idle p (from-mem 0 64 p (omega arith) l)) (erase-others t s w₂)
 
   pub deleted : Gone t s (w .files) (deleteFile model t s w .files)
   unfolding deleteFile deleteAs

@@ -19,7 +19,7 @@ use Rattle.rules.proofs.Steps.States.{live-present}
 use Rattle.rules.proofs.Steps.WriterSteps.{NoDup, bytes, mem?}
 use Rattle.rules.specs.Plain.{cutOrFill}
 use Rattle.rules.specs.Reading.{resolve}
-use Rattle.rules.specs.Rules.{cutPages, droppedPages, from, keptPages}
+use Rattle.rules.specs.Rules.{cutPages, droppedPages, from, keptPages, partPages}
 use Rattle.rules.specs.State.{Entry, Files, Tree, hole, isStored, stored, unmapped}
 use Rattle.rules.specs.Storage.{PageData, zeroFrom}
 
@@ -81,6 +81,19 @@ dropped-not n z p o l h =
 pub kept-in : {K : Type 0} (n z : ℕ) (e : Entry K) (p : ℕ) → List·Memᴰ p (keptPages n e) → List·Memᴰ p (cutPages n z)
 unfolding cutPages
 kept-in n z e p m = let q = kept-is n p e m .0 in from-mem (n / 512) _ p (omega arith) (omega arith)
+
+pub kept-part : {K : Type 0} (n : ℕ) (e : Entry K) (p : ℕ) → List·Memᴰ p (keptPages n e) → List·Memᴰ p (partPages n)
+unfolding partPages
+kept-part n e p m = let q = kept-is n p e m in rw (ne-eqb (n % 512) 0 (q .1)) (List·Memᴰ·head (q .0))
+
+pub part-in : (n z p : ℕ) → List·Memᴰ p (partPages n) → List·Memᴰ p (cutPages n z)
+unfolding partPages cutPages
+part-in n z p m = test? (eqb (n % 512) 0) (λ e. let q : List·Memᴰ p [] = rw e at m in elim q [ ])
+    (λ e. let q : List·Memᴰ p (n / 512 ∷ []) = rw e at m in ⊎-elim (λ i. from-mem (n / 512) _ p (omega arith) (omega arith)) (λ i. elim i [ ]) (List·Memᴰ·cases-cons q))
+
+pub dropped-under : (n z p : ℕ) → z ≤ 32768 → n < z → List·Memᴰ p (droppedPages n z) → p < 64
+unfolding cutPages
+dropped-under n z p h l m = let k = from-high (n / 512) _ p (dropped-in n z p m) in omega arith
 
 pub apart : {K : Type 0} (n z : ℕ) (e : Entry K) (p : ℕ) → List·Memᴰ p (droppedPages n z) → List·Memᴰ p (keptPages n e) → ⊥
 apart n z e p d m = let l = dropped-low n z p d in let q = kept-is n p e m in kept-odd n p (q .0) (q .1) l

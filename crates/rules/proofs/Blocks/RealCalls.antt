@@ -15,7 +15,7 @@ use Rattle.rules.proofs.Steps.Erased.{unlinked}
 use Rattle.rules.proofs.Blocks.GoodWork.{not-stored}
 use Rattle.rules.proofs.Storages.Model.{model}
 use Rattle.rules.proofs.Blocks.RealSim.{pagesSeen, realDemands, toModel}
-use Rattle.rules.proofs.Blocks.RealStore.{BlocksOk, Outer, PagesInside, ProperTree, RealKept, good-begin, kept-finish, none-stored}
+use Rattle.rules.proofs.Blocks.RealStore.{BlocksOk, Outer, PagesInside, RealKept, good-begin, kept-finish, none-stored, not-itself}
 use Rattle.rules.proofs.Storages.StoreSim.{Same, Standing, StoreSim, calls-same}
 use Rattle.rules.proofs.Agreement.Truncate.{apart}
 use Rattle.rules.specs.Calls.{Store, blankMemory, created, formatted, made, newFile, step, treeIn}
@@ -26,6 +26,7 @@ use Rattle.rules.specs.Sets.{appendSet, childFile, linkBehind, linkLast,
 use Rattle.rules.specs.State.{Entry, File, Files, SetRecord, absentFile, childrenOf, hole, isAbsent, isStored, stored, unmapped, unusedSet}
 use Rattle.rules.specs.Storage.{Memory, freeBlocks, real}
 use Rattle.rules.specs.WellFormed.{names}
+use Rattle.rules.proofs.Steps.Handing.{ProperTree}
 
 -- FILES THAT CHANGE WITHOUT BLOCKS: each is as it was, or nothing was stored in it and nothing is
 abbrev NoneStored : File ℕ → Type 0
@@ -186,13 +187,13 @@ pub fresh-free : (B : ℕ) → B ≡ freeBlocks (blankMemory B)
 unfolding freeBlocks
 fresh-free B = sym (count-all B (λ b. true) (λ x l. refl))
 
-realStore : (B : ℕ) → 1 ≤ B → StoreSim pagesSeen (blankMemory B) B (RealKept B) ProperTree
+realStore : (B : ℕ) → 1 ≤ B → StoreSim pagesSeen (blankMemory B) B (RealKept B)
 realStore B l = record {
   demands = λ r f s. realDemands (treeIn real r) s (r .memory) (Outer r f);
   sim = λ r f s. toModel (treeIn real r) s (r .memory) (Outer r f);
   free = λ r k. refl;
   fresh-same = fresh-free B;
-  kid = λ r f s p c m. p s c m;
+  kid = λ r f s p c m. not-itself (treeIn real r) (p .ok) s c m;
   good-begin = λ r f s k. good-begin r (k .blocks-ok) (k .pages-in) f s;
   frame = λ r f s w g j x p b n e. g .outer-page b (record { file = j; set = x; page = p; other = n; names = e });
   kept-finish = kept-finish B;

@@ -8,7 +8,7 @@ use lib.ListN.{set}
 use Rattle.base.specs.Count.{count-less}
 use Rattle.base.specs.Logic.{same?}
 use Rattle.base.specs.Update.{upd, upd-keeps, upd-other, upd-same}
-use Rattle.rules.proofs.Blocks.GoodWork.{Good, PagesIn, ShortPage, Used, at, good-alike, good-more, not-stored, overlay-short, put-in, putEntry-named, putEntry-still, slot, upd-named, zero-short}
+use Rattle.rules.proofs.Blocks.GoodWork.{Good, PagesIn, Place, ShortPage, Used, at, good-alike, good-more, not-stored, overlay-short, put-in, putEntry-named, putEntry-still, slot, upd-named, zero-short}
 use Rattle.rules.proofs.Storages.MapBlocks.{mapEntry}
 use Rattle.rules.proofs.Storages.Model.{model}
 use Rattle.rules.proofs.Steps.OneStep.{putEntry-ent, putEntry-other, putEntry-page, putEntry-state}
@@ -20,7 +20,7 @@ use Rattle.rules.proofs.Blocks.TakeBlock.{take-below, take-bits, take-b
 use Rattle.rules.proofs.Blocks.Tidy.{Tidy, resolve-named, settle-presence, tidy-fewer, tidy-put}
 use Rattle.rules.proofs.Agreement.Truncate.{apart}
 use Rattle.rules.specs.Reading.{needs, resolve}
-use Rattle.rules.specs.Rules.{Work, copy, dropPage, enterAs, freeEntry, mark, putEntry, reserve, reserveAs, resize, settle, takeOwn, withFiles}
+use Rattle.rules.specs.Rules.{Work, copy, dropPage, enterAs, freeEntry, handOver, mark, putEntry, reserve, reserveAs, resize, settle, takeOwn, withFiles}
 use Rattle.rules.specs.State.{Entry, File, Files, Tree, absentFile, hole, isAbsent, isStored, stored, unmapped}
 use Rattle.rules.specs.Storage.{PageData, Memory, freeBlocks, real, takeBlock}
 use Rattle.rules.specs.WellFormed.{names}
@@ -253,6 +253,98 @@ module _ (t : Tree) (s : ℕ) (m₀ : Memory) (Outer : ℕ → Type 0) where
       alone : (h : Bool) (x q b′ : ℕ) → at w h x q ≡ stored b′ → slot t s m₀ Outer h x ≡ s → q ≡ p → b′ ≡ b
       alone h x q b′ a y z = g .one h true x s q b′ b a (ap (w .pending) z ∙ e) y
 
+  -- A BLOCK MOVES from the map of set s to that of set c
+  module _ (b c p : ℕ) (w : Work real) (g : Ok w) (n : needs (w .files) c p ≡ true) (k : s ≡ c → ⊥) (e : w .files s .map p ≡ stored b) (o : isStored (w .pending p) ≡ false) where
+    moving : Work real
+    moving = withFiles real t w (putEntry (w .files) c p (stored b))
+
+    abbrev moved : Work real
+    moved = withFiles real t w (putEntry (putEntry (w .files) c p (stored b)) s p hole)
+
+    empty : (j : ℕ) → w .files c .map p ≡ stored j → ⊥
+    empty j = not-stored (w .files c .map p) j (ap isStored (needs-unmapped (w .files) c p n))
+
+    -- an entry afterwards was there before, or is the one that moved
+    which : (h : Bool) (x q j : ℕ) → at moved h x q ≡ stored j → (at w h x q ≡ stored j) ⊎ ((j ≡ b) × (h ≡ false) × (x ≡ c) × (q ≡ p))
+    unfolding moving
+    which true x q j a = inl a
+    which false x q j a = ⊎-elim inl (λ z. inr (z .0, refl, z .1, z .2)) (putEntry-named (w .files) c p b x q j (hole-less moving s p x q j a))
+
+    before : (h : Bool) (x q j : ℕ) → at moved h x q ≡ stored j → Place w j
+    before h x q j a =
+        ⊎-elim (λ z. record { pending = h; set = x; page = q; names = z }) (λ z. record { pending = false; set = s; page = p; names = e ∙ ap stored (sym (z .0)) }) (which h x q j a)
+
+    -- nobody else names the block
+    lost : (h : Bool) (x q : ℕ) → at moved h x q ≡ stored b → at w h x q ≡ stored b → ⊥
+    lost true x q a z = not-stored (w .pending p) b o (ap (w .pending) (sym (g .apart true false x s q p b z e .1)) ∙ z)
+    lost false x q a z =
+        let y = g .apart false false x s q p b z e in
+        let d : moved .files s .map p ≡ stored b = subst₂ (λ i j. moved .files i .map j ≡ stored b) (y .0) (y .1) a in
+        let f : _≡_ {A = ℕ} 0 1 = cc (putEntry-ent (putEntry (w .files) c p (stored b)) s p hole) in omega arith
+
+    still : (h : Bool) (x q j : ℕ) → (b ≡ j → ⊥) → at w h x q ≡ stored j → at moved h x q ≡ stored j
+    unfolding moving
+    still true x q j d a = a
+    still false x q j d a =
+        hole-more moving s p x q j (putEntry-still (w .files) c p b x q j (λ i z. absurd (empty i z)) a)
+        (λ z. d (let y : w .files s .map p ≡ stored j = ap (λ (f : File ℕ). f .map p) (sym (putEntry-other (w .files) c p (stored b) s (λ i. k (sym i)))) ∙ z in let f : b ≡ j = cc in f))
+
+    here : Place moved b
+    here = record {
+      pending = false;
+      set = c;
+      page = p;
+      names = ap (λ (f : File ℕ). f .map p) (putEntry-other (putEntry (w .files) c p (stored b)) s p hole c k) ∙ putEntry-ent (w .files) c p (stored b);
+    }
+
+    apart-moved : (h h′ : Bool) (x x′ q q′ j : ℕ) → at moved h x q ≡ stored j → at moved h′ x′ q′ ≡ stored j → (slot t s m₀ Outer h x ≡ slot t s m₀ Outer h′ x′) × (q ≡ q′)
+    apart-moved h h′ x x′ q q′ j a a′ =
+        ⊎-elim
+        (λ z. ⊎-elim (λ z′. g .apart h h′ x x′ q q′ j z z′) (λ z′. absurd (lost h x q (a ∙ ap stored (z′ .0)) (z ∙ ap stored (z′ .0)))) (which h′ x′ q′ j a′))
+        (λ z. ⊎-elim (λ z′. absurd (lost h′ x′ q′ (a′ ∙ ap stored (z .0)) (z′ ∙ ap stored (z .0))))
+        (λ z′. (at-c h x z ∙ sym (at-c h′ x′ z′), z .3 ∙ sym (z′ .3))) (which h′ x′ q′ j a′))
+        (which h x q j a)
+      where
+        at-c : {i l : ℕ} (h : Bool) (x : ℕ) → (i ≡ b) × (h ≡ false) × (x ≡ c) × (l ≡ p) → slot t s m₀ Outer h x ≡ c
+        at-c h x z = rw (z .1) (z .2)
+
+    -- the place was empty
+    filled : (h : Bool) (x q j : ℕ) → at w h x q ≡ stored j → slot t s m₀ Outer h x ≡ c → q ≡ p → ⊥
+    filled true x q j a d f = k d
+    filled false x q j a d f = empty j (subst₂ (λ i l. w .files i .map l ≡ stored j) d f a)
+
+    one-moved : (h h′ : Bool) (x x′ q j j′ : ℕ) → at moved h x q ≡ stored j → at moved h′ x′ q ≡ stored j′ → slot t s m₀ Outer h x ≡ slot t s m₀ Outer h′ x′ → j ≡ j′
+    one-moved h h′ x x′ q j j′ a a′ d =
+        ⊎-elim
+        (λ z. ⊎-elim (λ z′. g .one h h′ x x′ q j j′ z z′ d) (λ z′. absurd (filled h x q j z (d ∙ at-c h′ x′ z′) (z′ .3))) (which h′ x′ q j′ a′))
+        (λ z. ⊎-elim (λ z′. absurd (filled h′ x′ q j′ z′ (sym d ∙ at-c h x z) (z .3))) (λ z′. z .0 ∙ sym (z′ .0)) (which h′ x′ q j′ a′))
+        (which h x q j a)
+      where
+        at-c : {i l : ℕ} (h : Bool) (x : ℕ) → (i ≡ b) × (h ≡ false) × (x ≡ c) × (l ≡ p) → slot t s m₀ Outer h x ≡ c
+        at-c h x z = rw (z .1) (z .2)
+
+    good-moved : Ok moved
+    unfolding moving
+    good-moved = record {
+      next = g .next;
+      blocks = g .blocks;
+      pages-in = g .pages-in;
+      tidy = hole-tidy moving s p (tidy-put t s (w .files) (g .tidy) c p b (g .tidy .low s p b e) (λ _. live-present (w .files c .state) (needs-alive (w .files) c p n)));
+      used = λ h x q j a. let z = before h x q j a in g .used (z .pending) (z .set) (z .page) j (z .names);
+      apart = apart-moved;
+      one = one-moved;
+      only = λ j u. ⊎-elim inl
+          (λ l. inr (same? b j (λ d. subst (Place moved) d here) (λ d. record { pending = l .pending; set = l .set; page = l .page; names = still (l .pending) (l .set) (l .page) j d (l .names) })))
+          (g .only j u);
+      outer = g .outer;
+      outer-not = λ j u h x q a. let z = before h x q j a in g .outer-not j u (z .pending) (z .set) (z .page) (z .names);
+      outer-page = g .outer-page;
+    }
+
+    good-hand : Ok (handOver real t s p c w)
+    unfolding handOver
+    good-hand = rw e good-moved
+
   -- A BLOCK FREE AGAIN
   good-drop : (p : ℕ) (w : Work real) → Ok w → isStored (w .pending p) ≡ false → Ok (dropPage real t s p w)
   unfolding dropPage freeEntry
@@ -374,6 +466,7 @@ toModel t s m₀ Outer = record {
   copy-new = λ b w g f. upd-same _ (takeBlock (w .memory) .0) _ ∙ take-pages (w .memory) b;
   copy-old = λ b w g f x q b′ a.
       upd-other _ (takeBlock (w .memory) .0) _ b′ (λ e. not-used t s m₀ Outer w g f (subst (Used (w .memory)) (sym e) (g .used false x q b′ a))) ∙ take-pages (w .memory) b′;
+  good-hand = λ b c p w g n k e o. good-hand t s m₀ Outer b c p w g n k e o;
   good-enter = good-enter t s m₀ Outer;
   enter-mem = λ b b′ v w g. refl;
   enter-new = λ b b′ v w g. upd-same (w .memory .pages) b v;

@@ -52,11 +52,8 @@ pub record RealKept (B : ℕ) (r : Store real) : Type 0 where
   pub pages-in : PagesInside r
 
 -- no set is a child of itself
-abbrev pub ProperTree : Tree → Type 0
-ProperTree t = (s c : ℕ) → List·Memᴰ c (t .children s) → s ≡ c → ⊥
-
-pub proper-tree : (t : Tree) → TreeOk t → ProperTree t
-proper-tree t ok s c m e = let z : t .level s ≡ t .level c = ap (t .level) e in omega (arith, ok .kid-lvl s c m)
+pub not-itself : (t : Tree) → TreeOk t → (s c : ℕ) → List·Memᴰ c (t .children s) → s ≡ c → ⊥
+not-itself t ok s c m e = let z : t .level s ≡ t .level c = ap (t .level) e in omega (arith, ok .kid-lvl s c m)
 
 -- the blocks of the files of other numbers
 pub record Outer (r : Store real) (f : ℕ) (b : ℕ) : Type 0 where

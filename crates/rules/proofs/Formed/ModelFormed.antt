@@ -13,13 +13,14 @@ use Rattle.rules.proofs.Storages.Model.{model}
 use Rattle.rules.proofs.Steps.OneStep.{TreeOk}
 use Rattle.rules.proofs.Formed.Past.{delete-formed, truncate-formed, write-formed}
 use Rattle.rules.proofs.Tree.RemoveSet.{remove-sets}
-use Rattle.rules.proofs.Tree.SetsOk.{SetsOk, format-sets}
+use Rattle.rules.proofs.Tree.SetsOk.{SetsOk, children-once, format-sets}
 use Rattle.rules.proofs.Formed.Shape.{FilesFormed}
 use Rattle.rules.specs.Calls.{Store, accepted, begin, created, formatted, made, removed, treeIn, viewOf, worked}
 use Rattle.rules.specs.Numbers.{Call, View, create, delete, format, make, numberOf, read, remove, tellFree, tellSize, truncate, write}
 use Rattle.rules.specs.Sets.{childFile, rootAlone}
 use Rattle.rules.specs.State.{File, Files, Tree, absentFile, treeOf}
 use Rattle.rules.specs.Storage.{PageData}
+use Rattle.rules.proofs.Steps.Handing.{ProperTree}
 
 -- the rules on sets and files hold, and there are no files from number 16 on
 pub record ModelFormed (m : Store model) : Type 0 where
@@ -71,6 +72,9 @@ module _ (m : Store model) (v : ModelFormed m) (B : ℕ) where
   tree-ok : TreeOk t
   tree-ok = v .sets-ok .tree
 
+  proper : ProperTree t
+  proper = record { ok = v .sets-ok .tree; once = children-once (m .sets) (v .sets-ok) }
+
   -- AN ACCEPTED CALL
   pub accepted-formed : (c : Call) → numberOf now c ≡ 0 → ModelFormed (accepted model B c m .store)
   unfolding accepted created worked
@@ -81,14 +85,14 @@ module _ (m : Store model) (v : ModelFormed m) (B : ℕ) where
   accepted-formed (write s f off []) h = v
   accepted-formed (write s f off (x ∷ bs)) h =
       let a = passed-write now s f off (x ∷ bs) h in
-      one-number m v f (a .file) _ _ (write-formed t tree-ok s (begin model m f) (v .files-ok f) (a .alive) off (x ∷ bs) (a .end-in))
+      one-number m v f (a .file) _ _ (write-formed t proper s (begin model m f) (v .files-ok f) (a .alive) off (x ∷ bs) (a .end-in))
   accepted-formed (read s f off buffer) h = v
   accepted-formed (truncate s f n) h =
       let a = passed-truncate now s f n h in
-      one-number m v f (a .file) _ _ (truncate-formed t tree-ok s (begin model m f) (v .files-ok f) (a .alive) n (a .end-in))
+      one-number m v f (a .file) _ _ (truncate-formed t proper s (begin model m f) (v .files-ok f) (a .alive) n (a .end-in))
   accepted-formed (delete s f) h =
       let a = passed-delete now s f h in
-      one-number m v f (a .file) _ _ (delete-formed t tree-ok s (begin model m f) (v .files-ok f))
+      one-number m v f (a .file) _ _ (delete-formed t proper s (begin model m f) (v .files-ok f))
   accepted-formed (make s c w) h = make-kept s c w (passed-make now s c w h)
   accepted-formed (remove s) h = remove-kept s (passed-remove now s h)
   accepted-formed (tellSize s f) h = v

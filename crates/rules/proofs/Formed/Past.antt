@@ -17,12 +17,13 @@ use Rattle.rules.proofs.Storages.Model.{model}
 use Rattle.rules.proofs.Steps.OneStep.{Alive, TreeOk}
 use Rattle.rules.proofs.Steps.States.{live-present}
 use Rattle.rules.proofs.Formed.Shape.{FilesFormed, Fit, fit-change, shape-delete, size-most}
-use Rattle.rules.proofs.Agreement.Truncate.{dropped-in, kept-in, kept-once}
+use Rattle.rules.proofs.Agreement.Truncate.{apart, dropped-in, dropped-under, kept-in, kept-once, kept-part, part-in}
 use Rattle.rules.proofs.Steps.WriterSteps.{NoDup, mem?}
 use Rattle.rules.specs.Reading.{resolve, sizeByReading}
-use Rattle.rules.specs.Rules.{Work, change, cutPages, deleteFile, droppedPages, keptPages, touched, truncateAs, truncateFile, writeFile}
+use Rattle.rules.specs.Rules.{Work, change, cutPages, deleteFile, droppedPages, keptPages, partPages, touched, truncateAs, truncateFile, writeFile}
 use Rattle.rules.specs.State.{Entry, Files, Tree, isStored, live}
 use Rattle.rules.specs.Storage.{PageData, overlay, zeroFrom}
+use Rattle.rules.proofs.Steps.Handing.{ProperTree}
 
 -- The file of one set is another, and keeps the rule itself; the others that are alive were so before and read what they read.
 module _ {K : Type 0} (t t′ : Tree) (a b : Files K) (s : ℕ) (k : FilesFormed t a)
@@ -58,13 +59,13 @@ dropped-past n z p l h =
     odd : (q r p : ℕ) → (r ≡ 0 → ⊥) → r < 512 → q * 512 + r ≤ p * 512 → suc q ≤ p
     odd q r p n b l = same? r 0 (λ e. absurd (n e)) (λ d. omega arith)
 
-module _ (t : Tree) (ok : TreeOk t) (s : ℕ) (w : Work model) (k : FilesFormed t (w .files)) where
+module _ (t : Tree) (proper : ProperTree t) (s : ℕ) (w : Work model) (k : FilesFormed t (w .files)) where
   -- DELETE
   pub delete-formed : FilesFormed t (deleteFile model t s w .files)
   delete-formed =
-      let r = deleted t ok s w (k .ok) in
+      let r = deleted t proper s w (k .ok) in
       record {
-        shape = shape-delete model t s w (k .shape);
+        shape = shape-delete model t s proper w (k .shape);
         ok = r .ok′;
         past = past-one t t (w .files) (deleteFile model t s w .files) s k (r .alive) (r .page) (r .size) (λ p l h z. absurd (true≢false (sym h ∙ ap live (r .empty))));
       }
@@ -75,14 +76,14 @@ module _ (t : Tree) (ok : TreeOk t) (s : ℕ) (w : Work model) (k : FilesFormed 
 
     -- any change of the file in s
     change-formed : (ps rs ds : List ℕ) (lay : ℕ → PageData → PageData) (sz : ℕ → ℕ) → ((p : ℕ) → List·Memᴰ p ps → p < 64) →
-        (in-r : (p : ℕ) → List·Memᴰ p rs → List·Memᴰ p ps) → (in-d : (p : ℕ) → List·Memᴰ p ds → List·Memᴰ p ps) → NoDup rs → ((n : ℕ) → n ≤ 32768 → sz n ≤ 32768) →
+        (in-r : (p : ℕ) → List·Memᴰ p rs → List·Memᴰ p ps) → ((p : ℕ) → List·Memᴰ p ds → List·Memᴰ p rs → ⊥) → ((p : ℕ) → List·Memᴰ p ds → p < 64) → NoDup rs → ((n : ℕ) → n ≤ 32768 → sz n ≤ 32768) →
         ((p : ℕ) → p < 64 → (List·Memᴰ p ds → ⊥) → sz (sizeByReading t (w .files) s) ≤ p * 512 → (List·Memᴰ p rs → ⊥) × (sizeByReading t (w .files) s ≤ p * 512)) →
         FilesFormed t (change model t s ps rs ds lay sz w .files)
-    change-formed ps rs ds lay sz under in-r in-d nd most past =
+    change-formed ps rs ds lay sz under in-r away under-d nd most past =
         let b : Files PageData = change model t s ps rs ds lay sz w .files in
-        let r : Changed t s rs ds lay sz (w .files) b = changed t ok s ps rs ds in-r in-d nd lay sz w (k .ok) al in
+        let r : Changed t s rs ds lay sz (w .files) b = changed t proper s ps rs ds in-r away under-d nd lay sz w (k .ok) al in
         record {
-          shape = fit-change model t s ps rs ds lay sz under (λ p m. under p (in-r p m)) (λ p m. under p (in-d p m)) most w fit .shape;
+          shape = fit-change model t s proper ps rs ds lay sz under (λ p m. under p (in-r p m)) under-d most w fit .shape;
           ok = r .ok′;
           past = past-one t t (w .files) b s k (λ x n. r .alive x) (r .page) (r .size)
               (λ p l h z. ⊎-elim
@@ -96,7 +97,7 @@ module _ (t : Tree) (ok : TreeOk t) (s : ℕ) (w : Work model) (k : FilesFormed 
     unfolding writeFile
     write-formed off bs l =
         change-formed (touched off (length bs)) (touched off (length bs)) [] (overlay off bs) (λ n. max n (off + length bs))
-        (λ p m. let e = touched-end off (length bs) p m in omega arith) (λ p m. m) (λ p m. elim m [ ]) (touched-once off (length bs)) (λ n h. omega arith)
+        (λ p m. let e = touched-end off (length bs) p m in omega arith) (λ p m. m) (λ p m o. elim m [ ]) (λ p m. elim m [ ]) (touched-once off (length bs)) (λ n h. omega arith)
         (λ p h o z. (λ m. let e = touched-end off (length bs) p m in omega arith, omega arith))
 
     -- TRUNCATE
@@ -111,15 +112,15 @@ module _ (t : Tree) (ok : TreeOk t) (s : ℕ) (w : Work model) (k : FilesFormed 
         go true c e h = k
         go false true e h =
             let d = ltb-true size n h in
-            change-formed [] [] [] (λ p v. v) (λ m. n) (λ p m. elim m [ ]) (λ p m. m) (λ p m. m) tt (λ m h. l) (λ p h o z. (o, omega arith))
+            change-formed [] [] [] (λ p v. v) (λ m. n) (λ p m. elim m [ ]) (λ p m. m) (λ p m o. elim m [ ]) (λ p m. elim m [ ]) tt (λ m h. l) (λ p h o z. (o, omega arith))
         go false false e h =
             let d = ltb-false size n h in
             let n≢ = eqb-false n size e in
             let less : n < size = same? n size (λ q. absurd (n≢ q)) (λ q. omega arith) in
             let kept : Entry PageData = resolve t (w .files) s (n / 512) in
-            change-formed (cutPages n size) (keptPages n kept) (droppedPages n size) (λ p. zeroFrom (n % 512)) (λ m. n)
-            (λ p m. let a = cut-end n size p less m in let b = size-most t (w .files) (k .shape) s in omega arith)
-            (kept-in n size kept) (dropped-in n size) (kept-once n kept) (λ m h. l)
+            change-formed (partPages n) (keptPages n kept) (droppedPages n size) (λ p. zeroFrom (n % 512)) (λ m. n)
+            (λ p m. let a = cut-end n size p less (part-in n size p m) in let b = size-most t (w .files) (k .shape) s in omega arith)
+            (kept-part n kept) (apart n size kept) (λ p m. dropped-under n size p (size-most t (w .files) (k .shape) s) less m) (kept-once n kept) (λ m h. l)
             (λ p h o z.
             let f : size ≤ p * 512 = test? (ltb (p * 512) size) (λ q. absurd (o (dropped-past n size p z (ltb-true (p * 512) size q)))) (λ q. ltb-false (p * 512) size q) in
             (λ m. let a = cut-end n size p less (kept-in n size kept p m) in omega arith, f))

@@ -1,7 +1,7 @@
 -- The rules on files as propositions, for the files of one number, over any storage.
 -- Every step of a write, a truncate and a delete keeps those of them that look at one file at a time. Assumes nothing.
 use mathlib.Core.Bool.{Bool, false, true, true≢false}
-use mathlib.Core.List.{List, List·Memᴰ, _∷_}
+use mathlib.Core.List.{List, List·Memᴰ, List·Memᴰ·head, List·Memᴰ·tail, [], _∷_}
 use mathlib.Core.Logic.{⊎-elim}
 use mathlib.Core.Option.{Option, none, some}
 use mathlib.Core.Path.{ap, refl, subst, sym, _∙_, _≡_}
@@ -16,9 +16,11 @@ use Rattle.rules.proofs.Steps.Reached.{reached-by, reached-live, some-u
 use Rattle.rules.proofs.Steps.States.{live-present}
 use Rattle.rules.proofs.Steps.StepFour.{each-inv, needs-alive, needs-unmapped}
 use Rattle.rules.specs.Reading.{dependent, needs, reaches, resolve, shownSize, sizeByReading, walk}
-use Rattle.rules.specs.Rules.{Work, change, copy, deleteAs, deleteFile, dropPage, each, enter, enterAs, eraseFile, from, give, giveAll, mark, markDown, markFile, pageOf, putEntry, reserve, reserveAs, resize, settle, settleAs, settleFile, supply, takeOwn}
+use Rattle.rules.specs.Rules.{Giving, Work, change, copied, copy, deleteAs, deleteFile, dropPage, each, enter, enterAs, eraseFile, from, give, giveAll, givePage, hand, handOver, handed, mark, markDown, markFile, pageOf, putEntry, reserve, reserveAs, resize, settle, settleAs, settleFile, supply, takeOwn}
 use Rattle.rules.specs.State.{Entry, File, Files, State, Tree, absent, absentFile, hole, isAbsent, isStored, isUnmapped, live, marked, own, stored, unmapped, virgin}
 use Rattle.rules.specs.Storage.{Storage}
+use Rattle.rules.proofs.Steps.Handing.{ProperTree, some-leave, some-self}
+use Rattle.rules.proofs.Steps.WriterSteps.{NoDup}
 
 -- what a walk gives has what everything shown has
 walk-has : {X Y : Type 0} (parent : ℕ → ℕ) (look : X → Option Y) (d : Y) (P : Y → Type 0) (files : ℕ → X) → P d → ((x : ℕ) (v : Y) → look (files x) ≡ some v → P v) →
@@ -187,9 +189,42 @@ module _ (S : Storage) (t : Tree) (s : ℕ) where
       rw n (fit-supply (resolve t (w .files) s p) p c w l f a (λ z. f .shape c .root-full z (live-present (w .files c .state) a) p l (needs-unmapped (w .files) c p n))))
       (λ n. rw n f)
 
-  fit-give-all : (ps : List ℕ) → ((p : ℕ) → List·Memᴰ p ps → p < 64) → (w : Work S) → FitW w → FitW (giveAll S t s ps w)
-  unfolding giveAll
-  fit-give-all ps under w f = each-inv _ FitW ps (λ p v m g. each-inv (give S t s p) FitW (t .children s) (λ c u k i. fit-give p c u (under p m) i) v g) w f
+  fit-some : (p : ℕ) → p < 64 → (cs : List ℕ) (w : Work S) → FitW w → FitW (each (give S t s p) cs w)
+  fit-some p l cs w f = each-inv (give S t s p) FitW cs (λ c u k i. fit-give p c u l i) w f
+
+  stored-mapped : (e : Entry (S .Block)) → isStored e ≡ true → isUnmapped e ≡ false
+  stored-mapped unmapped h = absurd (true≢false (sym h))
+  stored-mapped hole h = refl
+  stored-mapped (stored b) h = refl
+
+  -- an entry that is stored moves
+  fit-over : (p c : ℕ) (w : Work S) → p < 64 → FitW w → isAbsent (w .files c .state) ≡ false → isStored (w .files s .map p) ≡ true → FitW (handOver S t s p c w)
+  unfolding handOver
+  fit-over p c w l f a h =
+      let g = fit-put t s (w .files) f c p (w .files s .map p) l a (stored-mapped (w .files s .map p) h) in
+      fit-put t s (putEntry (w .files) c p (w .files s .map p)) g s p hole l (g .here) refl
+
+  module _ (proper : ProperTree t) where
+    fit-hand : (p : ℕ) → p < 64 → (cs : List ℕ) → ((d : ℕ) → List·Memᴰ d cs → List·Memᴰ d (t .children s)) → NoDup cs → (w : Work S) → FitW w → isStored (w .files s .map p) ≡ true → FitW (hand S t s p cs w)
+    unfolding hand
+    fit-hand p l [] kids nd w f h = f
+    fit-hand p l (c ∷ cs) kids nd w f h =
+        let inside : (d : ℕ) → List·Memᴰ d cs → List·Memᴰ d (t .children s) = λ d m. kids d (List·Memᴰ·tail m) in
+        test? (needs (w .files) c p)
+        (λ n. rw n (fit-over p c (each (give S t s p) cs w) l (fit-some p l cs w f)
+        (ap (λ (x : File (S .Block)). isAbsent (x .state)) (some-leave S t (proper .ok) s p cs inside w c (kids c (List·Memᴰ·head refl)) (nd .0)) ∙ live-present (w .files c .state) (needs-alive (w .files) c p n))
+        (ap (λ (x : File (S .Block)). isStored (x .map p)) (some-self S t (proper .ok) s p cs inside w) ∙ h)))
+        (λ n. rw n (fit-hand p l cs inside (nd .1) w f h))
+
+    fit-page : (how : Giving) (p : ℕ) → p < 64 → (w : Work S) → FitW w → FitW (givePage S t how s p w)
+    unfolding givePage
+    fit-page copied p l w f = fit-some p l (t .children s) w f
+    fit-page handed p l w f =
+        test? (isStored (w .files s .map p)) (λ e. rw e (fit-hand p l (t .children s) (λ d m. m) (proper .once s) w f e)) (λ e. rw e (fit-some p l (t .children s) w f))
+
+    fit-give-all : (how : Giving) (ps : List ℕ) → ((p : ℕ) → List·Memᴰ p ps → p < 64) → (w : Work S) → FitW w → FitW (giveAll S t how s ps w)
+    unfolding giveAll
+    fit-give-all how ps under w f = each-inv (givePage S t how s) FitW ps (λ p v m g. fit-page how p (under p m) v g) w f
 
   fit-settle-each : (cs : List ℕ) (w : Work S) → FitW w → FitW (each (settle S t) cs w)
   unfolding settle
@@ -218,18 +253,18 @@ module _ (S : Storage) (t : Tree) (s : ℕ) where
   fit-drop p w l f = fit-put t s (w .files) f s p hole l (f .here) refl
 
   -- any change of one file
-  pub fit-change : (ps rs ds : List ℕ) (lay : ℕ → S .Page → S .Page) (resized : ℕ → ℕ) → ((p : ℕ) → List·Memᴰ p ps → p < 64) → ((p : ℕ) → List·Memᴰ p rs → p < 64) →
+  pub fit-change : ProperTree t → (ps rs ds : List ℕ) (lay : ℕ → S .Page → S .Page) (resized : ℕ → ℕ) → ((p : ℕ) → List·Memᴰ p ps → p < 64) → ((p : ℕ) → List·Memᴰ p rs → p < 64) →
       ((p : ℕ) → List·Memᴰ p ds → p < 64) → ((n : ℕ) → n ≤ 32768 → resized n ≤ 32768) → (w : Work S) → FitW w → FitW (change S t s ps rs ds lay resized w)
   unfolding change resize
-  fit-change ps rs ds lay resized lp lr ld most w f =
+  fit-change proper ps rs ds lay resized lp lr ld most w f =
       let w₁ : Work S = each (settle S t) (s ∷ t .children s) w in
       let w₂ : Work S = each (reserve S t s) rs w₁ in
-      let w₃ : Work S = giveAll S t s ps w₂ in
+      let w₃ : Work S = giveAll S t handed s ds (giveAll S t copied s ps w₂) in
       let w₄ : Work S = each (enter S t s lay) rs w₃ in
       let w₅ : Work S = each (dropPage S t s) ds w₄ in
       let f₁ : FitW w₁ = fit-settle-each (s ∷ t .children s) w f in
       let f₂ : FitW w₂ = each-inv (reserve S t s) FitW rs (λ p v m g. fit-reserve p v g) w₁ f₁ in
-      let f₃ : FitW w₃ = fit-give-all ps lp w₂ f₂ in
+      let f₃ : FitW w₃ = fit-give-all proper handed ds ld _ (fit-give-all proper copied ps lp w₂ f₂) in
       let f₄ : FitW w₄ = each-inv (enter S t s lay) FitW rs (λ p v m g. fit-enter lay p v (lr p m) g) w₃ f₃ in
       let f₅ : FitW w₅ = each-inv (dropPage S t s) FitW ds (λ p v m g. fit-drop p v (ld p m) g) w₄ f₄ in
       fit-resize t s (w₅ .files) f₅ (resized (w₅ .files s .size)) (most (w₅ .files s .size) (f₅ .shape s .most))
@@ -239,12 +274,12 @@ module _ (S : Storage) (t : Tree) (s : ℕ) where
   unfolding eraseFile
   shape-erase w h = shape-upd t (w .files) h s absentFile (fits-absent t s)
 
-  pub shape-delete : (w : Work S) → Shape t (w .files) → Shape t (deleteFile S t s w .files)
+  pub shape-delete : ProperTree t → (w : Work S) → Shape t (w .files) → Shape t (deleteFile S t s w .files)
   unfolding deleteFile deleteAs
-  shape-delete w h = go (live (w .files s .state)) refl
+  shape-delete proper w h = go (live (w .files s .state)) refl
     where
       go : (b : Bool) → live (w .files s .state) ≡ b → Shape t (deleteAs S t b s w .files)
-      go true e = shape-erase (giveAll S t s (from 0 64) (each (settle S t) (t .children s) w))
-          (fit-give-all (from 0 64) (λ p m. let z = from-high 0 64 p m in omega arith) (each (settle S t) (t .children s) w)
+      go true e = shape-erase (giveAll S t handed s (from 0 64) (each (settle S t) (t .children s) w))
+          (fit-give-all proper handed (from 0 64) (λ p m. let z = from-high 0 64 p m in omega arith) (each (settle S t) (t .children s) w)
           (fit-settle-each (t .children s) w (record { shape = h; here = live-present (w .files s .state) e })) .shape)
       go false e = shape-erase w h

@@ -1,6 +1,6 @@
 -- When a file becomes marked in an accepted call: exactly at a turn of step 4 that is a needed copy which finds none free, and in a set that is made where it is marked in the parent.
 -- Steps 2, 3 and 5 mark nothing, nor does any other call. Assumes nothing.
-use mathlib.Core.Bool.{Bool, cond, false, true, true≢false}
+use mathlib.Core.Bool.{Bool, cond, false, not, true, true≢false}
 use mathlib.Core.List.{List, _∷_, []}
 use mathlib.Core.Logic.{inl, inr, _↔_, _⊎_, ⊎-elim}
 use mathlib.Core.Path.{ap, refl, subst, sym, _∙_, _≡_}
@@ -14,11 +14,11 @@ use Rattle.base.specs.Update.{upd, upd-keeps, upd-other, upd-same}
 use Rattle.rules.proofs.Marking.MarkingRun.{run-marks}
 use Rattle.rules.proofs.Marking.MarkingSettled.{alike-back, marking-alike, settle-alike}
 use Rattle.rules.proofs.Steps.OneStep.{TreeOk}
-use Rattle.rules.proofs.Tally.TallyWriter.{turns-self}
+use Rattle.rules.proofs.Tally.TallyWriter.{turns-state}
 use Rattle.rules.specs.Marking.{BecomesMarked, MarkingTurn, in-delete, in-make, in-truncate, in-write, ownTaken}
 use Rattle.rules.specs.Numbers.{Call, create, delete, format, make, read, refusal, remove, tellFree, tellSize, truncate, write}
 use Rattle.rules.specs.State.{State, Tree, absent, isMarked, isVirgin, live, marked, own, setCount, virgin}
-use Rattle.rules.specs.Tally.{Tally, TallyFile, TallyFiles, TallyResult, Turn, eachChild, tallyCall, tallyChild, tallyCut, tallyDelete, tallyFormat, tallyGrow, tallyLeaves, tallySettle, tallySize, tallyTold, tallyTruncate, tallyTruncateNeed, tallyTurns, tallyWrite, tallyWriteNeed, truncateTouches, writeTouches}
+use Rattle.rules.specs.Tally.{Tally, TallyFile, TallyFiles, TallyResult, Turn, eachChild, partPage, tallyCall, tallyChild, tallyCut, tallyDelete, tallyFormat, tallyGrow, tallyLeaves, tallySettle, tallySize, tallyTold, tallyTruncate, tallyTruncateNeed, tallyTurns, tallyWrite, tallyWriteNeed, truncateTouches, writeTouches}
 
 -- STEP 2 marks nothing
 settle-mark : (t : Tree) (c : ℕ) (fs : TallyFiles) (y : ℕ) → isMarked (tallySettle t c fs y .state) ≡ isMarked (fs y .state)
@@ -55,23 +55,23 @@ module _ (ta : Tally) (f s taken : ℕ) (x : Turn) (z : TallyFile) (m : ℕ) whe
 
 -- A CHANGING CALL: steps 2 to 5, where z is the file that step 5 leaves in set s
 module _ (ta : Tally) (ok : TreeOk (ta .tree)) (shallow : (x : ℕ) → ta .tree .level x ≤ setCount)
-    (f s taken : ℕ) (cs : List ℕ) (touches : ℕ → Bool) (z : TallyFile) (m : ℕ) (fine : isMarked (z .state) ≡ false) where
+    (f s taken : ℕ) (cs : List ℕ) (touches hands : ℕ → Bool) (z : TallyFile) (m : ℕ) (fine : isMarked (z .state) ≡ false) where
   abbrev turns : Turn
-  turns = tallyTurns ta f s cs taken touches
+  turns = tallyTurns ta f s cs taken touches hands
 
   abbrev after : TallyResult
   after = tallyLeaves ta f s taken turns z m
 
-  turns-mark : (y : ℕ) → (isMarked (turns .files y .state) ≡ true) ↔ ((isMarked (ta .files f y .state) ≡ true) ⊎ MarkingTurn (ta .tree) s touches (turnsStart ta f cs taken) y)
+  turns-mark : (y : ℕ) → (isMarked (turns .files y .state) ≡ true) ↔ ((isMarked (ta .files f y .state) ≡ true) ⊎ MarkingTurn (ta .tree) s touches hands (turnsStart ta f cs taken) y)
   unfolding tallyTurns
   turns-mark y =
-      let r = run-marks (ta .tree) ok shallow s y touches (turnsStart ta f cs taken) in
+      let r = run-marks (ta .tree) ok shallow s y touches hands (turnsStart ta f cs taken) in
       let e = settle-marks (ta .tree) cs (ta .files f) y in
       (λ h. ⊎-elim (λ a. inl (sym e ∙ a)) inr (r .0 h), λ h. r .1 (⊎-elim (λ a. inl (e ∙ a)) inr h))
 
   own-mark : isMarked (turns .files s .state) ≡ isMarked (ta .files f s .state)
   unfolding tallyTurns
-  own-mark = ap (λ (x : TallyFile). isMarked (x .state)) (turns-self (ta .tree) ok s touches (turnsStart ta f cs taken)) ∙ settle-marks (ta .tree) cs (ta .files f) s
+  own-mark = ap isMarked (turns-state (ta .tree) ok s touches hands (turnsStart ta f cs taken)) ∙ settle-marks (ta .tree) cs (ta .files f) s
 
   -- STEP 5 marks nothing
   pub last-marks : (y : ℕ) → isMarked (ta .files f y .state) ≡ false → isMarked (after .tally .files f y .state) ≡ isMarked (turns .files y .state)
@@ -81,12 +81,12 @@ module _ (ta : Tally) (ok : TreeOk (ta .tree)) (shallow : (x : ℕ) → ta .tree
       (λ h. ap (λ (x : TallyFile). isMarked (x .state)) (leaves-here ta f s taken turns z m) ∙ fine ∙ sym (own-mark ∙ h)) h)
       (λ n. ap (λ (x : TallyFile). isMarked (x .state)) (leaves-there ta f s taken turns z m y n))
 
-  change-marks-here : (y : ℕ) → isMarked (ta .files f y .state) ≡ false → (isMarked (after .tally .files f y .state) ≡ true) ↔ MarkingTurn (ta .tree) s touches (turnsStart ta f cs taken) y
+  change-marks-here : (y : ℕ) → isMarked (ta .files f y .state) ≡ false → (isMarked (after .tally .files f y .state) ≡ true) ↔ MarkingTurn (ta .tree) s touches hands (turnsStart ta f cs taken) y
   change-marks-here y h =
       (λ a. ⊎-elim (λ b. absurd (true≢false (sym b ∙ h))) (λ r. r) (turns-mark y .0 (sym (last-marks y h) ∙ a)), λ r. last-marks y h ∙ turns-mark y .1 (inr r))
 
   change-marks : (g y : ℕ) → isMarked (ta .files g y .state) ≡ false →
-      (isMarked (after .tally .files g y .state) ≡ true) ↔ ((f ≡ g) × MarkingTurn (ta .tree) s touches (turnsStart ta f cs taken) y)
+      (isMarked (after .tally .files g y .state) ≡ true) ↔ ((f ≡ g) × MarkingTurn (ta .tree) s touches hands (turnsStart ta f cs taken) y)
   change-marks g y h =
       same? f g
       (λ e. let r = change-marks-here y (ap (λ g. isMarked (ta .files g y .state)) e ∙ h) in
@@ -119,47 +119,47 @@ abbrev WhyMarked : Tally → Call → ℕ → ℕ → Type 0
 WhyMarked ta format g y = ⊥
 WhyMarked ta (create s f) g y = ⊥
 WhyMarked ta (write s f off bs) g y =
-    (f ≡ g) × MarkingTurn (ta .tree) s (writeTouches off (length bs)) (turnsStart ta f (s ∷ ta .tree .children s) (tallyWriteNeed (ta .files f) s off (length bs))) y
+    (f ≡ g) × MarkingTurn (ta .tree) s (writeTouches off (length bs)) (λ p. false) (turnsStart ta f (s ∷ ta .tree .children s) (tallyWriteNeed (ta .files f) s off (length bs))) y
 WhyMarked ta (read s f off buffer) g y = ⊥
 WhyMarked ta (truncate s f n) g y =
-    (n < tallySize (ta .tree) (ta .files f) s) × ((f ≡ g) × MarkingTurn (ta .tree) s (truncateTouches n (tallySize (ta .tree) (ta .files f) s))
+    (n < tallySize (ta .tree) (ta .files f) s) × ((f ≡ g) × MarkingTurn (ta .tree) s (truncateTouches n (tallySize (ta .tree) (ta .files f) s)) (λ p. not (partPage n p))
     (turnsStart ta f (s ∷ ta .tree .children s) (tallyTruncateNeed (ta .tree) (ta .files f) s n)) y)
 WhyMarked ta (delete s f) g y =
-    (f ≡ g) × MarkingTurn (ta .tree) s (λ p. live (ta .files f s .state)) (turnsStart ta f (cond (live (ta .files f s .state)) (ta .tree .children s) []) 0) y
+    (f ≡ g) × MarkingTurn (ta .tree) s (λ p. live (ta .files f s .state)) (λ p. true) (turnsStart ta f (cond (live (ta .files f s .state)) (ta .tree .children s) []) 0) y
 WhyMarked ta (make s c w) g y = (c ≡ y) × (isMarked (ta .files g s .state) ≡ true)
 WhyMarked ta (remove s) g y = ⊥
 WhyMarked ta (tellSize s f) g y = ⊥
 WhyMarked ta tellFree g y = ⊥
 
 -- step 2 makes no difference
-module _ (ta : Tally) (f s : ℕ) (cs : List ℕ) (touches : ℕ → Bool) (need y : ℕ) where
-  unsettled : MarkingTurn (ta .tree) s touches (turnsStart ta f cs need) y → MarkingTurn (ta .tree) s touches (ownTaken ta f need) y
-  unsettled = marking-alike (ta .tree) s touches _ _ (record { files = settle-alike (ta .tree) cs (ta .files f); free = refl }) y
+module _ (ta : Tally) (f s : ℕ) (cs : List ℕ) (touches hands : ℕ → Bool) (need y : ℕ) where
+  unsettled : MarkingTurn (ta .tree) s touches hands (turnsStart ta f cs need) y → MarkingTurn (ta .tree) s touches hands (ownTaken ta f need) y
+  unsettled = marking-alike (ta .tree) s touches hands _ _ (record { files = settle-alike (ta .tree) cs (ta .files f); free = refl }) y
 
-  settled : MarkingTurn (ta .tree) s touches (ownTaken ta f need) y → MarkingTurn (ta .tree) s touches (turnsStart ta f cs need) y
-  settled = marking-alike (ta .tree) s touches _ _ (record { files = alike-back (settle-alike (ta .tree) cs (ta .files f)); free = refl }) y
+  settled : MarkingTurn (ta .tree) s touches hands (ownTaken ta f need) y → MarkingTurn (ta .tree) s touches hands (turnsStart ta f cs need) y
+  settled = marking-alike (ta .tree) s touches hands _ _ (record { files = alike-back (settle-alike (ta .tree) cs (ta .files f)); free = refl }) y
 
 why-means : (ta : Tally) (c : Call) (g y : ℕ) → WhyMarked ta c g y → BecomesMarked ta c g y
 why-means ta format g y r = absurd r
 why-means ta (create s f) g y r = absurd r
-why-means ta (write s f off bs) g y r = subst (λ g. BecomesMarked ta (write s f off bs) g y) (r .0) (in-write s off bs refl (unsettled ta f s _ _ _ y (r .1)))
+why-means ta (write s f off bs) g y r = subst (λ g. BecomesMarked ta (write s f off bs) g y) (r .0) (in-write s off bs refl (unsettled ta f s _ _ _ _ y (r .1)))
 why-means ta (read s f off buffer) g y r = absurd r
-why-means ta (truncate s f n) g y r = subst (λ g. BecomesMarked ta (truncate s f n) g y) (r .1 .0) (in-truncate s n refl (r .0) (unsettled ta f s _ _ _ y (r .1 .1)))
+why-means ta (truncate s f n) g y r = subst (λ g. BecomesMarked ta (truncate s f n) g y) (r .1 .0) (in-truncate s n refl (r .0) (unsettled ta f s _ _ _ _ y (r .1 .1)))
 why-means ta (delete s f) g y r =
     let e : live (ta .files f s .state) ≡ true = r .1 .touched in
     subst (λ g. BecomesMarked ta (delete s f) g y) (r .0)
-    (in-delete s refl e (subst (λ b. MarkingTurn (ta .tree) s (λ p. b) (ownTaken ta f 0) y) e (unsettled ta f s _ _ 0 y (r .1))))
+    (in-delete s refl e (subst (λ b. MarkingTurn (ta .tree) s (λ p. b) (λ p. true) (ownTaken ta f 0) y) e (unsettled ta f s _ _ _ 0 y (r .1))))
 why-means ta (make s c w) g y r = in-make s w (ap (λ y. make s y w) (r .0)) (r .1)
 why-means ta (remove s) g y r = absurd r
 why-means ta (tellSize s f) g y r = absurd r
 why-means ta tellFree g y r = absurd r
 
 means-why : (ta : Tally) (c : Call) (g y : ℕ) → BecomesMarked ta c g y → WhyMarked ta c g y
-means-why ta c g y (in-write s off bs e r) = subst (λ c. WhyMarked ta c g y) (sym e) (refl, settled ta g s _ _ _ y r)
-means-why ta c g y (in-truncate s n e l r) = subst (λ c. WhyMarked ta c g y) (sym e) (l, (refl, settled ta g s _ _ _ y r))
+means-why ta c g y (in-write s off bs e r) = subst (λ c. WhyMarked ta c g y) (sym e) (refl, settled ta g s _ _ _ _ y r)
+means-why ta c g y (in-truncate s n e l r) = subst (λ c. WhyMarked ta c g y) (sym e) (l, (refl, settled ta g s _ _ _ _ y r))
 means-why ta c g y (in-delete s e h r) =
     subst (λ c. WhyMarked ta c g y) (sym e)
-    (refl, settled ta g s _ _ 0 y (subst (λ b. MarkingTurn (ta .tree) s (λ p. b) (ownTaken ta g 0) y) (sym h) r))
+    (refl, settled ta g s _ _ _ 0 y (subst (λ b. MarkingTurn (ta .tree) s (λ p. b) (λ p. true) (ownTaken ta g 0) y) (sym h) r))
 means-why ta c g y (in-make s w e h) = subst (λ c. WhyMarked ta c g y) (sym e) (refl, h)
 
 never : (b : Bool) → b ≡ false → (b ≡ true) ↔ ⊥
@@ -181,8 +181,8 @@ put-file-mark files f s z g y a b =
     (λ n. ap (λ (w : TallyFiles). isMarked (w y .state)) (upd-other files f (upd (files f) s z) g n) ∙ b)
 
 -- nothing is touched, no turn marks
-no-turn : (t : Tree) (s : ℕ) (touches : ℕ → Bool) (x : Turn) (y : ℕ) → ((p : ℕ) → touches p ≡ false) → MarkingTurn t s touches x y → ⊥
-no-turn t s touches x y h r = true≢false (sym (r .touched) ∙ h (r .page))
+no-turn : (t : Tree) (s : ℕ) (touches hands : ℕ → Bool) (x : Turn) (y : ℕ) → ((p : ℕ) → touches p ≡ false) → MarkingTurn t s touches hands x y → ⊥
+no-turn t s touches hands x y h r = true≢false (sym (r .touched) ∙ h (r .page))
 
 module _ (ta : Tally) (ok : TreeOk (ta .tree)) (shallow : (x : ℕ) → ta .tree .level x ≤ setCount) (blocks g y : ℕ) (h : isMarked (ta .files g y .state) ≡ false) where
   abbrev marksIn : Call → Type 0
@@ -190,23 +190,23 @@ module _ (ta : Tally) (ok : TreeOk (ta .tree)) (shallow : (x : ℕ) → ta .tree
 
   write-marks : (s f off : ℕ) (bs : List ℕ) → marksIn (write s f off bs)
   unfolding tallyCall tallyTold tallyWrite writeTouches
-  write-marks s f off [] = (λ a. absurd (true≢false (sym a ∙ h)), λ r. absurd (no-turn (ta .tree) s _ _ y (λ p. refl) (r .1)))
+  write-marks s f off [] = (λ a. absurd (true≢false (sym a ∙ h)), λ r. absurd (no-turn (ta .tree) s _ _ _ y (λ p. refl) (r .1)))
   write-marks s f off (b ∷ bs) =
-      change-marks ta ok shallow f s _ (s ∷ ta .tree .children s) (writeTouches off (length (b ∷ bs))) _ 0 refl g y h
+      change-marks ta ok shallow f s _ (s ∷ ta .tree .children s) (writeTouches off (length (b ∷ bs))) (λ p. false) _ 0 refl g y h
 
   truncate-marks : (s f n : ℕ) → marksIn (truncate s f n)
   unfolding tallyCall tallyGrow tallyCut
   truncate-marks s f n =
       truncate-cases (λ r. (isMarked (r .tally .files g y .state) ≡ true) ↔ WhyMarked ta (truncate s f n) g y) ta s f n
       (λ e. (λ a. absurd (true≢false (sym a ∙ h)), λ b. let l = b .0 in absurd (omega arith)))
-      (λ e. let r = change-marks ta ok shallow f s 0 (s ∷ ta .tree .children s) (λ p. false) _ 0 refl g y h in
-      (λ a. absurd (no-turn (ta .tree) s _ _ y (λ p. refl) (r .0 a .1)), λ b. let l = b .0 in absurd (omega arith)))
-      (λ e. let r = change-marks ta ok shallow f s _ (s ∷ ta .tree .children s) (truncateTouches n (tallySize (ta .tree) (ta .files f) s)) _ _ refl g y h in
+      (λ e. let r = change-marks ta ok shallow f s 0 (s ∷ ta .tree .children s) (λ p. false) (λ p. false) _ 0 refl g y h in
+      (λ a. absurd (no-turn (ta .tree) s _ _ _ y (λ p. refl) (r .0 a .1)), λ b. let l = b .0 in absurd (omega arith)))
+      (λ e. let r = change-marks ta ok shallow f s _ (s ∷ ta .tree .children s) (truncateTouches n (tallySize (ta .tree) (ta .files f) s)) (λ p. not (partPage n p)) _ _ refl g y h in
       (λ a. (e, r .0 a), λ b. r .1 (b .1)))
 
   delete-marks : (s f : ℕ) → marksIn (delete s f)
   unfolding tallyCall tallyDelete
-  delete-marks s f = change-marks ta ok shallow f s 0 _ _ _ _ refl g y h
+  delete-marks s f = change-marks ta ok shallow f s 0 _ _ (λ p. true) _ _ refl g y h
 
   make-marks : (s c : ℕ) (w : Bool) → marksIn (make s c w)
   unfolding tallyCall tallyTold

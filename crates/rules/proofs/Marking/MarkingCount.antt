@@ -2,7 +2,7 @@
 use mathlib.Core.Bool.{_&&_, Bool, cond, false, not, true, true≢false, _||_}
 use mathlib.Core.List.{List, _∷_, []}
 use mathlib.Core.Logic.{inl}
-use mathlib.Core.Path.{ap, refl, sym, _∙_, _≡_}
+use mathlib.Core.Path.{_∙_, _≡_, ap, refl, sym}
 use Prim.Native.Nat.{_+_, suc, zero, ℕ, _≤_}
 use native.Mathlib.Nat.{add-zero, zero-add}
 use native.Mathlib.Omega.{arith}
@@ -15,11 +15,11 @@ use Rattle.rules.proofs.Marking.MarkingCalls.{last-marks, settle-marks,
 use Rattle.rules.proofs.Marking.MarkingRun.{run-marks}
 use Rattle.rules.proofs.Steps.OneStep.{TreeOk}
 use Rattle.rules.proofs.Steps.States.{live-unmarked}
-use Rattle.rules.proofs.Tally.TallyWriter.{turns-inv}
+use Rattle.rules.proofs.Tally.TallyWriter.{over-state, turns-inv}
 use Rattle.rules.specs.Marking.{MarkedDown, mark-below, mark-itself}
 use Rattle.rules.specs.Numbers.{delete, truncate, write}
 use Rattle.rules.specs.State.{Tree, hole, isMarked, isStored, isUnmapped, live, setCount, stored, unmapped}
-use Rattle.rules.specs.Tally.{Kind, Tally, TallyFile, TallyFiles, Turn, childPage, childTurn, kindAt, markedWith, neededCopy, tallyCall, tallyCut, tallyDelete, tallyGive, tallyGrow, tallyLeaves, tallySize, tallyTold, tallyTurns, tallyWrite, truncateTouches, writeTouches}
+use Rattle.rules.specs.Tally.{Kind, Tally, TallyFile, TallyFiles, Turn, childPage, childTurn, kindAt, markedWith, neededCopy, partPage, takenOver, tallyCall, tallyCut, tallyDelete, tallyGive, tallyGrow, tallyLeaves, tallySize, tallyTold, tallyTurns, tallyWrite, truncateTouches, writeTouches}
 
 -- numbers that pass one test or another, none both; and those that pass the one and not the other
 count-or : (n : ℕ) (f g : ℕ → Bool) → ((y : ℕ) → f y ≡ true → g y ≡ true → ⊥) → count n (λ y. f y || g y) ≡ count n f + count n g
@@ -72,16 +72,24 @@ module _ (t : Tree) (ok : TreeOk t) (shallow : (x : ℕ) → t .level x ≤ setC
       (marked-down t (x .files) ok shallow c y .0 (and-right (findsNone t s p c x) _ b)))))
       ∙ ap (λ n. markedSets (x .files) + n) (count-if setCount (findsNone t s p c x) (markedWith t (x .files) c))
 
-  run-counts : (touches : ℕ → Bool) (x : Turn) → tallyGive t s touches x .marks + markedSets (x .files) ≡ x .marks + markedSets (tallyGive t s touches x .files)
-  run-counts touches x =
-      turns-inv t s touches (λ z. z .marks + markedSets (x .files) ≡ x .marks + markedSets (z .files))
-      (λ p c z l e m i. let a = turn-adds p c z in let b = turn-counts p c z in omega arith) x refl
+  -- taking over marks nothing
+  over-adds : (p c : ℕ) (z : Turn) → takenOver t s p c z .marks ≡ z .marks
+  unfolding takenOver
+  over-adds p c z = refl
+
+  over-counts : (p c : ℕ) (z : Turn) → markedSets (takenOver t s p c z .files) ≡ markedSets (z .files)
+  over-counts p c z = count-same setCount _ _ (λ y l. ap isMarked (over-state t ok s p c z y))
+
+  run-counts : (touches hands : ℕ → Bool) (x : Turn) → tallyGive t s touches hands x .marks + markedSets (x .files) ≡ x .marks + markedSets (tallyGive t s touches hands x .files)
+  run-counts touches hands x =
+      turns-inv t s (λ z. z .marks + markedSets (x .files) ≡ x .marks + markedSets (z .files)) touches hands
+      (λ p c z l e m i. let a = turn-adds p c z in let b = turn-counts p c z in omega arith) (λ p c z l e m i. let a = over-adds p c z in let b = over-counts p c z in omega arith) x refl
 
   -- THE RUN counts the files newly marked
-  pub run-newly : (touches : ℕ → Bool) (x : Turn) → tallyGive t s touches x .marks ≡ x .marks + newlyMarked (x .files) (tallyGive t s touches x .files)
-  run-newly touches x =
-      let a = run-counts touches x in
-      let b = count-new setCount (λ y. isMarked (x .files y .state)) (λ y. isMarked (tallyGive t s touches x .files y .state)) (λ y h. run-marks t ok shallow s y touches x .1 (inl h)) in
+  pub run-newly : (touches hands : ℕ → Bool) (x : Turn) → tallyGive t s touches hands x .marks ≡ x .marks + newlyMarked (x .files) (tallyGive t s touches hands x .files)
+  run-newly touches hands x =
+      let a = run-counts touches hands x in
+      let b = count-new setCount (λ y. isMarked (x .files y .state)) (λ y. isMarked (tallyGive t s touches hands x .files y .state)) (λ y h. run-marks t ok shallow s y touches hands x .1 (inl h)) in
       omega arith
 
 -- A CHANGING CALL
@@ -101,31 +109,31 @@ unfolding tallyLeaves
 leaves-third ta f s taken x z m = refl
 
 module _ (ta : Tally) (ok : TreeOk (ta .tree)) (shallow : (x : ℕ) → ta .tree .level x ≤ setCount) where
-  change-newly : (f s taken : ℕ) (cs : List ℕ) (touches : ℕ → Bool) (z : TallyFile) (m : ℕ) → isMarked (z .state) ≡ false →
-      let r = tallyLeaves ta f s taken (tallyTurns ta f s cs taken touches) z m in r .answer .third ≡ newlyMarked (ta .files f) (r .tally .files f)
+  change-newly : (f s taken : ℕ) (cs : List ℕ) (touches hands : ℕ → Bool) (z : TallyFile) (m : ℕ) → isMarked (z .state) ≡ false →
+      let r = tallyLeaves ta f s taken (tallyTurns ta f s cs taken touches hands) z m in r .answer .third ≡ newlyMarked (ta .files f) (r .tally .files f)
   unfolding tallyTurns
-  change-newly f s taken cs touches z m fine =
-      let x : Turn = tallyTurns ta f s cs taken touches in
-      leaves-third ta f s taken x z m ∙ run-newly (ta .tree) ok shallow s touches (turnsStart ta f cs taken) ∙ zero-add _
+  change-newly f s taken cs touches hands z m fine =
+      let x : Turn = tallyTurns ta f s cs taken touches hands in
+      leaves-third ta f s taken x z m ∙ run-newly (ta .tree) ok shallow s touches hands (turnsStart ta f cs taken) ∙ zero-add _
       ∙ count-same setCount (λ y. isMarked (tallyLeaves ta f s taken x z m .tally .files f y .state) && not (isMarked (ta .files f y .state)))
       (λ y. isMarked (x .files y .state) && not (isMarked (turnsStart ta f cs taken .files y .state)))
       (λ y l. ap (λ b. isMarked (x .files y .state) && not b) (settle-marks (ta .tree) cs (ta .files f) y)
-      ∙ new-same _ _ (isMarked (ta .files f y .state)) (λ e. sym (last-marks ta ok shallow f s taken cs touches z m fine y e)))
+      ∙ new-same _ _ (isMarked (ta .files f y .state)) (λ e. sym (last-marks ta ok shallow f s taken cs touches hands z m fine y e)))
 
   -- the third count of an accepted write, truncate, delete
   pub write-newly : (blocks s f off : ℕ) (bs : List ℕ) → let r = tallyCall blocks (write s f off bs) ta in r .answer .third ≡ newlyMarked (ta .files f) (r .tally .files f)
   unfolding tallyCall tallyTold tallyWrite
   write-newly blocks s f off [] = sym (newly-none (ta .files f))
-  write-newly blocks s f off (b ∷ bs) = change-newly f s _ (s ∷ ta .tree .children s) (writeTouches off (length (b ∷ bs))) _ 0 refl
+  write-newly blocks s f off (b ∷ bs) = change-newly f s _ (s ∷ ta .tree .children s) (writeTouches off (length (b ∷ bs))) (λ p. false) _ 0 refl
 
   pub truncate-newly : (blocks s f n : ℕ) → let r = tallyCall blocks (truncate s f n) ta in r .answer .third ≡ newlyMarked (ta .files f) (r .tally .files f)
   unfolding tallyCall tallyGrow tallyCut
   truncate-newly blocks s f n =
       truncate-cases (λ r. r .answer .third ≡ newlyMarked (ta .files f) (r .tally .files f)) ta s f n
       (λ e. sym (newly-none (ta .files f)))
-      (λ e. change-newly f s 0 (s ∷ ta .tree .children s) (λ p. false) _ 0 refl)
-      (λ e. change-newly f s _ (s ∷ ta .tree .children s) (truncateTouches n (tallySize (ta .tree) (ta .files f) s)) _ _ refl)
+      (λ e. change-newly f s 0 (s ∷ ta .tree .children s) (λ p. false) (λ p. false) _ 0 refl)
+      (λ e. change-newly f s _ (s ∷ ta .tree .children s) (truncateTouches n (tallySize (ta .tree) (ta .files f) s)) (λ p. not (partPage n p)) _ _ refl)
 
   pub delete-newly : (blocks s f : ℕ) → let r = tallyCall blocks (delete s f) ta in r .answer .third ≡ newlyMarked (ta .files f) (r .tally .files f)
   unfolding tallyCall tallyDelete
-  delete-newly blocks s f = change-newly f s 0 _ _ _ _ refl
+  delete-newly blocks s f = change-newly f s 0 _ _ (λ p. true) _ _ refl

@@ -1,17 +1,30 @@
 -- The run of the turns of step 4: a file becomes marked in it exactly at a turn that is a needed copy which finds none free. Assumes nothing.
-use mathlib.Core.Bool.{Bool, true}
+use mathlib.Core.Bool.{Bool, _&&_, true}
 use mathlib.Core.List.{_++_, List, _∷_, []}
 use mathlib.Core.Logic.{inl, inr, _↔_, _⊎_, ⊎-elim}
-use mathlib.Core.Path.{ap, refl, subst, _≡_}
+use mathlib.Core.Path.{_∙_, _≡_, ap, refl, subst, sym}
 use Prim.Native.Nat.{_<_, suc, zero, ℕ, _≤_}
 use native.Mathlib.Omega.{arith}
 use Rattle.base.specs.Logic.{same?, test?}
 use Rattle.rules.proofs.Marking.Marking.{turn-marks}
 use Rattle.rules.proofs.Steps.OneStep.{TreeOk}
 use Rattle.rules.proofs.Tally.TallyLoops.{page-inv}
-use Rattle.rules.specs.Marking.{FindsNone, MarkedDown, MarkingTurn, turnBefore}
-use Rattle.rules.specs.State.{Tree, isMarked, pageCount, setCount}
-use Rattle.rules.specs.Tally.{Turn, childTurn, eachChild, eachPage, pageTurns, tallyGive}
+use Rattle.rules.specs.Marking.{FindsNone, MarkedDown, MarkingTurn, behind, inTurn, turnBefore}
+use Rattle.rules.specs.State.{Tree, isMarked, isStored, isUnmapped, live, pageCount, setCount}
+use Rattle.rules.specs.Tally.{Turn, atPage, childTurn, eachChild, eachPage, handTurns, pageTurns, tallyGive}
+use Rattle.rules.proofs.Tally.TallyWriter.{over-state}
+
+-- taking over marks nothing
+module _ (t : Tree) (ok : TreeOk t) (s p y : ℕ) where
+  hand-mark : (cs : List ℕ) (x : Turn) → isMarked (handTurns t s p cs x .files y .state) ≡ isMarked (eachChild (childTurn t s p) (behind p x cs) x .files y .state)
+  unfolding handTurns behind eachChild
+  hand-mark [] x = refl
+  hand-mark (c ∷ cs) x =
+      test? (live (x .files c .state) && isUnmapped (x .files c .map p)) (λ e. rw e (ap isMarked (over-state t ok s p c _ y))) (λ e. rw e (hand-mark cs x))
+
+  page-mark : (hands : Bool) (x : Turn) → isMarked (pageTurns t s hands p x .files y .state) ≡ isMarked (eachChild (childTurn t s p) (inTurn t s hands p x) x .files y .state)
+  unfolding pageTurns inTurn
+  page-mark hands x = test? (hands && isStored (x .files s .map p)) (λ e. rw e (hand-mark (t .children s) x)) (λ e. rw e)
 
 each-append : {W : Type 0} (f : ℕ → W → W) (cs ds : List ℕ) (w : W) → eachChild f (cs ++ ds) w ≡ eachChild f ds (eachChild f cs w)
 unfolding eachChild
@@ -31,8 +44,8 @@ module _ (t : Tree) (ok : TreeOk t) (shallow : (x : ℕ) → t .level x ≤ setC
   children-stay p [] x h = h
   children-stay p (c ∷ cs) x h = children-stay p cs (childTurn t s p c x) (turn-stays p c x h)
 
-  page-stays : (touches : ℕ → Bool) (p : ℕ) (x : Turn) → Marked x → Marked (pageTurns t s touches p x)
-  page-stays touches p x h = test? (touches p) (λ e. rw e (children-stay p (t .children s) x h)) (λ e. rw e h)
+  page-stays : (touches hands : ℕ → Bool) (p : ℕ) (x : Turn) → Marked x → Marked (atPage t s touches hands p x)
+  page-stays touches hands p x h = test? (touches p) (λ e. rw e (page-mark t ok s p y (hands p) x ∙ children-stay p (inTurn t s (hands p) p x) x h)) (λ e. rw e h)
 
   -- the turns at one page
   record AtChild (p : ℕ) (cs : List ℕ) (x : Turn) : Type 0 where
@@ -58,9 +71,9 @@ module _ (t : Tree) (ok : TreeOk t) (shallow : (x : ℕ) → t .level x ≤ setC
       rw (r .order, each-append (childTurn t s p) (r .earlier) (r .child ∷ r .later) x)
       (children-stay p (r .later) _ (turn-marks t s p (r .child) (eachChild (childTurn t s p) (r .earlier) x) ok shallow y .1 (inr (r .fails, r .reached))))
 
-  module _ (touches : ℕ → Bool) (x : Turn) where
-    pages-mark : (n : ℕ) → n ≤ pageCount → Marked (eachPage (pageTurns t s touches) n x) → Marked x ⊎ MarkingTurn t s touches x y
-    unfolding eachPage turnBefore
+  module _ (touches hands : ℕ → Bool) (x : Turn) where
+    pages-mark : (n : ℕ) → n ≤ pageCount → Marked (eachPage (atPage t s touches hands) n x) → Marked x ⊎ MarkingTurn t s touches hands x y
+    unfolding eachPage turnBefore eachChild
     pages-mark zero l h = inl h
     pages-mark (suc n) l h =
         test? (touches n)
@@ -76,27 +89,27 @@ module _ (t : Tree) (ok : TreeOk t) (shallow : (x : ℕ) → t .level x ≤ setC
           fails = r .fails;
           reached = r .reached;
         }))
-        (children-mark n (t .children s) (eachPage (pageTurns t s touches) n x) (rw e at h)))
+        (children-mark n (inTurn t s (hands n) n (eachPage (atPage t s touches hands) n x)) (eachPage (atPage t s touches hands) n x) (sym (page-mark t ok s n y (hands n) _) ∙ (rw e at h))))
         (λ e. pages-mark n (omega arith) (rw e at h))
 
-    page-marks : (n p : ℕ) → p < n → Marked (eachPage (pageTurns t s touches) (suc p) x) → Marked (eachPage (pageTurns t s touches) n x)
+    page-marks : (n p : ℕ) → p < n → Marked (eachPage (atPage t s touches hands) (suc p) x) → Marked (eachPage (atPage t s touches hands) n x)
     unfolding eachPage
     page-marks zero p l h = absurd (omega arith)
-    page-marks (suc n) p l h = same? p n (λ e. subst (λ q. Marked (eachPage (pageTurns t s touches) (suc q) x)) e h) (λ e. page-stays touches n _ (page-marks n p (omega arith) h))
+    page-marks (suc n) p l h = same? p n (λ e. subst (λ q. Marked (eachPage (atPage t s touches hands) (suc q) x)) e h) (λ e. page-stays touches hands n _ (page-marks n p (omega arith) h))
 
-    at-page : (r : MarkingTurn t s touches x y) → Marked (eachPage (pageTurns t s touches) (suc (r .page)) x)
-    unfolding eachPage turnBefore
+    at-page : (r : MarkingTurn t s touches hands x y) → Marked (eachPage (atPage t s touches hands) (suc (r .page)) x)
+    unfolding eachPage turnBefore eachChild
     at-page r =
         rw (r .touched)
-        (child-marks (r .page) (t .children s) (eachPage (pageTurns t s touches) (r .page) x)
+        (page-mark t ok s (r .page) y (hands (r .page)) _ ∙ child-marks (r .page) (inTurn t s (hands (r .page)) (r .page) (eachPage (atPage t s touches hands) (r .page) x)) (eachPage (atPage t s touches hands) (r .page) x)
         (record { child = r .child; earlier = r .earlier; later = r .later; order = r .order; fails = r .fails; reached = r .reached }))
 
     -- THE RUN: marked afterwards is who was marked before, or is marked at a turn of the run
-    pub run-marks : (isMarked (tallyGive t s touches x .files y .state) ≡ true) ↔ ((isMarked (x .files y .state) ≡ true) ⊎ MarkingTurn t s touches x y)
+    pub run-marks : (isMarked (tallyGive t s touches hands x .files y .state) ≡ true) ↔ ((isMarked (x .files y .state) ≡ true) ⊎ MarkingTurn t s touches hands x y)
     unfolding tallyGive turnBefore
     run-marks = (
       pages-mark pageCount (omega arith),
       ⊎-elim
-          (λ h. page-inv (pageTurns t s touches) Marked pageCount (λ p z l. page-stays touches p z) x h)
+          (λ h. page-inv (atPage t s touches hands) Marked pageCount (λ p z l. page-stays touches hands p z) x h)
           (λ r. page-marks pageCount (r .page) (r .under) (at-page r)),
     )

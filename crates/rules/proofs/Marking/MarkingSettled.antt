@@ -7,9 +7,9 @@ use Prim.Native.Nat.{_-_, suc, zero, ℕ}
 use lib.Dec.{eqb}
 use Rattle.base.specs.Logic.{test?}
 use Rattle.base.specs.Update.{upd, upd-keeps, upd-map}
-use Rattle.rules.specs.Marking.{FindsNone, MarkedDown, MarkingTurn, mark-below, mark-itself, turnBefore}
-use Rattle.rules.specs.State.{State, Tree, absent, hole, isUnmapped, isVirgin, live, marked, own, pageCount, setCount, stored, unmapped, virgin}
-use Rattle.rules.specs.Tally.{Kind, TallyFile, TallyFiles, Turn, anyOf, anyUnmapped, childPage, childTurn, dependsAbove, eachChild, eachPage, kindAt, kindIn, kindOver, markedWith, neededCopy, pageTurns, reachedDown, tallyKind, tallyMark, tallySettle, tallySize}
+use Rattle.rules.specs.Marking.{FindsNone, MarkedDown, MarkingTurn, behind, inTurn, mark-below, mark-itself, turnBefore}
+use Rattle.rules.specs.State.{State, Tree, absent, hole, isStored, isUnmapped, isVirgin, live, marked, own, pageCount, setCount, stored, unmapped, virgin}
+use Rattle.rules.specs.Tally.{Kind, TallyFile, TallyFiles, Turn, anyOf, anyUnmapped, atPage, childPage, childTurn, dependsAbove, eachChild, eachPage, handTurns, kindAt, kindIn, kindOver, markedWith, neededCopy, pageTurns, reachedDown, takenOver, tallyKind, tallyMark, tallySettle, tallySize}
 
 -- the same entries, and own or virgin in the same sets
 pub record Alike (fs gs : TallyFiles) : Type 0 where
@@ -103,16 +103,54 @@ module _ (t : Tree) (s : ℕ) where
   children-alike p [] x y h = h
   children-alike p (c ∷ cs) x y h = children-alike p cs _ _ (turn-alike p c x y h)
 
-  pages-alike : (touches : ℕ → Bool) (n : ℕ) (x y : Turn) → AlikeTurn x y → AlikeTurn (eachPage (pageTurns t s touches) n x) (eachPage (pageTurns t s touches) n y)
-  unfolding eachPage
-  pages-alike touches zero x y h = h
-  pages-alike touches (suc n) x y h =
-      let k = pages-alike touches n x y h in
-      test? (touches n) (λ e. rw e (children-alike n (t .children s) _ _ k)) (λ e. rw e k)
+  over-alike : (p c : ℕ) (x y : Turn) → AlikeTurn x y → AlikeTurn (takenOver t s p c x) (takenOver t s p c y)
+  unfolding takenOver
+  over-alike p c x y h = record { files = put-alike t _ _ (put-alike t (x .files) (y .files) (h .files) c p (stored tt)) s p hole; free = h .free }
 
-  before-alike : (touches : ℕ → Bool) (x y : Turn) → AlikeTurn x y → (p : ℕ) (cs : List ℕ) → AlikeTurn (turnBefore t s touches x p cs) (turnBefore t s touches y p cs)
+  -- who needs a page
+  needs-same : (p c : ℕ) (x y : Turn) → AlikeTurn x y → (live (x .files c .state) && isUnmapped (x .files c .map p)) ≡ (live (y .files c .state) && isUnmapped (y .files c .map p))
+  needs-same p c x y h = ap₂ (λ (b : Bool) (m : ℕ → Kind). b && isUnmapped (m p)) (h .files .lives c) (h .files .maps c)
+
+  hand-alike : (p : ℕ) (cs : List ℕ) (x y : Turn) → AlikeTurn x y → AlikeTurn (handTurns t s p cs x) (handTurns t s p cs y)
+  unfolding handTurns
+  hand-alike p [] x y h = h
+  hand-alike p (c ∷ cs) x y h =
+      let e = needs-same p c x y h in
+      test? (live (x .files c .state) && isUnmapped (x .files c .map p))
+      (λ d. rw (d, sym e ∙ d) (over-alike p c _ _ (children-alike p cs x y h)))
+      (λ d. rw (d, sym e ∙ d) (hand-alike p cs x y h))
+
+  stored-same : (hands : Bool) (p : ℕ) (x y : Turn) → AlikeTurn x y → (hands && isStored (x .files s .map p)) ≡ (hands && isStored (y .files s .map p))
+  stored-same hands p x y h = ap (λ (m : ℕ → Kind). hands && isStored (m p)) (h .files .maps s)
+
+  handed-alike : (hands : Bool) (p : ℕ) (x y : Turn) → AlikeTurn x y → AlikeTurn (pageTurns t s hands p x) (pageTurns t s hands p y)
+  unfolding pageTurns
+  handed-alike hands p x y h =
+      let e = stored-same hands p x y h in
+      test? (hands && isStored (x .files s .map p))
+      (λ d. rw (d, sym e ∙ d) (hand-alike p (t .children s) x y h))
+      (λ d. rw (d, sym e ∙ d) (children-alike p (t .children s) x y h))
+
+  pages-alike : (touches hands : ℕ → Bool) (n : ℕ) (x y : Turn) → AlikeTurn x y → AlikeTurn (eachPage (atPage t s touches hands) n x) (eachPage (atPage t s touches hands) n y)
+  unfolding eachPage
+  pages-alike touches hands zero x y h = h
+  pages-alike touches hands (suc n) x y h =
+      let k = pages-alike touches hands n x y h in
+      test? (touches n) (λ e. rw e (handed-alike (hands n) n _ _ k)) (λ e. rw e k)
+
+  before-alike : (touches hands : ℕ → Bool) (x y : Turn) → AlikeTurn x y → (p : ℕ) (cs : List ℕ) → AlikeTurn (turnBefore t s touches hands x p cs) (turnBefore t s touches hands y p cs)
   unfolding turnBefore
-  before-alike touches x y h p cs = children-alike p cs _ _ (pages-alike touches p x y h)
+  before-alike touches hands x y h p cs = children-alike p cs _ _ (pages-alike touches hands p x y h)
+
+  -- who has a turn
+  behind-same : (p : ℕ) (cs : List ℕ) (x y : Turn) → AlikeTurn x y → behind p x cs ≡ behind p y cs
+  unfolding behind
+  behind-same p [] x y h = refl
+  behind-same p (c ∷ cs) x y h = ap₂ (λ (b : Bool) (l : List ℕ). cond b cs l) (needs-same p c x y h) (behind-same p cs x y h)
+
+  turn-same : (hands : Bool) (p : ℕ) (x y : Turn) → AlikeTurn x y → inTurn t s hands p x ≡ inTurn t s hands p y
+  unfolding inTurn
+  turn-same hands p x y h = ap₂ (λ (b : Bool) (l : List ℕ). cond b l (t .children s)) (stored-same hands p x y h) (behind-same p (t .children s) x y h)
 
   none-alike : (p c : ℕ) (x y : Turn) → AlikeTurn x y → FindsNone t s p c x → FindsNone t s p c y
   none-alike p c x y h r = record {
@@ -123,9 +161,9 @@ module _ (t : Tree) (s : ℕ) where
   }
 
   -- A MARKING TURN of the one run is one of the other
-  pub marking-alike : (touches : ℕ → Bool) (x y : Turn) → AlikeTurn x y → (z : ℕ) → MarkingTurn t s touches x z → MarkingTurn t s touches y z
-  marking-alike touches x y h z r =
-      let k = before-alike touches x y h (r .page) (r .earlier) in
+  pub marking-alike : (touches hands : ℕ → Bool) (x y : Turn) → AlikeTurn x y → (z : ℕ) → MarkingTurn t s touches hands x z → MarkingTurn t s touches hands y z
+  marking-alike touches hands x y h z r =
+      let k = before-alike touches hands x y h (r .page) (r .earlier) in
       record {
         page = r .page;
         child = r .child;
@@ -133,7 +171,7 @@ module _ (t : Tree) (s : ℕ) where
         later = r .later;
         under = r .under;
         touched = r .touched;
-        order = r .order;
+        order = sym (turn-same (hands (r .page)) (r .page) _ _ (before-alike touches hands x y h (r .page) [])) ∙ r .order;
         fails = none-alike (r .page) (r .child) _ _ k (r .fails);
         reached = down-same t _ _ (k .files) z (r .child) (r .reached);
       }

@@ -1,5 +1,5 @@
 -- A file that is marked stays marked until it is deleted, its set is removed, or the store is formatted. Assumes nothing.
-use mathlib.Core.Bool.{Bool, false, true, true≢false}
+use mathlib.Core.Bool.{Bool, false, not, true, true≢false}
 use mathlib.Core.List.{List, _∷_, []}
 use mathlib.Core.Logic.{inl, inr, _⊎_, ⊎-elim}
 use mathlib.Core.Path.{ap, refl, subst, sym, _∙_, _≡_}
@@ -15,7 +15,7 @@ use Rattle.rules.proofs.Whole.Accepted.{passed-create, passed-truncate,
 use Rattle.rules.specs.Numbers.{Call, create, delete, format, make, numberOf, read, remove, tellFree, tellSize, truncate, write}
 use Rattle.rules.specs.Plain.{Plain}
 use Rattle.rules.specs.State.{State, absent, isAbsent, isMarked, marked, own, setCount, virgin}
-use Rattle.rules.specs.Tally.{Tally, TallyFile, TallyFiles, judged, tallyCall, tallyCut, tallyDelete, tallyGrow, tallyLeaves, tallySize, tallyTold, tallyTurns, tallyWrite, truncateTouches, writeTouches}
+use Rattle.rules.specs.Tally.{Tally, TallyFile, TallyFiles, judged, partPage, tallyCall, tallyCut, tallyDelete, tallyGrow, tallyLeaves, tallySize, tallyTold, tallyTurns, tallyWrite, truncateTouches, writeTouches}
 
 -- where a call ends the marking of file g of set y. The set that is made had an unused number, so no file of it was marked.
 abbrev pub EndsMarked : Call → ℕ → ℕ → Type 0
@@ -48,12 +48,12 @@ put-stays files f s fs z g y k h =
     (λ n. inl (ap (λ (w : TallyFiles). isMarked (w y .state)) (upd-other files f _ g n) ∙ h))
 
 module _ (ta : Tally) (ok : TreeOk (ta .tree)) (shallow : (x : ℕ) → ta .tree .level x ≤ setCount) (g y : ℕ) (h : isMarked (ta .files g y .state) ≡ true) where
-  change-stays : (f s taken : ℕ) (cs : List ℕ) (touches : ℕ → Bool) (z : TallyFile) (m : ℕ) →
-      (isMarked (tallyLeaves ta f s taken (tallyTurns ta f s cs taken touches) z m .tally .files g y .state) ≡ true) ⊎ ((f ≡ g) × (s ≡ y))
+  change-stays : (f s taken : ℕ) (cs : List ℕ) (touches hands : ℕ → Bool) (z : TallyFile) (m : ℕ) →
+      (isMarked (tallyLeaves ta f s taken (tallyTurns ta f s cs taken touches hands) z m .tally .files g y .state) ≡ true) ⊎ ((f ≡ g) × (s ≡ y))
   unfolding tallyLeaves tallyTurns
-  change-stays f s taken cs touches z m =
+  change-stays f s taken cs touches hands z m =
       put-stays (ta .files) f s _ z g y
-      (λ k. run-marks (ta .tree) ok shallow s y touches (turnsStart ta f cs taken) .1 (inl (settle-marks (ta .tree) cs (ta .files f) y ∙ k))) h
+      (λ k. run-marks (ta .tree) ok shallow s y touches hands (turnsStart ta f cs taken) .1 (inl (settle-marks (ta .tree) cs (ta .files f) y ∙ k))) h
 
   -- not the file that the call changes, which is not marked
   elsewhere : {A : Type 0} (f s : ℕ) → isMarked (ta .files f s .state) ≡ false → A ⊎ ((f ≡ g) × (s ≡ y)) → A ⊎ ⊥
@@ -65,19 +65,19 @@ module _ (ta : Tally) (ok : TreeOk (ta .tree)) (shallow : (x : ℕ) → ta .tree
   write-stays : (blocks s f off : ℕ) (bs : List ℕ) → isMarked (ta .files f s .state) ≡ false → staysIn blocks (write s f off bs)
   unfolding tallyCall tallyTold tallyWrite
   write-stays blocks s f off [] e = inl h
-  write-stays blocks s f off (b ∷ bs) e = elsewhere f s e (change-stays f s _ (s ∷ ta .tree .children s) (writeTouches off (length (b ∷ bs))) _ 0)
+  write-stays blocks s f off (b ∷ bs) e = elsewhere f s e (change-stays f s _ (s ∷ ta .tree .children s) (writeTouches off (length (b ∷ bs))) (λ p. false) _ 0)
 
   truncate-stays : (blocks s f n : ℕ) → isMarked (ta .files f s .state) ≡ false → staysIn blocks (truncate s f n)
   unfolding tallyCall tallyGrow tallyCut
   truncate-stays blocks s f n e =
       truncate-cases (λ r. (isMarked (r .tally .files g y .state) ≡ true) ⊎ ⊥) ta s f n
       (λ d. inl h)
-      (λ d. elsewhere f s e (change-stays f s 0 (s ∷ ta .tree .children s) (λ p. false) _ 0))
-      (λ d. elsewhere f s e (change-stays f s _ (s ∷ ta .tree .children s) (truncateTouches n (tallySize (ta .tree) (ta .files f) s)) _ _))
+      (λ d. elsewhere f s e (change-stays f s 0 (s ∷ ta .tree .children s) (λ p. false) (λ p. false) _ 0))
+      (λ d. elsewhere f s e (change-stays f s _ (s ∷ ta .tree .children s) (truncateTouches n (tallySize (ta .tree) (ta .files f) s)) (λ p. not (partPage n p)) _ _))
 
   delete-stays : (blocks s f : ℕ) → staysIn blocks (delete s f)
   unfolding tallyCall tallyDelete
-  delete-stays blocks s f = change-stays f s 0 _ _ _ _
+  delete-stays blocks s f = change-stays f s 0 _ _ (λ p. true) _ _
 
   create-stays : (blocks s f : ℕ) → isMarked (ta .files f s .state) ≡ false → staysIn blocks (create s f)
   unfolding tallyCall tallyTold

@@ -84,7 +84,7 @@ module _ {K : Type 0} where
   resolve-same t files files′ p h s =
       walk-frame (t .parent) (λ (x : File K). shownEntry (x .map p)) hole files files′ (λ _. Unit {0}) (λ s _. ap shownEntry (h s)) (λ s _ _. tt) (t .level s) s tt
 
-  size-same : (t : Tree) (files files′ : Files K) → ((s : ℕ) → files′ s .state ≡ files s .state) → ((s : ℕ) → files′ s .size ≡ files s .size) → (s : ℕ) → sizeByReading t files′ s ≡ sizeByReading t files s
+  pub size-same : (t : Tree) (files files′ : Files K) → ((s : ℕ) → files′ s .state ≡ files s .state) → ((s : ℕ) → files′ s .size ≡ files s .size) → (s : ℕ) → sizeByReading t files′ s ≡ sizeByReading t files s
   unfolding sizeByReading
   size-same t files files′ h k s =
       walk-frame (t .parent) (λ (x : File K). shownSize (x .state) (x .size)) 0 files files′ (λ _. Unit {0}) (λ s _. cc (h s, k s)) (λ s _ _. tt) (t .level s) s tt

@@ -7,7 +7,7 @@ use mathlib.Core.Path.{ap, refl, subst, sym, _∙_, _≡_}
 use Prim.Native.Nat.{_%_, _+_, _/_, max, ℕ}
 use lib.Dec.{eqb, ltb}
 use lib.ListN.{length}
-use Rattle.base.specs.Logic.{same?}
+use Rattle.base.specs.Logic.{test?, same?}
 use Rattle.base.specs.Update.{upd, upd-other, upd-same}
 use Rattle.rules.proofs.Agreement.Agree.{from-once}
 use Rattle.rules.proofs.Steps.OneStep.{putEntry-ent, putEntry-other, putEntry-page}
@@ -15,7 +15,7 @@ use Rattle.rules.proofs.Steps.StepFour.{each-all, each-inv}
 use Rattle.rules.proofs.Agreement.Truncate.{apart}
 use Rattle.rules.proofs.Steps.WriterSteps.{NoDup, mem?}
 use Rattle.rules.specs.Reading.{needs, resolve, sizeByReading}
-use Rattle.rules.specs.Rules.{Work, change, copy, cutPages, deleteAs, deleteFile, dropPage, droppedPages, each, enter, enterAs, eraseFile, freeEntry, freeMap, from, give, giveAll, keptPages, mark, putEntry, reserve, reserveAs, resize, settle, supply, takeOwn, touched, truncateAs, truncateFile, withFiles, writeFile}
+use Rattle.rules.specs.Rules.{Giving, Work, change, copied, copy, cutPages, deleteAs, deleteFile, dropPage, droppedPages, each, enter, enterAs, eraseFile, freeEntry, freeMap, from, give, giveAll, givePage, hand, handOver, handed, keptPages, mark, partPages, putEntry, reserve, reserveAs, resize, settle, supply, takeOwn, touched, truncateAs, truncateFile, withFiles, writeFile}
 use Rattle.rules.specs.State.{Entry, File, Tree, absentFile, hole, isAbsent, isStored, live, own, stored, unmapped}
 use Rattle.rules.specs.Storage.{Storage}
 
@@ -50,11 +50,22 @@ module _ (S : Storage) (t : Tree) (s : ℕ) where
       go true hole = refl
       go true (stored k) = go₂ (eqb (S .free (w .memory)) 0) k
 
-  pub give-pending : (ps : List ℕ) (w : Work S) → giveAll S t s ps w .pending ≡ w .pending
+  pub some-pending : (p : ℕ) (cs : List ℕ) (w : Work S) → each (give S t s p) cs w .pending ≡ w .pending
+  some-pending p cs w = each-inv (give S t s p) (λ u. u .pending ≡ w .pending) cs (λ c u m j. give-one-pending p c u ∙ j) w refl
+
+  hand-pending : (p : ℕ) (cs : List ℕ) (w : Work S) → hand S t s p cs w .pending ≡ w .pending
+  unfolding hand handOver
+  hand-pending p [] w = refl
+  hand-pending p (c ∷ cs) w = test? (needs (w .files) c p) (λ e. rw e (some-pending p cs w)) (λ e. rw e (hand-pending p cs w))
+
+  pub page-pending : (how : Giving) (p : ℕ) (w : Work S) → givePage S t how s p w .pending ≡ w .pending
+  unfolding givePage
+  page-pending copied p w = some-pending p (t .children s) w
+  page-pending handed p w = test? (isStored (w .files s .map p)) (λ e. rw e (hand-pending p (t .children s) w)) (λ e. rw e (some-pending p (t .children s) w))
+
+  pub give-pending : (how : Giving) (ps : List ℕ) (w : Work S) → giveAll S t how s ps w .pending ≡ w .pending
   unfolding giveAll
-  give-pending ps w =
-      each-inv _ (λ v. v .pending ≡ w .pending) ps
-      (λ p v m i. each-inv (give S t s p) (λ u. u .pending ≡ w .pending) (t .children s) (λ c u m j. give-one-pending p c u ∙ j) v i) w refl
+  give-pending how ps w = each-inv (givePage S t how s) (λ v. v .pending ≡ w .pending) ps (λ p v m i. page-pending how p v ∙ i) w refl
 
   module _ (lay : ℕ → S .Page → S .Page) where
     -- a pending block enters, and every page that was stored still is
@@ -167,12 +178,12 @@ module _ (S : Storage) (t : Tree) (s : ℕ) where
   change-finished ps rs ds away lay sz w empty =
       let w₁ : Work S = each (settle S t) (s ∷ t .children s) w in
       let w₂ : Work S = each (reserve S t s) rs w₁ in
-      let w₃ : Work S = giveAll S t s ps w₂ in
+      let w₃ : Work S = giveAll S t handed s ds (giveAll S t copied s ps w₂) in
       let w₄ : Work S = each (enter S t s lay) rs w₃ in
       let w₅ : Work S = each (dropPage S t s) ds w₄ in
       let last = upd-same (w₅ .files) s (record { state = own; size = sz (w₅ .files s .size); map = w₅ .files s .map }) in
       let late : w₅ .pending ≡ w₃ .pending = drops ds w₄ .pending ∙ enter-pending lay rs w₃ in
-      let early : w₃ .pending ≡ w₂ .pending = give-pending ps w₂ in
+      let early : w₃ .pending ≡ w₂ .pending = give-pending handed ds (giveAll S t copied s ps w₂) ∙ give-pending copied ps w₂ in
       record {
         entered = λ p h.
             let h₃ : isStored (w₃ .pending p) ≡ true = ap (λ (g : ℕ → Entry (S .Block)). isStored (g p)) (sym late) ∙ h in
@@ -210,13 +221,13 @@ module _ (S : Storage) (t : Tree) (s : ℕ) where
         go : (x y : Bool) → Finished S s (truncateAs S t x y s n z w)
         go true y = i
         go false true = change-finished [] [] [] (λ p m k. elim m [ ]) (λ p v. v) (λ m. n) w empty
-        go false false = change-finished (cutPages n z) (keptPages n e) (droppedPages n z) (apart n z e) (λ p. S .cut (n % 512)) (λ m. n) w empty
+        go false false = change-finished (partPages n) (keptPages n e) (droppedPages n z) (apart n z e) (λ p. S .cut (n % 512)) (λ m. n) w empty
 
     pub delete-finished : Finished S s (deleteFile S t s w)
     unfolding deleteFile deleteAs
     delete-finished = go (live (w .files s .state))
       where
         go : (b : Bool) → Finished S s (deleteAs S t b s w)
-        go true = erase-finished (giveAll S t s (from 0 64) (each (settle S t) (t .children s) w))
-            (λ p. ap (λ (g : ℕ → Entry (S .Block)). isStored (g p)) (give-pending (from 0 64) (each (settle S t) (t .children s) w) ∙ settle-pending (t .children s) w) ∙ empty p)
+        go true = erase-finished (giveAll S t handed s (from 0 64) (each (settle S t) (t .children s) w))
+            (λ p. ap (λ (g : ℕ → Entry (S .Block)). isStored (g p)) (give-pending handed (from 0 64) (each (settle S t) (t .children s) w) ∙ settle-pending (t .children s) w) ∙ empty p)
         go false = erase-finished w empty

@@ -13,7 +13,7 @@ use Rattle.rules.proofs.Steps.OneStep.{Alive, FilesOk, Keep, TreeOk, fi
 use Rattle.rules.proofs.Steps.Reached.{mark-same, marked-by, reaches-self}
 use Rattle.rules.proofs.Steps.States.{unmapped-is}
 use Rattle.rules.specs.Reading.{dependent, dependsOn, needs, reaches, resolve, shownEntry}
-use Rattle.rules.specs.Rules.{Work, copy, each, give, giveAll, mark, markDown, markFile, putEntry, supply}
+use Rattle.rules.specs.Rules.{Work, copy, each, give, giveAll, givePage, copied, mark, markDown, markFile, putEntry, supply}
 use Rattle.rules.specs.State.{Entry, File, Files, Tree, hole, isUnmapped, live, stored, unmapped, virgin}
 use Rattle.rules.specs.Storage.{PageData}
 
@@ -49,7 +49,7 @@ module _ {K : Type 0} where
   pub served-refl : {t : Tree} {s : ℕ} {files : Files K} → FilesOk t files → ChildServed t s files files
   served-refl {t} {s} {files} k = record { ok′ = k; keep = keep-refl t files; less = λ c p h. h; self = refl; no-new-virgin = λ c h. h }
 
-  served-trans : {t : Tree} {s : ℕ} {a b c : Files K} → ChildServed t s a b → ChildServed t s b c → ChildServed t s a c
+  pub served-trans : {t : Tree} {s : ℕ} {a b c : Files K} → ChildServed t s a b → ChildServed t s b c → ChildServed t s a c
   served-trans h k = record {
     ok′ = k .ok′;
     keep = keep-trans (h .keep) (k .keep);
@@ -58,7 +58,7 @@ module _ {K : Type 0} where
     no-new-virgin = λ c x. h .no-new-virgin c (k .no-new-virgin c x);
   }
 
-  needs-shown : (files : Files K) (c p : ℕ) → shownEntry (files c .map p) ≡ some (files c .map p) → needs files c p ≡ false
+  pub needs-shown : (files : Files K) (c p : ℕ) → shownEntry (files c .map p) ≡ some (files c .map p) → needs files c p ≡ false
   unfolding needs
   needs-shown files c p h = go (live (files c .state)) (files c .map p) h
     where
@@ -68,7 +68,7 @@ module _ {K : Type 0} where
       go true hole h = refl
       go true (stored b) h = refl
 
-  needs-same : (files files′ : Files K) (c p : ℕ) → files′ c .state ≡ files c .state → files′ c .map p ≡ files c .map p → needs files c p ≡ false → needs files′ c p ≡ false
+  pub needs-same : (files files′ : Files K) (c p : ℕ) → files′ c .state ≡ files c .state → files′ c .map p ≡ files c .map p → needs files c p ≡ false → needs files′ c p ≡ false
   unfolding needs
   needs-same files files′ c p h e n = rw (h, e) n
 
@@ -85,7 +85,7 @@ module _ {K : Type 0} where
   needs-unmapped files c p h = unmapped-is (files c .map p) (and-right (live (files c .state)) _ h)
 
   module _ (t : Tree) (ok : TreeOk t) (s : ℕ) (files : Files K) (k : FilesOk t files) (c : ℕ) (kid : List·Memᴰ c (t .children s)) where
-    differ : c ≡ s → ⊥
+    pub differ : c ≡ s → ⊥
     differ q =
         let e : t .level c ≡ t .level s = ap (t .level) q in
         omega (arith, ok .kid-lvl s c kid)
@@ -93,11 +93,11 @@ module _ {K : Type 0} where
     kid-at : t .level c ≡ suc (t .level (t .parent c))
     kid-at = rw (ok .kid-par s c kid) (ok .kid-lvl s c kid)
 
-    fill-done : (p : ℕ) (e : Entry K) → shownEntry e ≡ some e → needs (putEntry files c p e) c p ≡ false
+    pub fill-done : (p : ℕ) (e : Entry K) → shownEntry e ≡ some e → needs (putEntry files c p e) c p ≡ false
     fill-done p e h = needs-shown (putEntry files c p e) c p (rw putEntry-ent h)
 
     -- the entry is filled with what it is in s
-    fill-served : (p : ℕ) (e : Entry K) → (files c .state ≡ virgin → ⊥) → needs files c p ≡ true → resolve t files s p ≡ e → ChildServed t s files (putEntry files c p e)
+    pub fill-served : (p : ℕ) (e : Entry K) → (files c .state ≡ virgin → ⊥) → needs files c p ≡ true → resolve t files s p ≡ e → ChildServed t s files (putEntry files c p e)
     fill-served p e nv n r = subst (λ x. ChildServed t s files (putEntry files c p x)) (ap (λ x. resolve t files x p) (ok .kid-par s c kid) ∙ r) (record {
       ok′ = fill-ok t ok files c p kid-at u nv k;
       keep = fill-keep t ok files c p kid-at u;
@@ -115,7 +115,7 @@ module _ {K : Type 0} where
         u = needs-unmapped files c p n
 
     -- it and those that read through it are marked
-    low : (n x : ℕ) → t .level x ≡ n → n < t .level c → dependsOn t files c n x ≡ false
+    pub low : (n x : ℕ) → t .level x ≡ n → n < t .level c → dependsOn t files c n x ≡ false
     unfolding dependsOn
     low zero x e l = ne-eqb c x (λ q. let e′ : t .level c ≡ t .level x = ap (t .level) q in omega arith)
     low (suc n) x e l =
@@ -173,7 +173,7 @@ module _ (t : Tree) (ok : TreeOk t) (s : ℕ) where
         (λ z. rw (z, supply) (record { served = mark-served t ok s (w .files) k c kid (needs-alive (w .files) c p n); done = mark-done t ok s (w .files) k c kid p; pending = refl }))
         (λ z. rw (z, supply) (record { served = fill-served t ok s (w .files) k c kid p (stored b) nv n r; done = fill-done t ok s (w .files) k c kid p (stored b) refl; pending = refl }))
 
-    give-turn : Turn p c w (give model t s p c w)
+    pub give-turn : Turn p c w (give model t s p c w)
     give-turn =
         test? (needs (w .files) c p)
         (λ n. rw (give-yes p c w n) (supply-turn (resolve t (w .files) s p) n refl))
@@ -191,25 +191,32 @@ module _ (t : Tree) (ok : TreeOk t) (s : ℕ) where
     going : (p c : ℕ) (v : Work model) → List·Memᴰ c (t .children s) → Going w v → Going w (give model t s p c v)
     going p c v m g = record { served = served-trans (g .served) (turn p c v m g .served); pending = turn p c v m g .pending ∙ g .pending }
 
-    page-going : (p : ℕ) (v : Work model) → Going w v → Going w (each (give model t s p) (t .children s) v)
-    page-going p v g = each-inv (give model t s p) (Going w) (t .children s) (λ c u m. going p c u m) v g
+    -- some of the children, then all
+    pub some-going : (p : ℕ) (cs : List ℕ) → ((c : ℕ) → List·Memᴰ c cs → List·Memᴰ c (t .children s)) → (v : Work model) → Going w v → Going w (each (give model t s p) cs v)
+    some-going p cs kids v g = each-inv (give model t s p) (Going w) cs (λ c u m. going p c u (kids c m)) v g
 
-    page-done : (p : ℕ) (v : Work model) → Going w v → (c : ℕ) → List·Memᴰ c (t .children s) → needs (each (give model t s p) (t .children s) v .files) c p ≡ false
-    page-done p v g =
-        each-all (give model t s p) (Going w) (λ c u. needs (u .files) c p ≡ false) (t .children s)
-        (λ c u m. going p c u m) (λ c u m g. turn p c u m g .done) (λ c c′ u m g h. turn p c′ u m g .served .less c p h) v g
+    pub some-done : (p : ℕ) (cs : List ℕ) → ((c : ℕ) → List·Memᴰ c cs → List·Memᴰ c (t .children s)) → (v : Work model) → Going w v → (c : ℕ) → List·Memᴰ c cs → needs (each (give model t s p) cs v .files) c p ≡ false
+    some-done p cs kids v g =
+        each-all (give model t s p) (Going w) (λ c u. needs (u .files) c p ≡ false) cs
+        (λ c u m. going p c u (kids c m)) (λ c u m g. turn p c u (kids c m) g .done) (λ c c′ u m g h. turn p c′ u (kids c′ m) g .served .less c p h) v g
+
+    pub page-going : (p : ℕ) (v : Work model) → Going w v → Going w (each (give model t s p) (t .children s) v)
+    page-going p v g = some-going p (t .children s) (λ c m. m) v g
+
+    pub page-done : (p : ℕ) (v : Work model) → Going w v → (c : ℕ) → List·Memᴰ c (t .children s) → needs (each (give model t s p) (t .children s) v .files) c p ≡ false
+    page-done p v g = some-done p (t .children s) (λ c m. m) v g
 
     page-less : (p q c : ℕ) (v : Work model) → Going w v → needs (v .files) c q ≡ false → needs (each (give model t s p) (t .children s) v .files) c q ≡ false
     page-less p q c v g h =
         each-inv (give model t s p) (λ u. Going w u × (needs (u .files) c q ≡ false)) (t .children s)
         (λ c′ u m i. (going p c′ u m (i .0), turn p c′ u m (i .0) .served .less c q (i .1))) v (g, h) .1
 
-    pub giveAll-going : (ps : List ℕ) → Going w w → Going w (giveAll model t s ps w)
-    unfolding giveAll
+    pub giveAll-going : (ps : List ℕ) → Going w w → Going w (giveAll model t copied s ps w)
+    unfolding giveAll givePage
     giveAll-going ps g = each-inv _ (Going w) ps (λ p v m. page-going p v) w g
 
-    pub giveAll-done : (ps : List ℕ) → Going w w → (p : ℕ) → List·Memᴰ p ps → (c : ℕ) → List·Memᴰ c (t .children s) → needs (giveAll model t s ps w .files) c p ≡ false
-    unfolding giveAll
+    pub giveAll-done : (ps : List ℕ) → Going w w → (p : ℕ) → List·Memᴰ p ps → (c : ℕ) → List·Memᴰ c (t .children s) → needs (giveAll model t copied s ps w .files) c p ≡ false
+    unfolding giveAll givePage
     giveAll-done ps g =
         each-all _ (Going w) (λ p v. (c : ℕ) → List·Memᴰ c (t .children s) → needs (v .files) c p ≡ false) ps
         (λ p v m. page-going p v) (λ p v m. page-done p v) (λ p q v m g h c k. page-less q p c v g (h c k)) w g

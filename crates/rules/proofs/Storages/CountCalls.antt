@@ -12,12 +12,13 @@ use Rattle.rules.specs.Calls.{Result, Store, step, treeIn, viewOf}
 use Rattle.rules.specs.Numbers.{Call, numberOf}
 use Rattle.rules.specs.State.{Tree}
 use Rattle.rules.specs.Storage.{freeBlocks, real}
+use Rattle.rules.proofs.Steps.Handing.{ProperTree}
 
 -- THE MODEL AND THE COUNT: the bytes are forgotten
 abbrev pub Counted : Store model → Store counting → Type 0
 Counted m k = Standing bytesForgotten m k
 
-countStore : (B : ℕ) → StoreSim bytesForgotten B B (λ (m : Store model). Unit {0}) (λ (t : Tree). Unit {0})
+countStore : (B : ℕ) → StoreSim bytesForgotten B B (λ (m : Store model). Unit {0})
 countStore B = record {
   demands = λ m f s. noDemands;
   sim = λ m f s. toCount (treeIn model m) s;
@@ -42,8 +43,8 @@ pub record CountedResult (o : Result model) (o′ : Result counting) : Type 0 wh
   pub answer : o′ .answer ≡ o .answer
   pub counted : Counted (o .store) (o′ .store)
 
-pub step-counted : (B : ℕ) (m : Store model) (k : Store counting) → Counted m k → (c : Call) → CountedResult (step model B c m) (step counting B c k)
-step-counted B m k h c = let q = calls-same (countStore B) m k h tt tt c in record { answer = q .answer; counted = q .stands }
+pub step-counted : (B : ℕ) (m : Store model) (k : Store counting) → Counted m k → ProperTree (treeIn model m) → (c : Call) → CountedResult (step model B c m) (step counting B c k)
+step-counted B m k h p c = let q = calls-same (countStore B) m k h tt p c in record { answer = q .answer; counted = q .stands }
 
 -- a block is forgotten
 abbrev pub forget : {K : Type 0} → K → Unit {0}

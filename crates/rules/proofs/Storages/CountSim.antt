@@ -45,6 +45,7 @@ toCount t s = record {
   copy-mem = λ b w g f. refl;
   copy-new = λ b w g f. refl;
   copy-old = λ b w g f x q b′ h. refl;
+  good-hand = λ b c p w g n k e o. tt;
   good-enter = λ p b v w g l o h. tt;
   enter-mem = λ b b′ v w g. refl;
   enter-new = λ b b′ v w g. refl;

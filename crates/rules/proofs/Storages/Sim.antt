@@ -9,12 +9,13 @@ use borrow.Author.Tests.{eqb-false}
 use Rattle.base.specs.Count.{count}
 use Rattle.base.specs.Logic.{same?, test?}
 use Rattle.base.specs.Update.{upd, upd-keeps, upd-map}
-use Rattle.rules.proofs.Storages.MapBlocks.{files-ext, mapEntry, mapEntry-agree, mapFile, mapFiles, mapFiles-agree, mark-map, needs-map, putEntry-map, reaches-map, resolve-map, settle-map}
+use Rattle.rules.proofs.Storages.MapBlocks.{files-ext, map-stored, mapEntry, mapEntry-agree, mapFile, mapFiles, mapFiles-agree, mark-map, needs-map, putEntry-map, reaches-map, resolve-map, settle-map}
 use Rattle.rules.proofs.Steps.OneStep.{putEntry-ent, putEntry-other, putEntry-page, putEntry-size, putEntry-state}
 use Rattle.rules.specs.Reading.{needs, reaches, resolve}
-use Rattle.rules.specs.Rules.{Work, copy, dropPage, enter, enterAs, freeEntry, give, mark, markDown, pageOf, putEntry, reserve, reserveAs, resize, settle, settleAs, settleFile, supply, takeOwn, withFiles}
+use Rattle.rules.specs.Rules.{Work, copy, dropPage, enter, enterAs, freeEntry, give, handOver, mark, markDown, pageOf, putEntry, reserve, reserveAs, resize, settle, settleAs, settleFile, supply, takeOwn, withFiles}
 use Rattle.rules.specs.State.{Entry, File, Files, State, Tree, absent, absentFile, hole, isStored, marked, own, stored, unmapped, virgin}
 use Rattle.rules.specs.Storage.{Storage}
+use Rattle.rules.proofs.Steps.States.{stored-is}
 
 -- how the blocks, the memory and the pages of one storage are seen in another
 pub record Translation (S S′ : Storage) : Type 0 where
@@ -62,6 +63,8 @@ pub record Sim (S S′ : Storage) (T : Translation S S′) (D : Demands S) (t : 
       ≡ S′ .put (S′ .take (T .memory (w .memory)) .1) (S′ .take (T .memory (w .memory)) .0) (S′ .get (S′ .take (T .memory (w .memory)) .1) (T .block (w .memory) b)) .0
   pub copy-old : (b : S .Block) (w : Work S) → D .Good w → 0 < S .free (w .memory) → (x q : ℕ) (b′ : S .Block) → w .files x .map q ≡ stored b′ →
       T .block (S .put (S .take (w .memory) .1) (S .take (w .memory) .0) (S .get (S .take (w .memory) .1) b) .1) b′ ≡ T .block (w .memory) b′
+  -- a block moves to the map of a child
+  pub good-hand : (b : S .Block) (c p : ℕ) (w : Work S) → D .Good w → needs (w .files) c p ≡ true → D .Kid c → w .files s .map p ≡ stored b → isStored (w .pending p) ≡ false → D .Good (handOver S t s p c w)
   -- a pending block enters the map
   pub good-enter : (p : ℕ) (b : S .Block) (v : S .Page) (w : Work S) → D .Good w → p < 64 → D .Whole v → w .pending p ≡ stored b → D .Good (enterAs S t (stored b) s p v w)
   pub enter-mem : (b : S .Block) (b′ : S′ .Block) (v : S .Page) (w : Work S) → D .Good w → T .memory (S .put (w .memory) b v .1) ≡ S′ .put (T .memory (w .memory)) b′ (T .page v) .1
@@ -129,7 +132,7 @@ module _ {S S′ : Storage} {T : Translation S S′} {D : Demands S} {t : Tree} 
       marks = r .marks;
     }
 
-    rel-needs : (c p : ℕ) → needs (v .files) c p ≡ needs (w .files) c p
+    pub rel-needs : (c p : ℕ) → needs (v .files) c p ≡ needs (w .files) c p
     rel-needs c p = ap (λ x. needs x c p) (r .files) ∙ needs-map (T .block (w .memory)) (w .files) c p
 
     pub rel-res : (x p : ℕ) → resolve t (v .files) x p ≡ mapEntry (T .block (w .memory)) (resolve t (w .files) x p)
@@ -191,6 +194,22 @@ module _ {S S′ : Storage} {T : Translation S S′} {D : Demands S} {t : Tree} 
         test? (needs (w .files) c p)
         (λ n. rw (rel-needs c p, n, rel-res s p) (rel-supply (resolve t (w .files) s p) c p n k refl))
         (λ n. rw (rel-needs c p, n) r)
+
+    pub rel-own : (p : ℕ) → isStored (v .files s .map p) ≡ isStored (w .files s .map p)
+    rel-own p = ap (λ (y : Files (S′ .Block)). isStored (y s .map p)) (r .files) ∙ map-stored (T .block (w .memory)) (w .files s .map p)
+
+    pub rel-hand : (p c : ℕ) → D .Kid c → needs (w .files) c p ≡ true → isStored (w .files s .map p) ≡ true → isStored (w .pending p) ≡ false → Rel T D (handOver S t s p c w) (handOver S′ t s p c v)
+    unfolding handOver
+    rel-hand p c k n h o = let e = stored-is (w .files s .map p) h in record {
+      good = M .good-hand (e .0) c p w (r .good) n k (e .1) o;
+      memory = r .memory;
+      files = ap (λ (x : Files (S′ .Block)). putEntry (putEntry x c p (x s .map p)) s p hole) (r .files)
+          ∙ sym (putEntry-map (T .block (w .memory)) (putEntry (w .files) c p (w .files s .map p)) s p hole ∙ ap (λ x. putEntry x s p hole) (putEntry-map (T .block (w .memory)) (w .files) c p (w .files s .map p)));
+      pending = r .pending;
+      taken = r .taken;
+      copies = r .copies;
+      marks = r .marks;
+    }
 
     pub rel-resize : (n n′ : ℕ) → n′ ≡ n → Rel T D (resize S t s n w) (resize S′ t s n′ v)
     unfolding resize

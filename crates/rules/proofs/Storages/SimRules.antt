@@ -1,5 +1,5 @@
 -- Whole rules over two storages of which one stands for the other: any change, write, truncate and delete keep them together. Assumes nothing.
-use mathlib.Core.Bool.{Bool, cond, false, not, true, true≢false}
+use mathlib.Core.Bool.{Bool, _&&_, cond, false, not, true, true≢false}
 use mathlib.Core.List.{List, List·Memᴰ, List·Memᴰ·head, List·Memᴰ·tail, _∷_, []}
 use mathlib.Core.Path.{ap, fun-ext, refl, subst, subst₂, sym, _∙_, _≡_}
 use Prim.Native.Nat.{_%_, _+_, _/_, _<_, max, suc, zero, ℕ, _≤_}
@@ -11,15 +11,18 @@ use borrow.Author.Tests.{eqb-false, lt-ltb, ltb-false}
 use Rattle.base.specs.Logic.{test?}
 use Rattle.rules.proofs.Agreement.Agree.{from-high, from-mem, touched-once}
 use Rattle.rules.proofs.Storages.MapBlocks.{map-stored, size-map}
-use Rattle.rules.proofs.Steps.Pending.{droppedAll, drops, drops-hole, enter-pending, erase-is, give-pending, reserve-other, reserves-other, settle-pending}
-use Rattle.rules.proofs.Storages.Sim.{Demands, Rel, Sim, Translation, rel-absent, rel-drop, rel-enter, rel-give, rel-res, rel-reserve, rel-resize, rel-settle, settle-ent}
+use Rattle.rules.proofs.Steps.Pending.{droppedAll, drops, drops-hole, enter-pending, erase-is, give-pending, page-pending, reserve-other, reserves-other, settle-pending, some-pending}
+use Rattle.rules.proofs.Storages.Sim.{Demands, Rel, Sim, Translation, rel-absent, rel-drop, rel-enter, rel-give, rel-hand, rel-needs, rel-own, rel-res, rel-reserve, rel-resize, rel-settle, settle-ent}
 use Rattle.rules.proofs.Steps.StepFour.{each-inv}
 use Rattle.rules.proofs.Agreement.Truncate.{apart, kept-in, kept-once}
 use Rattle.rules.proofs.Steps.WriterSteps.{NoDup}
-use Rattle.rules.specs.Reading.{resolve, sizeByReading}
-use Rattle.rules.specs.Rules.{Work, change, countIn, cutPages, deleteAs, deleteFile, dropPage, droppedPages, each, enter, eraseFile, from, give, giveAll, keptPages, ownNeed, reserve, reserveAs, settle, takeOwn, touched, truncateAs, truncateFile, truncateNeed, writeFile}
-use Rattle.rules.specs.State.{Entry, Files, Tree, hole, isStored, live, stored, unmapped}
+use Rattle.rules.specs.Reading.{needs, resolve, sizeByReading}
+use Rattle.rules.specs.Rules.{Giving, Work, change, copied, countIn, cutPages, deleteAs, deleteFile, dropPage, droppedPages, each, enter, eraseFile, from, give, giveAll, givePage, hand, handed, keptPages, ownNeed, partPages, reserve, reserveAs, settle, takeOwn, touched, truncateAs, truncateFile, truncateNeed, writeFile}
+use Rattle.rules.specs.State.{Entry, File, Files, Tree, hole, isStored, isUnmapped, live, stored, unmapped}
 use Rattle.rules.specs.Storage.{Storage}
+use Rattle.rules.proofs.Steps.Handing.{some-leave, some-self}
+use Rattle.rules.proofs.Steps.OneStep.{TreeOk}
+use mathlib.Core.Logic.{_⊎_, inl, inr, ⊎-elim}
 
 none-needed : (S : Storage) (s : ℕ) (files : Files (S .Block)) (n : ℕ) → ownNeed S s [] files ≤ n
 unfolding ownNeed countIn
@@ -41,6 +44,13 @@ kept-low n e l p m =
     test? (eqb (n % 512) 0)
     (λ z. let q : List·Memᴰ p [] = rw z at m in elim q [ ])
     (λ z. let y = eqb-false (n % 512) 0 z in let h = from-high (n / 512) _ p (kept-in n (suc n) e p m) in omega arith)
+
+needs-as : {K : Type 0} (files files′ : Files K) (c p : ℕ) → files′ c ≡ files c → needs files′ c p ≡ needs files c p
+unfolding needs
+needs-as {K} files files′ c p e = ap (λ (x : File K). live (x .state) && isUnmapped (x .map p)) e
+
+not-copied : _≡_ {A = Giving} handed copied → ⊥
+not-copied e = let z : _≡_ {A = ℕ} 0 1 = cc in omega arith
 
 module _ {S S′ : Storage} {T : Translation S S′} {D : Demands S} {t : Tree} {s : ℕ} (M : Sim S S′ T D t s) where
   rel-each : {A : Type 0} (f : A → Work S → Work S) (f′ : A → Work S′ → Work S′) (xs : List A) → ((x : A) (w : Work S) (v : Work S′) → List·Memᴰ x xs → Rel T D w v → Rel T D (f x w) (f′ x v)) →
@@ -103,13 +113,40 @@ module _ {S S′ : Storage} {T : Translation S S′} {D : Demands S} {t : Tree} 
       (λ p. ap (λ (g : ℕ → Entry (S .Block)). isStored (g p)) (drops S t s (from 0 64) w .pending) ∙ n p)
       (λ p l. ap isStored (drops-hole S t s (from 0 64) w p (from-mem 0 64 p (omega arith) (omega arith)))))
 
-  module _ (kids : (c : ℕ) → List·Memᴰ c (t .children s) → D .Kid c) where
+  module _ (ok : TreeOk t) (once : NoDup (t .children s)) (kids : (c : ℕ) → List·Memᴰ c (t .children s) → D .Kid c) where
     -- STEP 4
-    rel-gives : (ps : List ℕ) (w : Work S) (v : Work S′) → Rel T D w v → Rel T D (giveAll S t s ps w) (giveAll S′ t s ps v)
-    unfolding giveAll
-    rel-gives ps =
-        rel-each (λ p. each (give S t s p) (t .children s)) (λ p. each (give S′ t s p) (t .children s)) ps
-        (λ p w v m. rel-each (give S t s p) (give S′ t s p) (t .children s) (λ c w v m r. rel-give M r p c (kids c m)) w v)
+    rel-some : (p : ℕ) (cs : List ℕ) → ((c : ℕ) → List·Memᴰ c cs → List·Memᴰ c (t .children s)) → (w : Work S) (v : Work S′) → Rel T D w v → Rel T D (each (give S t s p) cs w) (each (give S′ t s p) cs v)
+    rel-some p cs in-kids = rel-each (give S t s p) (give S′ t s p) cs (λ c w v m r. rel-give M r p c (kids c (in-kids c m)))
+
+    rel-handed : (p : ℕ) (cs : List ℕ) → ((c : ℕ) → List·Memᴰ c cs → List·Memᴰ c (t .children s)) → NoDup cs → (w : Work S) (v : Work S′) → Rel T D w v → isStored (w .files s .map p) ≡ true → isStored (w .pending p) ≡ false →
+        Rel T D (hand S t s p cs w) (hand S′ t s p cs v)
+    unfolding hand
+    rel-handed p [] in-kids nd w v r h o = r
+    rel-handed p (c ∷ cs) in-kids nd w v r h o =
+        let m = in-kids c (List·Memᴰ·head refl) in
+        let inside : (d : ℕ) → List·Memᴰ d cs → List·Memᴰ d (t .children s) = λ d l. in-kids d (List·Memᴰ·tail l) in
+        test? (needs (w .files) c p)
+        (λ n. rw (rel-needs M r c p, n)
+        (rel-hand M (rel-some p cs inside w v r) p c (kids c m)
+        (needs-as (w .files) (each (give S t s p) cs w .files) c p (some-leave S t ok s p cs inside w c m (nd .0)) ∙ n)
+        (ap (λ (x : File (S .Block)). isStored (x .map p)) (some-self S t ok s p cs inside w) ∙ h)
+        (ap (λ (g : ℕ → Entry (S .Block)). isStored (g p)) (some-pending S t s p cs w) ∙ o)))
+        (λ n. rw (rel-needs M r c p, n) (rel-handed p cs inside (nd .1) w v r h o))
+
+    rel-page : (how : Giving) (p : ℕ) (w : Work S) (v : Work S′) → Rel T D w v → isStored (w .pending p) ≡ false ⊎ (how ≡ copied) → Rel T D (givePage S t how s p w) (givePage S′ t how s p v)
+    unfolding givePage
+    rel-page copied p w v r o = rel-some p (t .children s) (λ c m. m) w v r
+    rel-page handed p w v r o =
+        test? (isStored (w .files s .map p))
+        (λ e. rw (rel-own M r p, e) (rel-handed p (t .children s) (λ c m. m) once w v r e (⊎-elim (λ o. o) (λ q. absurd (not-copied q)) o)))
+        (λ e. rw (rel-own M r p, e) (rel-some p (t .children s) (λ c m. m) w v r))
+
+    rel-gives : (how : Giving) (ps : List ℕ) (w : Work S) (v : Work S′) → Rel T D w v → ((p : ℕ) → List·Memᴰ p ps → isStored (w .pending p) ≡ false ⊎ (how ≡ copied)) → Rel T D (giveAll S t how s ps w) (giveAll S′ t how s ps v)
+    unfolding giveAll each
+    rel-gives how [] w v r o = r
+    rel-gives how (p ∷ ps) w v r o =
+        rel-gives how ps (givePage S t how s p w) (givePage S′ t how s p v) (rel-page how p w v r (o p (List·Memᴰ·head refl)))
+        (λ q m. ⊎-elim (λ z. inl (ap (λ (g : ℕ → Entry (S .Block)). isStored (g q)) (page-pending S t s how p w) ∙ z)) inr (o q (List·Memᴰ·tail m)))
 
     -- ANY CHANGE
     rel-change : (ps rs ds : List ℕ) → NoDup rs → ((p : ℕ) → List·Memᴰ p rs → p < 64) → ((p : ℕ) → List·Memᴰ p ds → List·Memᴰ p rs → ⊥) →
@@ -120,14 +157,16 @@ module _ {S S′ : Storage} {T : Translation S S′} {D : Demands S} {t : Tree} 
     rel-change ps rs ds once low away lay lay′ h o sz w v r empty l =
         let w₁ : Work S = each (settle S t) (s ∷ t .children s) w in
         let w₂ : Work S = each (reserve S t s) rs w₁ in
-        let w₃ : Work S = giveAll S t s ps w₂ in
+        let w₃ : Work S = giveAll S t handed s ds (giveAll S t copied s ps w₂) in
         let none₁ : (p : ℕ) → isStored (w₁ .pending p) ≡ false = λ p. ap (λ (g : ℕ → Entry (S .Block)). isStored (g p)) (settle-pending S t s (s ∷ t .children s) w) ∙ empty p in
         let r₁ = rel-settles (s ∷ t .children s) w v r in
         let r₂ = rel-reserves rs once _ _ r₁ (λ p m. none₁ p) (settle-need rs w l) in
-        let r₃ = rel-gives ps _ _ r₂ in
+        let none₂ : (p : ℕ) → List·Memᴰ p ds → isStored (w₂ .pending p) ≡ false = λ p m. ap isStored (reserves-other S t s rs w₁ p (away p m)) ∙ none₁ p in
+        let none₃ : (p : ℕ) → List·Memᴰ p ds → isStored (giveAll S t copied s ps w₂ .pending p) ≡ false = λ p m. ap (λ (g : ℕ → Entry (S .Block)). isStored (g p)) (give-pending S t s copied ps w₂) ∙ none₂ p m in
+        let r₃ = rel-gives handed ds _ _ (rel-gives copied ps _ _ r₂ (λ p m. inr refl)) (λ p m. inl (none₃ p m)) in
         let r₄ = rel-each (enter S t s lay) (enter S′ t s lay′) rs (λ p w v m r. rel-enter M r lay lay′ h o p (low p m)) _ _ r₃ in
         let r₅ = rel-drops ds _ _ r₄ (λ p m.
-        ap (λ (g : ℕ → Entry (S .Block)). isStored (g p)) (enter-pending S t s lay rs w₃ ∙ give-pending S t s ps w₂) ∙ ap isStored (reserves-other S t s rs w₁ p (away p m)) ∙ none₁ p) in
+        ap (λ (g : ℕ → Entry (S .Block)). isStored (g p)) (enter-pending S t s lay rs w₃ ∙ give-pending S t s handed ds (giveAll S t copied s ps w₂)) ∙ none₃ p m) in
         rel-resize M r₅ _ _ (ap sz (ap (λ (y : Files (S′ .Block)). y s .size) (r₅ .files)))
 
     module _ (w : Work S) (v : Work S′) (r : Rel T D w v) (empty : (p : ℕ) → isStored (w .pending p) ≡ false) where
@@ -149,7 +188,7 @@ module _ {S S′ : Storage} {T : Translation S S′} {D : Demands S} {t : Tree} 
       rel-cut n z false false low l =
           let e = resolve t (w .files) s (n / 512) in
           rw (kept-same n (resolve t (v .files) s (n / 512)) e (ap isStored (rel-res M r s (n / 512)) ∙ map-stored (T .block (w .memory)) e))
-          (rel-change (cutPages n z) (keptPages n e) (droppedPages n z) (kept-once n e) (kept-low n e low) (apart n z e)
+          (rel-change (partPages n) (keptPages n e) (droppedPages n z) (kept-once n e) (kept-low n e low) (apart n z e)
           (λ p. S .cut (n % 512)) (λ p. S′ .cut (n % 512)) (λ p x. M .cut (n % 512) x) (λ p x. M .whole-cut (n % 512) x) (λ m. n) w v r empty (l refl refl))
 
       pub rel-truncate : (n : ℕ) → n ≤ 32768 → truncateNeed S t s n (w .files) ≤ S .free (w .memory) → Rel T D (truncateFile S t s n w) (truncateFile S′ t s n v)
@@ -170,7 +209,7 @@ module _ {S S′ : Storage} {T : Translation S S′} {D : Demands S} {t : Tree} 
           go : (b : Bool) → Rel T D (deleteAs S t b s w) (deleteAs S′ t b s v)
           go true =
               let r₁ = rel-settles (t .children s) w v r in
-              let r₂ = rel-gives (from 0 64) _ _ r₁ in
+              let r₂ = rel-gives handed (from 0 64) _ _ r₁ (λ p m. inl (ap (λ (g : ℕ → Entry (S .Block)). isStored (g p)) (settle-pending S t s (t .children s) w) ∙ empty p)) in
               rel-erase _ _ r₂ (λ p.
-              ap (λ (g : ℕ → Entry (S .Block)). isStored (g p)) (give-pending S t s (from 0 64) (each (settle S t) (t .children s) w) ∙ settle-pending S t s (t .children s) w) ∙ empty p)
+              ap (λ (g : ℕ → Entry (S .Block)). isStored (g p)) (give-pending S t s handed (from 0 64) (each (settle S t) (t .children s) w) ∙ settle-pending S t s (t .children s) w) ∙ empty p)
           go false = rel-erase w v r empty

@@ -23,6 +23,7 @@ use Rattle.rules.specs.Rules.{Work, countIn, deleteFile, each, eraseFile
 use Rattle.rules.specs.Sets.{appendSet, childFile, unlinkSet}
 use Rattle.rules.specs.State.{File, Files, Tree, absentFile, hole, isAbsent, isStored, own, stored, treeOf, unmapped}
 use Rattle.rules.specs.Storage.{Storage}
+use Rattle.rules.proofs.Steps.Handing.{ProperTree}
 
 -- the two stores go together
 pub record Standing {S S′ : Storage} (T : Translation S S′) (r : Store S) (m : Store S′) : Type 0 where
@@ -63,13 +64,13 @@ module _ {S S′ : Storage} (T : Translation S S′) (r : Store S) (m : Store S�
     truncateNeed = λ s f n. truncate-same s f n i;
   }
 
--- What must hold of the stores. Kept says what is kept of a store by every call, Proper what is asked of its tree.
-pub record StoreSim {S S′ : Storage} (T : Translation S S′) (fresh : S .Memory) (fresh′ : S′ .Memory) (Kept : Store S → Type 0) (Proper : Tree → Type 0) : Type 1 where
+-- What must hold of the stores. Kept says what is kept of a store by every call.
+pub record StoreSim {S S′ : Storage} (T : Translation S S′) (fresh : S .Memory) (fresh′ : S′ .Memory) (Kept : Store S → Type 0) : Type 1 where
   pub demands : Store S → ℕ → ℕ → Demands S
   pub sim : (r : Store S) (f s : ℕ) → Sim S S′ T (demands r f s) (treeIn S r) s
   pub free : (r : Store S) → Kept r → S′ .free (T .memory (r .memory)) ≡ S .free (r .memory)
   pub fresh-same : fresh′ ≡ T .memory fresh
-  pub kid : (r : Store S) (f s : ℕ) → Proper (treeIn S r) → (c : ℕ) → List·Memᴰ c (treeIn S r .children s) → demands r f s .Kid c
+  pub kid : (r : Store S) (f s : ℕ) → ProperTree (treeIn S r) → (c : ℕ) → List·Memᴰ c (treeIn S r .children s) → demands r f s .Kid c
   -- a call on file f of set s begins and ends; the other files' blocks are seen as before
   pub good-begin : (r : Store S) (f s : ℕ) → Kept r → demands r f s .Good (begin S r f)
   pub frame : (r : Store S) (f s : ℕ) (w : Work S) → demands r f s .Good w → (g x p : ℕ) (b : S .Block) → (f ≡ g → ⊥) → r .files g x .map p ≡ stored b → T .block (w .memory) b ≡ T .block (r .memory) b
@@ -95,7 +96,7 @@ new-map f = λ i. record { state = own; size = 0; map = λ p. go (ltb p 64) i }
     go true = refl
     go false = refl
 
-module _ {S S′ : Storage} {T : Translation S S′} {fresh : S .Memory} {fresh′ : S′ .Memory} {Kept : Store S → Type 0} {Proper : Tree → Type 0} (M : StoreSim T fresh fresh′ Kept Proper) where
+module _ {S S′ : Storage} {T : Translation S S′} {fresh : S .Memory} {fresh′ : S′ .Memory} {Kept : Store S → Type 0} (M : StoreSim T fresh fresh′ Kept) where
   -- CALLS ON ONE FILE
   module _ (r : Store S) (m : Store S′) (h : Standing T r m) (k : Kept r) (f s : ℕ) where
     begin-rel : Rel T (M .demands r f s) (begin S r f) (begin S′ m f)
@@ -128,21 +129,21 @@ module _ {S S′ : Storage} {T : Translation S S′} {fresh : S .Memory} {fresh�
     erased-rel : Rel T (M .demands r f s) (eraseFile S (treeIn S r) s (begin S r f)) (eraseFile S′ (treeIn S′ m) s (begin S′ m f))
     erased-rel = moved _ (λ t. eraseFile S′ t s (begin S′ m f)) (rel-erase (M .sim r f s) (begin S r f) (begin S′ m f) begin-rel (λ p. refl))
 
-    module _ (proper : Proper (treeIn S r)) where
+    module _ (proper : ProperTree (treeIn S r)) where
       write-rel : (off : ℕ) (bs : List ℕ) → off + length bs ≤ 32768 → ownNeed S s (touched off (length bs)) (r .files f) ≤ S .free (r .memory) →
           Rel T (M .demands r f s) (writeFile S (treeIn S r) s off bs (begin S r f)) (writeFile S′ (treeIn S′ m) s off bs (begin S′ m f))
       write-rel off bs low l =
           moved _ (λ t. writeFile S′ t s off bs (begin S′ m f))
-          (rel-write (M .sim r f s) (M .kid r f s proper) (begin S r f) (begin S′ m f) begin-rel (λ p. refl) off bs low l)
+          (rel-write (M .sim r f s) (proper .ok) (proper .once s) (M .kid r f s proper) (begin S r f) (begin S′ m f) begin-rel (λ p. refl) off bs low l)
 
       truncate-rel : (n : ℕ) → n ≤ 32768 → truncateNeed S (treeIn S r) s n (r .files f) ≤ S .free (r .memory) →
           Rel T (M .demands r f s) (truncateFile S (treeIn S r) s n (begin S r f)) (truncateFile S′ (treeIn S′ m) s n (begin S′ m f))
       truncate-rel n low l =
           moved _ (λ t. truncateFile S′ t s n (begin S′ m f))
-          (rel-truncate (M .sim r f s) (M .kid r f s proper) (begin S r f) (begin S′ m f) begin-rel (λ p. refl) n low l)
+          (rel-truncate (M .sim r f s) (proper .ok) (proper .once s) (M .kid r f s proper) (begin S r f) (begin S′ m f) begin-rel (λ p. refl) n low l)
 
       delete-rel : Rel T (M .demands r f s) (deleteFile S (treeIn S r) s (begin S r f)) (deleteFile S′ (treeIn S′ m) s (begin S′ m f))
-      delete-rel = moved _ (λ t. deleteFile S′ t s (begin S′ m f)) (rel-delete (M .sim r f s) (M .kid r f s proper) (begin S r f) (begin S′ m f) begin-rel (λ p. refl))
+      delete-rel = moved _ (λ t. deleteFile S′ t s (begin S′ m f)) (rel-delete (M .sim r f s) (proper .ok) (proper .once s) (M .kid r f s proper) (begin S r f) (begin S′ m f) begin-rel (λ p. refl))
 
   -- REMOVE: the files of set c one by one
   erases-same : (c : ℕ) (fs : List ℕ) → ((f : ℕ) → List·Memᴰ f fs → f < 16) → (r : Store S) (m : Store S′) → Standing T r m → Kept r → r .sets c .used ≡ true →
@@ -191,7 +192,7 @@ module _ {S S′ : Storage} {T : Translation S S′} {fresh : S .Memory} {fresh�
     }
 
     -- EVERY CALL
-    module _ (proper : Proper (treeIn S r)) where
+    module _ (proper : ProperTree (treeIn S r)) where
       accepted-same : (c : Call) → numberOf (viewOf S true true r) c ≡ 0 → Same T Kept (accepted S fresh c r) (accepted S′ fresh′ c m)
       unfolding accepted
       accepted-same format z = record { answer = refl; stands = unfold formatted in record { sets = refl; memory = M .fresh-same; files = λ f. refl }; kept = M .kept-format }

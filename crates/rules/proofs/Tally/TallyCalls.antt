@@ -1,15 +1,15 @@
 -- Every accepted call: the store's rules over `counting` and the tally give the same answer and leave a store and its tally. Assumes nothing.
 use mathlib.Core.Bool.{_&&_, Bool, cond, false, not, true, true≢false}
-use mathlib.Core.List.{List·Memᴰ, _∷_, []}
-use mathlib.Core.Path.{ap, fun-ext, refl, sym, _∙_, _≡_}
+use mathlib.Core.List.{List, List·Memᴰ, List·Memᴰ·cases-cons, [], _++_, _∷_}
+use mathlib.Core.Path.{_∙_, _≡_, ap, fun-ext, refl, subst, sym}
 use Prim.Native.Nat.{_%_, _+_, _-_, _/_, _<_, max, suc, zero, ℕ, _≤_}
 use native.Mathlib.Nat.{add-zero}
 use native.Mathlib.Omega.{arith}
 use lib.Dec.{eqb, ltb}
 use lib.ListN.{length}
-use borrow.Author.Tests.{eqb-false, lt-ltb, ltb-false, not-true}
+use borrow.Author.Tests.{eq-eqb, eqb-false, lt-ltb, ltb-false, not-true}
 use Rattle.base.specs.Count.{count, sum}
-use Rattle.base.specs.Logic.{and-left, and-right, pick}
+use Rattle.base.specs.Logic.{and-left, and-right, pick, test?}
 use Rattle.base.specs.Update.{upd, upd-self}
 use Rattle.rules.proofs.Storages.Model.{counting}
 use Rattle.rules.proofs.Tally.TallyChange.{change-leaves, changeLeaves, newKinds}
@@ -18,17 +18,18 @@ use Rattle.rules.proofs.Tally.TallyNumbers.{Tallies, TallyOrderly, kept
 use Rattle.rules.proofs.Whole.Accepted.{passed-write}
 use Rattle.rules.proofs.Tally.TallyReach.{NoVirginRoot, kind-resolve, no-virgin-root, size-reading}
 use Rattle.rules.proofs.Tally.TallySteps.{give-all, settle-all, settle-maps, withTurn}
-use Rattle.rules.proofs.Tally.TallyWriter.{free-map, turns-inv, turns-self}
+use Rattle.rules.proofs.Tally.TallyWriter.{free-map, turns-inv}
 use Rattle.rules.proofs.Tree.SetsOk.{root-alone-tree}
 use Rattle.rules.specs.Calls.{Result, Store, accepted, begin, created, formatted, made, readCount, removed, resultOf, step, treeIn, viewOf, worked}
 use Rattle.rules.specs.Numbers.{Call, create, delete, format, make, numberOf, read, refusal, remove, tellFree, tellSize, truncate, write}
 use Rattle.rules.specs.Plain.{Plain}
 use Rattle.rules.specs.Reading.{resolve, shownSize, sizeByReading, walk}
-use Rattle.rules.specs.Rules.{Work, change, countIn, cutPages, deleteAs, deleteFile, droppedPages, each, eraseFile, freeMap, from, giveAll, holes, keptPages, ownNeed, touched, truncateAs, truncateFile, withFiles, writeFile}
+use Rattle.rules.specs.Rules.{Work, change, copied, countIn, cutPages, deleteAs, deleteFile, droppedPages, each, eraseFile, freeMap, from, giveAll, handed, holes, keptPages, ownNeed, partPages, touched, truncateAs, truncateFile, withFiles, writeFile}
 use Rattle.rules.specs.Sets.{appendSet, childFile, childState, unlinkSet}
 use Rattle.rules.specs.State.{State, Tree, absent, absentFile, fileCount, hole, isStored, largestSize, live, marked, own, pageBytes, pageCount, setCount, stored, treeOf, unmapped, virgin}
 use Rattle.rules.specs.Tally.{Both, Kind, Tally, TallyFile, TallyFiles, TallyResult, Turn, bothAs, bothStep, cutKinds, eachChild, kindAt, partPage, storedPages, tallyCall, tallyChild, tallyCut, tallyDelete, tallyFormat, tallyGive, tallyGrow, tallyLeaves, tallySettle, tallySize, tallyTold, tallyTruncate, tallyTruncateNeed, tallyTurns, tallyWrite, truncateTouches, writeTouches}
 use Rattle.rules.specs.Trees.{addChild, takeAway}
+use mathlib.Core.Logic.{⊎-elim}
 
 -- a result of the store as one of the tally
 abbrev pub resultOfTally : Result counting → TallyResult
@@ -43,9 +44,29 @@ module _ (k : Store counting) (f s : ℕ) where
     tally = record { tree = treeIn counting k; files = upd (k .files) f (upd (x .files) s y); free = x .free + m };
   }
 
+give-nothing : (t : Tree) (s : ℕ) (w : Work counting) → w ≡ giveAll counting t copied s [] w
+unfolding giveAll each
+give-nothing t s w = refl
+
+append-none : (l : List ℕ) → l ++ [] ≡ l
+append-none [] = refl
+append-none (x ∷ l) = ap (λ y. x ∷ y) (append-none l)
+
+-- the part page and those dropped are the touched pages, in order
+part-dropped : (n z : ℕ) → n < z → partPages n ++ droppedPages n z ≡ cutPages n z
+unfolding partPages droppedPages cutPages from
+part-dropped n z l = test? (eqb (n % pageBytes) 0) (λ e. rw e) (λ e. rw e)
+
+part-not : (n p : ℕ) → List·Memᴰ p (partPages n) → not (partPage n p) ≡ false
+unfolding partPages partPage
+part-not n p m =
+    test? (eqb (n % pageBytes) 0)
+    (λ e. let q : List·Memᴰ p [] = rw e at m in elim q [ ])
+    (λ e. let q : List·Memᴰ p (n / pageBytes ∷ []) = rw e at m in ⊎-elim (λ d. rw (e, eq-eqb p (n / pageBytes) d)) (λ i. elim i [ ]) (List·Memᴰ·cases-cons q))
+
 -- the turns where none is touched
-turns-none : (t : Tree) (s : ℕ) (x : Turn) → tallyGive t s (λ p. false) x ≡ x
-turns-none t s x = turns-inv t s (λ p. false) (λ y. y ≡ x) (λ p c y l e m i. absurd (true≢false (sym e))) x refl
+turns-none : (t : Tree) (s : ℕ) (x : Turn) → tallyGive t s (λ p. false) (λ p. true) x ≡ x
+turns-none t s x = turns-inv t s (λ y. y ≡ x) (λ p. false) (λ p. true) (λ p c y l e m i. absurd (true≢false (sym e))) (λ p c y l e m i. absurd (true≢false (sym e))) x refl
 
 -- the kinds after a truncate
 module _ (n z : ℕ) (l : n < z) (h : z ≤ largestSize) (e : Kind) where
@@ -102,10 +123,10 @@ module _ (k : Store counting) (o : TallyOrderly k) where
   write-same s f off n l lay =
       let r : PagesOf (touched off n) (writeTouches off n) = write-pages off n l in
       let need : ℕ = ownNeed counting s (touched off n) (k .files f) in
-      let turns : ℕ → Turn = λ m. tallyTurns (tallyOf k) f s (s ∷ sets .children s) m (writeTouches off n) in
+      let turns : ℕ → Turn = λ m. tallyTurns (tallyOf k) f s (s ∷ sets .children s) m (writeTouches off n) (λ p. false) in
       let own-file : Turn → (ℕ → Kind) → TallyFile = λ x m. record { state = own; size = max (x .files s .size) (off + n); map = m } in
       ap (λ (w : Work counting). resultOfTally (worked counting k f w))
-      (change-leaves sets (o .tree-ok) levels s (touched off n) (touched off n) [] (writeTouches off n) r tt (λ p m. elim m [ ]) lay (λ m. max m (off + n)) (begin counting k f) (above f))
+      (change-leaves sets (o .tree-ok) levels s (touched off n) (touched off n) [] (writeTouches off n) (λ p. false) (subst (λ l. PagesOf l (writeTouches off n)) (sym (append-none (touched off n))) r) (λ p m. refl) (λ p m. elim m [ ]) tt (λ p m. elim m [ ]) lay (λ m. max m (off + n)) (begin counting k f) (above f))
       ∙ worked-leaves k f s (turns need) need (own-file (turns need) (each (λ p g. upd g p (stored tt)) (touched off n) (turns need .files s .map))) 0 _
       ∙ ap (λ m. tallyLeaves (tallyOf k) f s need (turns need) (own-file (turns need) m) 0) (fun-ext (put-pages (stored tt) r (turns need .files s .map)))
       ∙ ap (λ m. tallyLeaves (tallyOf k) f s m (turns m) (own-file (turns m) (λ p. cond (ltb p pageCount && writeTouches off n p) (stored tt) (turns m .files s .map p))) 0)
@@ -116,29 +137,31 @@ module _ (k : Store counting) (o : TallyOrderly k) where
   unfolding tallyGrow tallyTurns countIn each ownNeed
   grow-same s f n =
       ap (λ (w : Work counting). resultOfTally (worked counting k f w))
-      (change-leaves sets (o .tree-ok) levels s [] [] [] (λ p. false) no-pages tt (λ p m. elim m [ ]) (λ p v. v) (λ m. n) (begin counting k f) (above f))
-      ∙ worked-leaves k f s (tallyTurns (tallyOf k) f s (s ∷ sets .children s) 0 (λ p. false)) 0 _ 0 _
+      (change-leaves sets (o .tree-ok) levels s [] [] [] (λ p. false) (λ p. false) no-pages (λ p m. elim m [ ]) (λ p m. elim m [ ]) tt (λ p m. elim m [ ]) (λ p v. v) (λ m. n) (begin counting k f) (above f))
+      ∙ worked-leaves k f s (tallyTurns (tallyOf k) f s (s ∷ sets .children s) 0 (λ p. false) (λ p. false)) 0 _ 0 _
 
   cut-same : (s f n z : ℕ) → tallySize sets (k .files f) s ≡ z → n < z → z ≤ largestSize → (lay : ℕ → Unit {0} → Unit {0}) →
-      resultOfTally (worked counting k f (change counting sets s (cutPages n z) (keptPages n (resolve sets (k .files f) s (n / pageBytes))) (droppedPages n z) lay (λ m. n) (begin counting k f)))
+      resultOfTally (worked counting k f (change counting sets s (partPages n) (keptPages n (resolve sets (k .files f) s (n / pageBytes))) (droppedPages n z) lay (λ m. n) (begin counting k f)))
       ≡ tallyCut s f n z (tallyOf k)
   unfolding tallyCut tallyTurns
   cut-same s f n z e l h lay =
       let fs : TallyFiles = k .files f in
       let kind : Kind = resolve sets fs s (n / pageBytes) in
       let need : ℕ = ownNeed counting s (keptPages n kind) fs in
-      let turns : ℕ → Turn = λ m. tallyTurns (tallyOf k) f s (s ∷ sets .children s) m (truncateTouches n z) in
+      let turns : ℕ → Turn = λ m. tallyTurns (tallyOf k) f s (s ∷ sets .children s) m (truncateTouches n z) (λ p. not (partPage n p)) in
       let own-file : (ℕ → Kind) → TallyFile = λ m. record { state = own; size = n; map = m } in
       let q : tallyTruncateNeed sets fs s n ≡ need = kept-need sets fs s n (ap (ltb n) e ∙ lt-ltb n z l) in
       ap (λ (w : Work counting). resultOfTally (worked counting k f w))
-      (change-leaves sets (o .tree-ok) levels s (cutPages n z) (keptPages n kind) (droppedPages n z) (truncateTouches n z) (cut-pages n z l h)
+      (change-leaves sets (o .tree-ok) levels s (partPages n) (keptPages n kind) (droppedPages n z) (truncateTouches n z) (λ p. not (partPage n p))
+      (subst (λ l. PagesOf l (truncateTouches n z)) (sym (part-dropped n z l)) (cut-pages n z l h)) (part-not n)
+      (λ p m. and-right (truncateTouches n z p) _ (pages-passed (dropped-pages n z l h) p m .1))
       (pages-once (dropped-pages n z l h)) (cut-apart n z l h kind) lay (λ m. n) (begin counting k f) (above f))
-      ∙ worked-leaves k f s (turns need) need (own-file (newKinds (keptPages n kind) (droppedPages n z) (turns need .files s .map))) (countIn (droppedPages n z) (λ p. isStored (fs s .map p))) _
+      ∙ worked-leaves k f s (turns need) need (own-file (newKinds (keptPages n kind) (droppedPages n z) (turns need .files s .map))) (countIn (droppedPages n z) (λ p. isStored (turns need .files s .map p))) _
       ∙ (λ i. tallyLeaves (tallyOf k) f s need (turns need)
       (own-file (λ p. (cut-kinds n z l h kind (turns need .files s .map) p ∙ ap (λ e. cutKinds n z e (turns need .files s .map) p) (sym (kind-resolve sets fs s (n / pageBytes)))) i))
-      (sym (count-pages (dropped-pages n z l h) (λ p. isStored (fs s .map p))) i))
+      (sym (count-pages (dropped-pages n z l h) (λ p. isStored (turns need .files s .map p))) i))
       ∙ ap (λ m. tallyLeaves (tallyOf k) f s m (turns m) (own-file (cutKinds n z (kindAt sets fs s (n / pageBytes)) (turns m .files s .map)))
-      (count pageCount (λ p. truncateTouches n z p && not (partPage n p) && isStored (fs s .map p)))) (sym q)
+      (count pageCount (λ p. truncateTouches n z p && not (partPage n p) && isStored (turns m .files s .map p)))) (sym q)
 
   reading-small : (f s : ℕ) → sizeByReading sets (k .files f) s ≤ largestSize
   unfolding sizeByReading
@@ -163,15 +186,14 @@ module _ (k : Store counting) (o : TallyOrderly k) where
           cut-same s f n z (size-is f s) (omega arith) (reading-small f s) (λ p. counting .cut (n % pageBytes))
 
   -- DELETE
-  erase-same : (s f : ℕ) (fs : TallyFiles) (x : Turn) → x .files s .map ≡ k .files f s .map →
+  erase-same : (s f : ℕ) (fs : TallyFiles) (x : Turn) →
       resultOfTally (worked counting k f (eraseFile counting sets s (withTurn (withFiles counting sets (begin counting k f) fs) x))) ≡
-      tallyLeaves (tallyOf k) f s 0 x absentFile (storedPages (k .files f s))
-  unfolding worked tallyLeaves eraseFile storedPages
-  erase-same s f fs x e =
-      let q : freeMap counting (x .files s .map) (x .free) ≡ x .free + storedPages (k .files f s) = ap (λ m. freeMap counting m (x .free)) e ∙ free-map (k .files f s) (x .free) in
+      tallyLeaves (tallyOf k) f s 0 x absentFile (storedPages (x .files s))
+  unfolding worked tallyLeaves eraseFile
+  erase-same s f fs x =
       λ i. record {
         answer = record { number = 0; first = 0; second = x .copies; third = x .marks };
-        tally = record { tree = sets; files = upd (k .files) f (upd (x .files) s absentFile); free = q i };
+        tally = record { tree = sets; files = upd (k .files) f (upd (x .files) s absentFile); free = free-map (x .files s) (x .free) i };
       }
 
   delete-same : (s f : ℕ) → resultOfTally (worked counting k f (deleteFile counting sets s (begin counting k f))) ≡ tallyDelete s f (tallyOf k)
@@ -187,19 +209,24 @@ module _ (k : Store counting) (o : TallyOrderly k) where
       settled : TallyFiles
       settled = eachChild (tallySettle sets) (sets .children s) (k .files f)
 
-      go : (b : Bool) → resultOfTally (worked counting k f (deleteAs counting sets b s (begin counting k f))) ≡
-          tallyLeaves (tallyOf k) f s 0 (tallyTurns (tallyOf k) f s (cond b (sets .children s) []) 0 (λ p. b)) absentFile (storedPages (k .files f s))
+      leaves : Turn → TallyResult
+      leaves x = tallyLeaves (tallyOf k) f s 0 x absentFile (storedPages (x .files s))
+
+      go : (b : Bool) → resultOfTally (worked counting k f (deleteAs counting sets b s (begin counting k f))) ≡ leaves (tallyTurns (tallyOf k) f s (cond b (sets .children s) []) 0 (λ p. b) (λ p. true))
       go true =
           ap (λ (w : Work counting). resultOfTally (worked counting k f (eraseFile counting sets s w)))
-          (ap (giveAll counting sets s (from 0 pageCount)) (settle-all sets (o .tree-ok) (sets .children s) (begin counting k f) (above f))
-          ∙ give-all sets (o .tree-ok) levels s (from 0 pageCount) (λ p. true) all-pages (withFiles counting sets (begin counting k f) settled))
-          ∙ erase-same s f settled (tallyGive sets s (λ p. true) (start settled (k .memory)))
-          (ap (λ (y : TallyFile). y .map) (turns-self sets (o .tree-ok) s (λ p. true) _) ∙ settle-maps sets (o .tree-ok) (sets .children s) (k .files f) s)
-          ∙ ap (λ n. tallyLeaves (tallyOf k) f s 0 (tallyGive sets s (λ p. true) (start settled n)) absentFile (storedPages (k .files f s))) (sym none)
+          (ap (giveAll counting sets handed s (from 0 pageCount)) (settle-all sets (o .tree-ok) (sets .children s) (begin counting k f) (above f))
+          ∙ none-first (withFiles counting sets (begin counting k f) settled)
+          ∙ give-all sets (o .tree-ok) levels s [] (from 0 pageCount) (λ p. true) (λ p. true) all-pages (λ p m. elim m [ ]) (λ p m. refl) (withFiles counting sets (begin counting k f) settled))
+          ∙ erase-same s f settled (tallyGive sets s (λ p. true) (λ p. true) (start settled (k .memory)))
+          ∙ ap (λ n. leaves (tallyGive sets s (λ p. true) (λ p. true) (start settled n))) (sym none)
+        where
+          none-first : (w : Work counting) → giveAll counting sets handed s (from 0 pageCount) w ≡ giveAll counting sets handed s (from 0 pageCount) (giveAll counting sets copied s [] w)
+          none-first w = ap (giveAll counting sets handed s (from 0 pageCount)) (give-nothing sets s w)
       go false =
-          erase-same s f (k .files f) (start (k .files f) (k .memory)) refl
-          ∙ ap (λ n. tallyLeaves (tallyOf k) f s 0 (start (k .files f) n) absentFile (storedPages (k .files f s))) (sym none)
-          ∙ ap (λ x. tallyLeaves (tallyOf k) f s 0 x absentFile (storedPages (k .files f s))) (sym (turns-none sets s (start (k .files f) (k .memory - 0))))
+          erase-same s f (k .files f) (start (k .files f) (k .memory))
+          ∙ ap (λ n. leaves (start (k .files f) n)) (sym none)
+          ∙ ap leaves (sym (turns-none sets s (start (k .files f) (k .memory - 0))))
 
 format-same : (k : Store counting) (blocks : ℕ) → resultOfTally (accepted counting blocks format k) ≡ tallyCall blocks format (tallyOf k)
 unfolding accepted tallyCall tallyTold formatted tallyFormat

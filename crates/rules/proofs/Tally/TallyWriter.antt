@@ -1,13 +1,13 @@
 -- The writer's own file over `counting`: step 4 leaves it as it is, step 5 makes pages stored, pages dropped become holes and their blocks are free again. Assumes nothing.
-use mathlib.Core.Bool.{_&&_, Bool, cond, false, true}
-use mathlib.Core.List.{List, List·Memᴰ, List·Memᴰ·head, List·Memᴰ·tail, _∷_, []}
+use mathlib.Core.Bool.{Bool, _&&_, cond, false, true}
+use mathlib.Core.List.{List, List·Memᴰ, List·Memᴰ·head, List·Memᴰ·tail, [], _∷_}
 use mathlib.Core.Path.{ap, refl, subst, sym, _∙_, _≡_}
 use Prim.Native.Nat.{_+_, _<_, ℕ}
 use native.Mathlib.Nat.{add-zero}
 use native.Mathlib.Omega.{arith}
 use lib.Dec.{eqb}
 use Rattle.base.specs.Logic.{test?}
-use Rattle.base.specs.Update.{upd, upd-other, upd-same, upd-self, upd-upd}
+use Rattle.base.specs.Update.{upd, upd-keeps, upd-other, upd-same, upd-self, upd-upd}
 use Rattle.rules.proofs.Storages.Model.{counting}
 use Rattle.rules.proofs.Steps.OneStep.{TreeOk, putEntry-page}
 use Rattle.rules.proofs.Steps.StepFour.{each-inv}
@@ -16,18 +16,36 @@ use Rattle.rules.proofs.Tally.TallyReach.{reached-level}
 use Rattle.rules.proofs.Steps.WriterSteps.{NoDup}
 use Rattle.rules.specs.Rules.{Work, countIn, dropPage, each, enter, enterAs, freeEntry, freeMap, from, putEntry, withFiles}
 use Rattle.rules.specs.State.{Tree, hole, isStored, isUnmapped, live, pageCount, setCount, stored, unmapped}
-use Rattle.rules.specs.Tally.{Kind, TallyFile, TallyFiles, Turn, childPage, childTurn, kindAt, markedWith, neededCopy, storedPages, tallyGive, tallyKind, tallyMark}
+use Rattle.rules.specs.Tally.{Kind, TallyFile, TallyFiles, Turn, childPage, childTurn, eachChild, handTurns, kindAt, markedWith, neededCopy, pageTurns, storedPages, takenOver, tallyGive, tallyKind, tallyMark}
 
 -- the turns of step 4, one after the other
-module _ (t : Tree) (s : ℕ) (touches : ℕ → Bool) where
-  pub turns-inv : (I : Turn → Type 0) → ((p c : ℕ) (x : Turn) → p < pageCount → touches p ≡ true → List·Memᴰ c (t .children s) → I x → I (childTurn t s p c x)) →
-      (x : Turn) → I x → I (tallyGive t s touches x)
+module _ (t : Tree) (s : ℕ) (I : Turn → Type 0) where
+  -- some of the children, at page p
+  module _ (p : ℕ) (step : (c : ℕ) (x : Turn) → List·Memᴰ c (t .children s) → I x → I (childTurn t s p c x)) (over : (c : ℕ) (x : Turn) → List·Memᴰ c (t .children s) → I x → I (takenOver t s p c x)) where
+    some-inv : (cs : List ℕ) → ((c : ℕ) → List·Memᴰ c cs → List·Memᴰ c (t .children s)) → (x : Turn) → I x → I (eachChild (childTurn t s p) cs x)
+    some-inv cs kids x i = rw (each-child (childTurn t s p) cs x) (each-inv (childTurn t s p) I cs (λ c z m. step c z (kids c m)) x i)
+
+    hand-inv : (cs : List ℕ) → ((c : ℕ) → List·Memᴰ c cs → List·Memᴰ c (t .children s)) → (x : Turn) → I x → I (handTurns t s p cs x)
+    unfolding handTurns
+    hand-inv [] kids x i = i
+    hand-inv (c ∷ cs) kids x i =
+        test? (live (x .files c .state) && isUnmapped (x .files c .map p))
+        (λ e. rw e (over c _ (kids c (List·Memᴰ·head refl)) (some-inv cs (λ d m. kids d (List·Memᴰ·tail m)) x i)))
+        (λ e. rw e (hand-inv cs (λ d m. kids d (List·Memᴰ·tail m)) x i))
+
+    page-turns-inv : (hands : Bool) (x : Turn) → I x → I (pageTurns t s hands p x)
+    unfolding pageTurns
+    page-turns-inv hands x i =
+        test? (hands && isStored (x .files s .map p)) (λ e. rw e (hand-inv (t .children s) (λ c m. m) x i)) (λ e. rw e (some-inv (t .children s) (λ c m. m) x i))
+
+  pub turns-inv : (touches hands : ℕ → Bool) →
+      ((p c : ℕ) (x : Turn) → p < pageCount → touches p ≡ true → List·Memᴰ c (t .children s) → I x → I (childTurn t s p c x)) →
+      ((p c : ℕ) (x : Turn) → p < pageCount → touches p ≡ true → List·Memᴰ c (t .children s) → I x → I (takenOver t s p c x)) →
+      (x : Turn) → I x → I (tallyGive t s touches hands x)
   unfolding tallyGive
-  turns-inv I h x i =
+  turns-inv touches hands h k x i =
       page-inv _ I pageCount
-      (λ p y l j. test? (touches p)
-      (λ e. rw (e, each-child (childTurn t s p) (t .children s) y) (each-inv (childTurn t s p) I (t .children s) (λ c z m. h p c z l e m) y j))
-      (λ e. rw e j)) x i
+      (λ p y l j. test? (touches p) (λ e. rw e (page-turns-inv p (λ c z m. h p c z l e m) (λ c z m. k p c z l e m) (hands p) y j)) (λ e. rw e j)) x i
 
 -- n blocks are free again, and the files are fs
 abbrev pub withReleased : Work counting → ℕ → TallyFiles → Work counting
@@ -62,8 +80,15 @@ module _ (t : Tree) (ok : TreeOk t) (s : ℕ) where
       go hole = upd-other (x .files) c _ s apart
       go (stored b) = test? (eqb (x .free) 0) (λ e. rw (e, missed)) (λ e. rw e (upd-other (x .files) c _ s apart))
 
-  pub turns-self : (touches : ℕ → Bool) (x : Turn) → tallyGive t s touches x .files s ≡ x .files s
-  turns-self touches x = turns-inv t s touches (λ y. y .files s ≡ x .files s) (λ p c y l e m i. turn-self p c y m ∙ i) x refl
+  pub over-state : (p c : ℕ) (x : Turn) (y : ℕ) → takenOver t s p c x .files y .state ≡ x .files y .state
+  unfolding takenOver tallyKind
+  over-state p c x y = upd-keeps (λ (z : TallyFile). z .state) (upd (x .files) c _) s _ refl y ∙ upd-keeps (λ (z : TallyFile). z .state) (x .files) c _ refl y
+
+  -- the state of the writer's file stays
+  pub turns-state : (touches hands : ℕ → Bool) (x : Turn) → tallyGive t s touches hands x .files s .state ≡ x .files s .state
+  turns-state touches hands x =
+      turns-inv t s (λ y. y .files s .state ≡ x .files s .state) touches hands
+      (λ p c y l e m i. ap (λ (z : TallyFile). z .state) (turn-self p c y m) ∙ i) (λ p c y l e m i. over-state p c y s ∙ i) x refl
 
   -- STEP 5: pending blocks enter the map
   module _ (lay : ℕ → Unit {0} → Unit {0}) where

@@ -11,13 +11,14 @@ use Rattle.rules.proofs.Storages.Model.{model}
 use Rattle.rules.proofs.Tally.TallyNumbers.{Tallies, same-numbers}
 use Rattle.rules.proofs.Tree.MakeSet.{make-same}
 use Rattle.rules.proofs.Tree.RemoveSet.{remove-same}
-use Rattle.rules.proofs.Tree.SetsOk.{root-alone-tree}
+use Rattle.rules.proofs.Tree.SetsOk.{children-once, root-alone-tree}
 use Rattle.rules.proofs.Whole.Order.{InOrder, answer-tally, model-after, order-step, tallies-step, tally-orderly}
 use Rattle.rules.specs.Calls.{Store, blankMemory, resultOf, step, treeIn, viewOf}
 use Rattle.rules.specs.Numbers.{Call, numberOf}
 use Rattle.rules.specs.Plain.{Plain}
 use Rattle.rules.specs.Storage.{freeBlocks, real}
 use Rattle.rules.specs.Tally.{Tally, bothAs, bothStep, judged}
+use Rattle.rules.proofs.Formed.Shape.{size-most}
 
 -- A store of B blocks in order, in agreement with a plain store and a tally: its model with the plain store, its count with the tally.
 pub record Holds (B : ℕ) (r : Store real) (pl : Plain) (ta : Tally) : Type 0 where
@@ -28,8 +29,9 @@ pub record Holds (B : ℕ) (r : Store real) (pl : Plain) (ta : Tally) : Type 0 w
 -- what the plain store asks of a model in order
 orderly : (m : Store model) → ModelFormed m → Orderly m
 orderly m v = record {
-  tree-ok = v .sets-ok .tree;
+  proper = record { ok = v .sets-ok .tree; once = children-once (m .sets) (v .sets-ok) };
   files-ok = λ f. v .files-ok f .ok;
+  small = λ f s. size-most (treeIn model m) (m .files f) (v .files-ok f .shape) s;
   unused = λ f s u. v .files-ok f .shape s .unused u;
 }
 

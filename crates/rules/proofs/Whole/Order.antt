@@ -6,12 +6,13 @@ use native.Mathlib.Omega.{arith}
 use Rattle.base.specs.Logic.{and-both}
 use Rattle.rules.proofs.Blocks.RealCalls.{Stands, kept-format, step-same}
 use Rattle.rules.proofs.Blocks.RealSim.{pagesSeen}
-use Rattle.rules.proofs.Blocks.RealStore.{RealKept, proper-tree}
+use Rattle.rules.proofs.Blocks.RealStore.{RealKept}
 use Rattle.rules.proofs.Formed.BitsFormed.{bits-formed, header-formed}
 use Rattle.rules.proofs.Formed.FilesFormed.{StateOk, state-formed}
 use Rattle.rules.proofs.Formed.FilesMapped.{map-formed, unmap-formed}
 use Rattle.rules.proofs.Formed.FilesOfSets.{format-formed}
 use Rattle.rules.proofs.Formed.ModelFormed.{ModelFormed, accepted-formed}
+use Rattle.rules.proofs.Steps.Handing.{ProperTree}
 use Rattle.rules.proofs.Storages.CountCalls.{Counted, CountedResult, count-counted, countOf, forget, model-stands, modelOf, step-counted}
 use Rattle.rules.proofs.Storages.Model.{counting, model}
 use Rattle.rules.proofs.Storages.StoreSim.{Same}
@@ -19,7 +20,7 @@ use Rattle.rules.proofs.Tally.TallyCalls.{SameStep, SetsAfter, step-tal
 use Rattle.rules.proofs.Tally.TallyNumbers.{Tallies, TallyOrderly}
 use Rattle.rules.proofs.Tree.MakeSet.{make-same}
 use Rattle.rules.proofs.Tree.RemoveSet.{remove-same}
-use Rattle.rules.proofs.Tree.SetsOk.{format-sets}
+use Rattle.rules.proofs.Tree.SetsOk.{children-once, format-sets}
 use Rattle.rules.proofs.Whole.Accepted.{passed-make, passed-remove}
 use Rattle.rules.specs.Calls.{Store, blankMemory, formatted, resultOf, step, tablesOf, treeIn, viewOf}
 use Rattle.rules.specs.Numbers.{Call, create, delete, format, make, numberOf, read, remove, tellFree, tellSize, truncate, write}
@@ -80,11 +81,14 @@ module _ (B : ℕ) (some : 1 ≤ B) (r : Store real) (o : InOrder B r) (c : Call
   abbrev m : Store model
   m = modelOf r
 
+  proper : ProperTree (treeIn real r)
+  proper = record { ok = o .formed .sets-ok .tree; once = children-once (r .sets) (o .formed .sets-ok) }
+
   real-model : Same pagesSeen (RealKept B) (step real (blankMemory B) c r) (step model B c m)
-  real-model = step-same B some r m (o .kept .blocks) (o .kept .blocks-ok) (o .kept .pages-in) (model-stands r) (proper-tree (treeIn real r) (o .formed .sets-ok .tree)) c
+  real-model = step-same B some r m (o .kept .blocks) (o .kept .blocks-ok) (o .kept .pages-in) (model-stands r) proper c
 
   model-count : CountedResult (step model B c m) (step counting B c (countOf m))
-  model-count = step-counted B m (countOf m) (count-counted m) c
+  model-count = step-counted B m (countOf m) (count-counted m) proper c
 
   formed-as : (n : ℕ) → numberOf (viewOf model true true m) c ≡ n → ModelFormed (resultOf model n B c m .store)
   unfolding resultOf

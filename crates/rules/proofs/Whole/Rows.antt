@@ -13,14 +13,14 @@ use Rattle.rules.specs.Calls.{accepted, created, formatted, made, remove
 use Rattle.rules.specs.Numbers.{View, conditions, lowest, numberOf, write}
 use Rattle.rules.specs.Reading.{dependent, dependsOn, needs, reaches, resolve, sizeByReading, someUnmapped, walk}
 use Rattle.rules.specs.Rows.{RowsClaim, lastAnswer, rows}
-use Rattle.rules.specs.Rules.{change, copy, countIn, cutPages, deleteAs, deleteFile, dropPage, droppedPages, each, enter, enterAs, eraseFile, freeEntry, freeMap, from, give, giveAll, holes, keptPages, mark, markDown, markFile, ownNeed, pageOf, putEntry, reserve, reserveAs, resize, settle, settleAs, settleFile, supply, takeOwn, touched, truncateAs, truncateFile, truncateNeed, writeFile}
+use Rattle.rules.specs.Rules.{change, copy, countIn, cutPages, deleteAs, deleteFile, dropPage, droppedPages, each, enter, enterAs, eraseFile, freeEntry, freeMap, from, give, giveAll, givePage, hand, handOver, holes, keptPages, mark, markDown, markFile, ownNeed, pageOf, partPages, putEntry, reserve, reserveAs, resize, settle, settleAs, settleFile, supply, takeOwn, touched, truncateAs, truncateFile, truncateNeed, writeFile}
 use Rattle.rules.specs.Sets.{appendSet, linkBehind, linkLast, rootAlone, unlinkSet}
 use Rattle.rules.specs.State.{chain, childrenOf, live}
 use Rattle.rules.specs.Storage.{freeBlocks, overlay, takeBlock, zeroFrom}
 
 -- the definitions that are computed
 unfoldable rules : Unit {0}
-unfolding rows lastAnswer step resultOf accepted numberOf lowest conditions formatted created made removed worked writeFile truncateFile truncateAs deleteFile deleteAs eraseFile change settle settleFile settleAs each reserve reserveAs takeOwn takeBlock firstFree searchFrom freeBlocks count countIn giveAll give supply mark copy enter enterAs resize dropPage freeEntry freeMap pageOf ownNeed truncateNeed touched cutPages keptPages droppedPages from resolve sizeByReading walk needs dependent someUnmapped dependsOn reaches markDown markFile holes putEntry overlay zeroFrom upd appendSet linkLast linkBehind unlinkSet rootAlone childrenOf chain
+unfolding rows lastAnswer step resultOf accepted numberOf lowest conditions formatted created made removed worked writeFile truncateFile truncateAs deleteFile deleteAs eraseFile change settle settleFile settleAs each reserve reserveAs takeOwn takeBlock firstFree searchFrom freeBlocks count countIn giveAll givePage hand handOver partPages give supply mark copy enter enterAs resize dropPage freeEntry freeMap pageOf ownNeed truncateNeed touched cutPages keptPages droppedPages from resolve sizeByReading walk needs dependent someUnmapped dependsOn reaches markDown markFile holes putEntry overlay zeroFrom upd appendSet linkLast linkBehind unlinkSet rootAlone childrenOf chain
 rules = tt
 
 -- M1 for any write that ends at 32,768: whatever the store, with room enough it is accepted
