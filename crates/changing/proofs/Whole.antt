@@ -12,7 +12,7 @@ use Rattle.copying.proofs.Begin.{formed-header, formed-named}
 use Rattle.copying.proofs.Kept.{changed-does}
 use Rattle.copying.proofs.Settled.{settled-sets, settled-step}
 use Rattle.copying.specs.Changes.{settled}
-use Rattle.copying.specs.Work.{Alone, Ready, Rest, Step, rest, settleChildren, work, workOf}
+use Rattle.copying.specs.Work.{Alone, Ready, Rest, Step, giveBoth, rest, settleChildren, work, workOf}
 use Rattle.rules.proofs.Storages.Sim.{settle-ent}
 use Rattle.rules.specs.Rules.{Work, countIn, deleteAs, deleteFile, each, eraseFile, from, giveAll, ownNeed, settle}
 use Rattle.rules.specs.State.{Entry, SetRecord, Tables, Tree, absentFile, isStored, live, treeOf, unmapped}
@@ -113,14 +113,14 @@ pub ready-in : {t p : List ℕ} {f : ℕ} {k : Counts} → Ready t p f k → Any
 ready-in re s q b e = let h = re .sound .named s q b e in omega (arith, h, re .sound .header .most)
 
 module _ {t p t₁ t₂ p₂ t₃ : List ℕ} {f : ℕ} {k k₁ : Counts} (s : ℕ) (re : Ready t p f k) (a : Alone t t₁ f (settleChildren (unpack t .sets) s))
-    (d : Step t₁ p t₂ p₂ f k k₁ (giveAll real (treeOf (unpack t₁ .sets)) s (from 0 64))) (e : OnTables t₂ t₃ f (eraseFile real (treeOf (unpack t₂ .sets)) s)) where
+    (d : Step t₁ p t₂ p₂ f k k₁ (giveBoth (unpack t₁ .sets) s (from 0 0) (from 0 64))) (e : OnTables t₂ t₃ f (eraseFile real (treeOf (unpack t₂ .sets)) s)) where
   -- LAW: a live file deleted
   pub deleted : Changed t p t₃ p₂ f k (totalsOf k₁) (deleteAs real (treeOf (unpack t .sets)) true s)
-  unfolding deleteAs
+  unfolding deleteAs giveAll each from
   deleted =
       let h : ℕ → Entry ℕ = λ q. unmapped in
       let x = did-then (λ S. eraseFile real (treeOf S) s)
-      (did-then (λ S. giveAll real (treeOf S) s (from 0 64)) (did-step h (a p k re)) (did-step h d)) (did-tables p₂ h k₁ e) in
+      (did-then (λ S. giveBoth S s (from 0 0) (from 0 64)) (did-step h (a p k re)) (did-step h d)) (did-tables p₂ h k₁ e) in
       record { pending = h; same = x .same; does = x .does; packed = e .packed }
 
 -- LAW: the whole delete by its rule

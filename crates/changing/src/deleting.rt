@@ -34,7 +34,7 @@ fn delete_live(t: &mut [u8], p: &mut [u8], f: usize, s: usize, k: Counts) -> Tot
     ensures { λ r. ⌜ Changed (now (t .entry)) (now (p .entry)) (now (t .exit)) (now (p .exit)) f k r (Rules.deleteAs real (treeOf (unpack (now (t .entry)) .sets)) true s) ⌝ }
 {
     settling::settle_children(t, f, s);
-    let a = giving::give_all(t, p, f, s, 0, 64, k);
+    let a = giving::give_all(t, p, f, s, 0, 0, 64, k);
     erase_file(t, f, s);
     Totals {
         taken: a.taken,

@@ -4,4 +4,5 @@ pub mod Marks
 pub mod Settled
 pub mod Chains
 pub mod Given
+pub mod Handed
 pub mod Begin

@@ -1,19 +1,21 @@
 -- For the contracts of the code, not for a reader of document 01: the rules' work on the files of one number, read off tables, pages and the counts of the code; what every step of a call needs and keeps; what a step must show.
-use mathlib.Core.Bool.{cond, not}
-use mathlib.Core.List.{List}
+use mathlib.Core.Bool.{Bool, cond, false, not, true}
+use mathlib.Core.List.{List, List·Memᴰ}
 use mathlib.Core.Path.{_≡_}
 use Prim.Native.Nat.{_*_, _+_, _-_, _<_, ℕ, _≤_}
+use lib.Dec.{ltb}
 use lib.ListN.{length}
 use Rattle.base.specs.Count.{count}
 use Rattle.base.specs.Update.{upd}
 use Rattle.rules.proofs.Steps.OneStep.{TreeOk}
 use Rattle.rules.specs.Reading.{needs, resolve}
-use Rattle.rules.specs.Rules.{Work, each, give, settle, supply}
-use Rattle.rules.specs.State.{Entry, Files, SetRecord, Tables, Tree, absentFile, live, stored, treeOf}
+use Rattle.rules.specs.Rules.{Giving, Work, copied, each, giveAll, handOver, handed, settle, supply}
+use Rattle.rules.specs.State.{Entry, Files, SetRecord, Tables, Tree, absentFile, chain, childrenOf, live, stored, treeOf}
 use Rattle.rules.specs.Storage.{Memory, PageData, real}
 use Rattle.tables.specs.Calls.{pagesOf}
 use Rattle.tables.specs.Packed.{unpack}
-use Rattle.tables.specs.Views.{HeaderIn, PackedTables, memoryOf}
+use Rattle.tables.specs.Views.{HeaderIn, PackedTables, entriesOf, memoryOf}
+use Rattle.tables.specs.declared.entries.Kept.{Kept}
 use Rattle.copying.specs.declared.giving.Counts.{Counts}
 
 -- the work on files x of one number, with the blocks pending h
@@ -77,17 +79,39 @@ Alone t t′ f op = (p : List ℕ) (k : Counts) → Ready t p f k → Step t p t
 abbrev pub onFiles : (Files ℕ → Files ℕ) → Work real → Work real
 onFiles g w = record { memory = w .memory; files = g (w .files); pending = w .pending; taken = w .taken; copies = w .copies; marks = w .marks }
 
--- steps 2 and 4, for the children of set s: each settled, each given page q
+-- step 2, for the children of set s
 abbrev pub settleChildren : (ℕ → SetRecord) → ℕ → Work real → Work real
 settleChildren sets s = each (settle real (treeOf sets)) (treeOf sets .children s)
-
-abbrev pub giveChildren : (ℕ → SetRecord) → ℕ → ℕ → Work real → Work real
-giveChildren sets s q = each (give real (treeOf sets) s q) (treeOf sets .children s)
 
 -- child c's turn for page q, which resolves to e
 abbrev pub giveAs : Tree → Entry ℕ → ℕ → ℕ → Work real → Work real
 giveAs t e q c w = cond (needs (w .files) c q) (supply real t e c q w) w
 
+-- the turns of set c and the sets behind it in its chain, n at most
+abbrev pub giveChain : (ℕ → SetRecord) → Entry ℕ → ℕ → ℕ → ℕ → Work real → Work real
+giveChain sets e q n c = each (giveAs (treeOf sets) e q) (chain sets n c)
+
+-- the sets of a chain are children of set s
+abbrev pub ChainIn : (ℕ → SetRecord) → ℕ → ℕ → ℕ → Type 0
+ChainIn sets s n c = (x : ℕ) → List·Memᴰ x (chain sets n c) → List·Memᴰ x (childrenOf sets s)
+
+-- page q of set s is taken over by set c, where that is one
+abbrev pub handIf : Tree → ℕ → ℕ → ℕ → Work real → Work real
+handIf t s q c w = cond (ltb c 8) (handOver real t s q c w) w
+
+-- how pages are given: handed over, or copied
+abbrev pub givingOf : Bool → Giving
+givingOf true = handed
+givingOf false = copied
+
+-- step 4: the pages ps of set s are copied, then the pages ds handed over
+abbrev pub giveBoth : (ℕ → SetRecord) → ℕ → List ℕ → List ℕ → Work real → Work real
+giveBoth sets s ps ds w = giveAll real (treeOf sets) handed s ds (giveAll real (treeOf sets) copied s ps w)
+
 -- what page q of file f resolves to in set s
 abbrev pub shown : List ℕ → ℕ → ℕ → ℕ → Entry ℕ
 shown t f s q = resolve (treeOf (unpack t .sets)) (unpack t .files f) s q
+
+-- what pages q, q + 1 and on of set s resolve to, n of them, is kept
+abbrev pub ShownKept : List Kept → List ℕ → ℕ → ℕ → ℕ → ℕ → Type 0
+ShownKept l t f s q n = (x : ℕ) → q ≤ x → x < q + n → entriesOf l x ≡ shown t f s x

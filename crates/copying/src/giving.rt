@@ -1,15 +1,18 @@
-// Step 4: "For each touched page ascending, for each child in order of making that needs it".
+// Step 4: "For each touched page ascending, for each child in order of making that needs it"; and of pages dropped whole: "the
+// first child that needs it takes over the block itself. Other children needing it still get copies."
 ghost use mathlib.Core.Path.{_≡_};
-ghost use mathlib.Core.Bool.{true};
+ghost use mathlib.Core.Bool.{_&&_, true};
 ghost use Prim.Native.Nat.{ℕ, _+_, _<_, _≤_};
 ghost use lib.ListN.{length};
 ghost use Rattle.rules.specs.Rules as Rules;
-ghost use Rattle.rules.specs.State.{live, stored, treeOf};
+ghost use Rattle.rules.specs.State.{isStored, live, stored, treeOf};
 ghost use Rattle.rules.specs.Storage.{real};
+ghost use Rattle.tables.specs.Layout.{tableBytes};
 ghost use Rattle.tables.specs.Packed.{unpack};
 ghost use Rattle.tables.specs.Meaning.{entryMeant};
-ghost use Rattle.tables.specs.Views.{entriesOf};
-ghost use Rattle.copying.specs.Work.{Ready, Step, giveAs, giveChildren, shown};
+ghost use Rattle.tables.specs.Views.{PackedTables};
+ghost use Rattle.copying.specs.Work.{Alone, Ready, ShownKept, Step, giveAs, giveBoth, giveChain, givingOf, handIf, shown};
+ghost use Rattle.copying.specs.Turns.{TurnsFound};
 use crate::marking;
 use maps::resolving;
 use tables::entries;
@@ -102,22 +105,23 @@ fn give(t: &mut [u8], p: &mut [u8], f: usize, page: Page, e: Entry, c: usize, k:
     supply(t, p, f, c, page, e, k)
 }
 
-// Each child's turn for a page of set s, which resolves to e, in order of making.
-fn give_children(
+// The turns of set c and the sets behind it in its chain, n at most, for a page that resolves to e.
+fn give_chain(
     t: &mut [u8],
     p: &mut [u8],
     f: usize,
-    s: usize,
     page: Page,
     e: Entry,
+    first: usize,
+    most: usize,
     k: Counts,
 ) -> Counts
-    requires { ⌜ Ready (now t) (now p) f k × (s < 8) × (page .0 < 64) × (unpack (now t) .sets s .used ≡ true) × (entryMeant e ≡ shown (now t) f s (page .0)) ⌝ }
-    ensures { λ r. ⌜ Step (now (t .entry)) (now (p .entry)) (now (t .exit)) (now (p .exit)) f k r (giveChildren (unpack (now (t .entry)) .sets) s (page .0)) ⌝ }
+    requires { ⌜ Ready (now t) (now p) f k × (page .0 < 64) × ((b : ℕ) → entryMeant e ≡ stored b → b < unpack (now t) .blocks) × (most ≤ 8) ⌝ }
+    ensures { λ r. ⌜ Step (now (t .entry)) (now (p .entry)) (now (t .exit)) (now (p .exit)) f k r (giveChain (unpack (now (t .entry)) .sets) (entryMeant e) (page .0) most first) ⌝ }
 {
     let mut w = k;
-    let mut c = sets::first_child_of(&*t, s);
-    let mut n: usize = 8;
+    let mut c = first;
+    let mut n = most;
     while 0 < n {
         if 8 <= c {
             return w;
@@ -129,7 +133,84 @@ fn give_children(
     w
 }
 
-// Each of m pages of set s from page number `first` on, for each child; what they resolve to is kept.
+// Whose turns a page's are: those of set `first` and the sets behind it in its chain, `most` at most; then the block goes to set
+// `heir`, where that is one.
+struct InTurn {
+    first: usize,
+    most: usize,
+    heir: usize,
+}
+
+// Is a page of set s handed over, where pages are: is it "stored in the file's own map"?
+fn is_gift(t: &[u8], f: usize, s: usize, page: Page, hands: bool) -> bool
+    requires { ⌜ (length (now t) ≡ tableBytes) × (f < 16) × (s < 8) × (page .0 < 64) ⌝ }
+    ensures { λ r. ⌜ r ≡ (hands && isStored (unpack (now (t .entry)) .files f s .map (page .0))) ⌝ }
+{
+    if !hands {
+        return false;
+    }
+    entries::is_stored(entries::entry_at(t, f, s, page))
+}
+
+// The children of set s: all of them, or, for a block handed over, those behind the first that needs the page, the heir.
+fn in_turn(t: &[u8], f: usize, s: usize, page: Page, gift: bool) -> InTurn
+    requires { ⌜ (length (now t) ≡ tableBytes) × (f < 16) × (s < 8) × (page .0 < 64) × (unpack (now t) .sets s .used ≡ true) ⌝ }
+    ensures { λ r. ⌜ TurnsFound (unpack (now (t .entry))) f s (page .0) gift r ⌝ }
+{
+    let mut c = sets::first_child_of(t, s);
+    let mut n: usize = 8;
+    if !gift {
+        return InTurn { first: c, most: n, heir: 8 };
+    }
+    while 0 < n {
+        if 8 <= c {
+            return InTurn { first: c, most: 0, heir: 8 };
+        }
+        let next = sets::next_sibling_of(t, c);
+        if maps::marking::needs(t, f, c, page) {
+            return InTurn { first: next, most: n - 1, heir: c };
+        }
+        c = next;
+        n -= 1;
+    }
+    InTurn { first: c, most: 0, heir: 8 }
+}
+
+// The entry that a page has in set s moves to the map of set c, if there is such a set.
+fn hand_over(t: &mut [u8], f: usize, s: usize, page: Page, c: usize)
+    requires { ⌜ PackedTables (now t) × (f < 16) × (s < 8) × (page .0 < 64) × ((b : ℕ) → unpack (now t) .files f s .map (page .0) ≡ stored b → b < 4096) ⌝ }
+    ensures { λ _. ⌜ Alone (now (t .entry)) (now (t .exit)) f (handIf (treeOf (unpack (now (t .entry)) .sets)) s (page .0) c) ⌝ }
+{
+    if 8 <= c {
+        return;
+    }
+    let e = entries::entry_at(&*t, f, s, page);
+    entries::put_entry(t, f, c, page, e);
+    entries::put_entry(t, f, s, page, Entry::Hole);
+}
+
+// A page of set s, which resolves to e, for each child.
+fn give_page(
+    t: &mut [u8],
+    p: &mut [u8],
+    f: usize,
+    s: usize,
+    page: Page,
+    e: Entry,
+    hands: bool,
+    k: Counts,
+) -> Counts
+    requires { ⌜ Ready (now t) (now p) f k × (s < 8) × (page .0 < 64) × (unpack (now t) .sets s .used ≡ true) × (entryMeant e ≡ shown (now t) f s (page .0)) ⌝ }
+    ensures { λ r. ⌜ Step (now (t .entry)) (now (p .entry)) (now (t .exit)) (now (p .exit)) f k r (Rules.givePage real (treeOf (unpack (now (t .entry)) .sets)) (givingOf hands) s (page .0)) ⌝ }
+{
+    let gift = is_gift(&*t, f, s, page, hands);
+    let r = in_turn(&*t, f, s, page, gift);
+    let w = give_chain(t, p, f, page, e, r.first, r.most, k);
+    hand_over(t, f, s, page, r.heir);
+    w
+}
+
+// Each of m pages of set s from page number `first` on; what they resolve to is kept.
 fn give_pages(
     t: &mut [u8],
     p: &mut [u8],
@@ -138,24 +219,26 @@ fn give_pages(
     s: usize,
     first: usize,
     m: usize,
+    hands: bool,
     k: Counts,
 ) -> Counts
-    requires { ⌜ Ready (now t) (now p) f k × (s < 8) × (first + m ≤ 64) × (unpack (now t) .sets s .used ≡ true) × (length kept ≡ 64) × ((q : ℕ) → first ≤ q → q < first + m → entriesOf kept q ≡ shown (now t) f s q) ⌝ }
-    ensures { λ r. ⌜ Step (now (t .entry)) (now (p .entry)) (now (t .exit)) (now (p .exit)) f k r (Rules.giveAll real (treeOf (unpack (now (t .entry)) .sets)) s (Rules.from first m)) ⌝ }
+    requires { ⌜ Ready (now t) (now p) f k × (s < 8) × (first + m ≤ 64) × (unpack (now t) .sets s .used ≡ true) × (length kept ≡ 64) × ShownKept kept (now t) f s first m ⌝ }
+    ensures { λ r. ⌜ Step (now (t .entry)) (now (p .entry)) (now (t .exit)) (now (p .exit)) f k r (Rules.giveAll real (treeOf (unpack (now (t .entry)) .sets)) (givingOf hands) s (Rules.from first m)) ⌝ }
 {
     let mut w = k;
     let mut q = first;
     let mut n = m;
     while 0 < n {
         let x = kept[q];
-        w = give_children(t, p, f, s, Page::new(q), x.entry(), w);
+        w = give_page(t, p, f, s, Page::new(q), x.entry(), hands, w);
         q += 1;
         n -= 1;
     }
     w
 }
 
-// The same; what the pages resolve to is found first, for all at once, since giving does not change it.
+// The whole step: m pages of set s from page number `first` on are copied, the d pages behind them handed over where the file's own map
+// stores them. What the pages resolve to is found first, for all at once, since giving a page does not change it for the others.
 pub fn give_all(
     t: &mut [u8],
     p: &mut [u8],
@@ -163,15 +246,17 @@ pub fn give_all(
     s: usize,
     first: usize,
     m: usize,
+    d: usize,
     k: Counts,
 ) -> Counts
-    requires { ⌜ Ready (now t) (now p) f k × (s < 8) × (first + m ≤ 64) × (unpack (now t) .sets s .used ≡ true) ⌝ }
-    ensures { λ r. ⌜ Step (now (t .entry)) (now (p .entry)) (now (t .exit)) (now (p .exit)) f k r (Rules.giveAll real (treeOf (unpack (now (t .entry)) .sets)) s (Rules.from first m)) ⌝ }
+    requires { ⌜ Ready (now t) (now p) f k × (s < 8) × (first + m + d ≤ 64) × (unpack (now t) .sets s .used ≡ true) ⌝ }
+    ensures { λ r. ⌜ Step (now (t .entry)) (now (p .entry)) (now (t .exit)) (now (p .exit)) f k r (giveBoth (unpack (now (t .entry)) .sets) s (Rules.from first m) (Rules.from (first + m) d)) ⌝ }
 {
     if 8 <= sets::first_child_of(&*t, s) {
         return k;
     }
-    let r = resolving::resolve_range(&*t, f, s, first, m);
+    let r = resolving::resolve_range(&*t, f, s, first, m + d);
     let kept = r.kept;
-    give_pages(t, p, kept, f, s, first, m, k)
+    let a = give_pages(t, p, kept, f, s, first, m, false, k);
+    give_pages(t, p, kept, f, s, first + m, d, true, a)
 }

@@ -14,11 +14,11 @@ use Rattle.changing.specs.Tables.{OnTables}
 use Rattle.changing.specs.Whole.{Changed, ChangedAlone, startCounts, totalsOf}
 use Rattle.copying.proofs.Begin.{ready-begin}
 use Rattle.copying.specs.Changes.{settled}
-use Rattle.copying.specs.Work.{Alone, Ready, Step, settleChildren, work}
+use Rattle.copying.specs.Work.{Alone, Ready, Step, giveBoth, settleChildren, work}
 use Rattle.entering.specs.Pending.{Reserves, StepAt}
 use Rattle.rules.proofs.Formed.Shape.{size-most}
 use Rattle.rules.specs.Reading.{resolve, sizeByReading}
-use Rattle.rules.specs.Rules.{Work, change, cutPages, dropPage, droppedPages, each, enter, from, giveAll, keptPages, ownNeed, reserve, resize, settle, truncateAs, truncateFile, truncateNeed}
+use Rattle.rules.specs.Rules.{Work, change, copied, cutPages, dropPage, droppedPages, each, enter, from, giveAll, handed, keptPages, ownNeed, partPages, reserve, resize, settle, truncateAs, truncateFile, truncateNeed}
 use Rattle.rules.specs.State.{Entry, Files, Tree, isStored, treeOf, unmapped}
 use Rattle.rules.specs.Storage.{PageData, real, zeroFrom}
 use Rattle.tables.proofs.FormedStore.{formed-store}
@@ -44,24 +44,24 @@ module _ {t t₁ t₂ t₃ : List ℕ} {f : ℕ} (s n : ℕ) (a : Turns t t₁ (
 
 -- ---- below it, where no page stays stored
 
-module _ {t p t₁ t₂ t₃ p₃ t₄ t₅ : List ℕ} {f : ℕ} {k k₁ : Counts} (s q m at d n : ℕ) (re : Ready t p f k) (a : Turns t t₁ (settled f s)) (b : Alone t₁ t₂ f (settleChildren (unpack t₁ .sets) s))
-    (c : Step t₂ p t₃ p₃ f k k₁ (giveAll real (treeOf (unpack t₂ .sets)) s (from q m))) (e : OnTables t₃ t₄ f (each (dropPage real (treeOf (unpack t₃ .sets)) s) (from at d)))
+module _ {t p t₁ t₂ t₃ p₃ t₄ t₅ : List ℕ} {f : ℕ} {k k₁ : Counts} (s q m d n : ℕ) (re : Ready t p f k) (a : Turns t t₁ (settled f s)) (b : Alone t₁ t₂ f (settleChildren (unpack t₁ .sets) s))
+    (c : Step t₂ p t₃ p₃ f k k₁ (giveBoth (unpack t₂ .sets) s (from q m) (from (q + m) d))) (e : OnTables t₃ t₄ f (each (dropPage real (treeOf (unpack t₃ .sets)) s) (from (q + m) d)))
     (g : OnTables t₄ t₅ f (resize real (treeOf (unpack t₄ .sets)) s n)) where
   away : Did t p (λ q. unmapped) t₅ p₃ (λ q. unmapped) f k k₁
-      (λ w. resize real (treeOf (unpack t .sets)) s n (each (dropPage real (treeOf (unpack t .sets)) s) (from at d) (giveAll real (treeOf (unpack t .sets)) s (from q m) (settleBoth s (unpack t .sets) w))))
+      (λ w. resize real (treeOf (unpack t .sets)) s n (each (dropPage real (treeOf (unpack t .sets)) s) (from (q + m) d) (giveBoth (unpack t .sets) s (from q m) (from (q + m) d) (settleBoth s (unpack t .sets) w))))
   away =
       let h : ℕ → Entry ℕ = λ q. unmapped in
       did-then (λ S. resize real (treeOf S) s n)
-      (did-then (λ S. each (dropPage real (treeOf S) s) (from at d))
-      (did-then (λ S. giveAll real (treeOf S) s (from q m)) (both-did s re a b h) (did-step h c)) (did-tables p₃ h k₁ e)) (did-tables p₃ h k₁ g)
+      (did-then (λ S. each (dropPage real (treeOf S) s) (from (q + m) d))
+      (did-then (λ S. giveBoth S s (from q m) (from (q + m) d)) (both-did s re a b h) (did-step h c)) (did-tables p₃ h k₁ e)) (did-tables p₃ h k₁ g)
 
   is-away : (tree : Tree) (w : Work real)
-      → resize real tree s n (each (dropPage real tree s) (from at d) (giveAll real tree s (from q m) (each (settle real tree) (tree .children s) (settle real tree s w)))) ≡ change real tree s (from q m) [] (from at d) (λ i. zeroFrom (n % 512)) (λ i. n) w
+      → resize real tree s n (each (dropPage real tree s) (from (q + m) d) (giveAll real tree handed s (from (q + m) d) (giveAll real tree copied s (from q m) (each (settle real tree) (tree .children s) (settle real tree s w))))) ≡ change real tree s (from q m) [] (from (q + m) d) (λ i. zeroFrom (n % 512)) (λ i. n) w
   unfolding change each
   is-away tree w = refl
 
   -- LAW
-  pub cut-away : Changed t p t₅ p₃ f k (totalsOf k₁) (change real (treeOf (unpack t .sets)) s (from q m) [] (from at d) (λ i. zeroFrom (n % 512)) (λ i. n))
+  pub cut-away : Changed t p t₅ p₃ f k (totalsOf k₁) (change real (treeOf (unpack t .sets)) s (from q m) [] (from (q + m) d) (λ i. zeroFrom (n % 512)) (λ i. n))
   cut-away = record {
     pending = λ q. unmapped;
     same = away .same;
@@ -71,29 +71,29 @@ module _ {t p t₁ t₂ t₃ p₃ t₄ t₅ : List ℕ} {f : ℕ} {k k₁ : Coun
 
 -- ---- where the page of the new size stays stored
 
-module _ {t p t₁ t₂ t₃ t₄ p₄ t₅ p₅ t₆ t₇ : List ℕ} {l₀ l : List Pending} {f : ℕ} {k k₁ k₂ : Counts} (s q m at d n x : ℕ) (lay : ℕ → PageData → PageData) (el : l₀ ≡ nonePending) (ex : x ≡ q) (re : Ready t p f k)
+module _ {t p t₁ t₂ t₃ t₄ p₄ t₅ p₅ t₆ t₇ : List ℕ} {l₀ l : List Pending} {f : ℕ} {k k₁ k₂ : Counts} (s q d n x : ℕ) (lay : ℕ → PageData → PageData) (el : l₀ ≡ nonePending) (ex : x ≡ q) (re : Ready t p f k)
     (a : Turns t t₁ (settled f s)) (b : Alone t₁ t₂ f (settleChildren (unpack t₁ .sets) s)) (c : Reserves t₂ t₃ l₀ l f k k₁ (each (reserve real (treeOf (unpack t₂ .sets)) s) (from q 1)))
-    (g : Step t₃ p t₄ p₄ f k₁ k₂ (giveAll real (treeOf (unpack t₃ .sets)) s (from q m))) (e : StepAt (pendingOf l) t₄ p₄ t₅ p₅ f k₂ (enter real (treeOf (unpack t₄ .sets)) s lay x))
-    (o : OnTables t₅ t₆ f (each (dropPage real (treeOf (unpack t₅ .sets)) s) (from at d))) (z : OnTables t₆ t₇ f (resize real (treeOf (unpack t₆ .sets)) s n)) where
+    (g : Step t₃ p t₄ p₄ f k₁ k₂ (giveBoth (unpack t₃ .sets) s (from q 1) (from (q + 1) d))) (e : StepAt (pendingOf l) t₄ p₄ t₅ p₅ f k₂ (enter real (treeOf (unpack t₄ .sets)) s lay x))
+    (o : OnTables t₅ t₆ f (each (dropPage real (treeOf (unpack t₅ .sets)) s) (from (q + 1) d))) (z : OnTables t₆ t₇ f (resize real (treeOf (unpack t₆ .sets)) s n)) where
   kept : Did t p (pendingOf l₀) t₇ p₅ (pendingOf l) f k k₂
-      (λ w. resize real (treeOf (unpack t .sets)) s n (each (dropPage real (treeOf (unpack t .sets)) s) (from at d) (enter real (treeOf (unpack t .sets)) s lay x
-      (giveAll real (treeOf (unpack t .sets)) s (from q m) (each (reserve real (treeOf (unpack t .sets)) s) (from q 1) (settleBoth s (unpack t .sets) w))))))
+      (λ w. resize real (treeOf (unpack t .sets)) s n (each (dropPage real (treeOf (unpack t .sets)) s) (from (q + 1) d) (enter real (treeOf (unpack t .sets)) s lay x
+      (giveBoth (unpack t .sets) s (from q 1) (from (q + 1) d) (each (reserve real (treeOf (unpack t .sets)) s) (from q 1) (settleBoth s (unpack t .sets) w))))))
   kept =
       did-then (λ S. resize real (treeOf S) s n)
-      (did-then (λ S. each (dropPage real (treeOf S) s) (from at d))
+      (did-then (λ S. each (dropPage real (treeOf S) s) (from (q + 1) d))
       (did-then (λ S. enter real (treeOf S) s lay x)
-      (did-then (λ S. giveAll real (treeOf S) s (from q m))
+      (did-then (λ S. giveBoth S s (from q 1) (from (q + 1) d))
       (did-then (λ S. each (reserve real (treeOf S) s) (from q 1)) (both-did s re a b (pendingOf l₀)) (record { same = c .same; does = c .does (pagesOf p) })) (did-step (pendingOf l) g))
       (record { same = e .same; does = e .does })) (did-tables p₅ (pendingOf l) k₂ o)) (did-tables p₅ (pendingOf l) k₂ z)
 
   is-kept : (tree : Tree) (w : Work real)
-      → resize real tree s n (each (dropPage real tree s) (from at d) (enter real tree s lay q (giveAll real tree s (from q m) (each (reserve real tree s) (from q 1) (each (settle real tree) (tree .children s) (settle real tree s w))))))
-      ≡ change real tree s (from q m) (from q 1) (from at d) lay (λ i. n) w
+      → resize real tree s n (each (dropPage real tree s) (from (q + 1) d) (enter real tree s lay q (giveAll real tree handed s (from (q + 1) d) (giveAll real tree copied s (from q 1) (each (reserve real tree s) (from q 1) (each (settle real tree) (tree .children s) (settle real tree s w)))))))
+      ≡ change real tree s (from q 1) (from q 1) (from (q + 1) d) lay (λ i. n) w
   unfolding change each from
   is-kept tree w = refl
 
   -- LAW
-  pub cut-kept : Changed t p t₇ p₅ f k (totalsOf k₂) (change real (treeOf (unpack t .sets)) s (from q m) (from q 1) (from at d) lay (λ i. n))
+  pub cut-kept : Changed t p t₇ p₅ f k (totalsOf k₂) (change real (treeOf (unpack t .sets)) s (from q 1) (from q 1) (from (q + 1) d) lay (λ i. n))
   cut-kept =
       let tree = treeOf (unpack t .sets) in
       record {
@@ -101,27 +101,33 @@ module _ {t p t₁ t₂ t₃ t₄ p₄ t₅ p₅ t₆ t₇ : List ℕ} {l₀ l :
         same = kept .same;
         does =
             kept .does
-            ∙ ap (λ y. resize real tree s n (each (dropPage real tree s) (from at d) (enter real tree s lay y
-            (giveAll real tree s (from q m) (each (reserve real tree s) (from q 1) (settleBoth s (unpack t .sets) (work (unpack t) (pagesOf p) f (pendingOf l₀) k))))))) ex
+            ∙ ap (λ y. resize real tree s n (each (dropPage real tree s) (from (q + 1) d) (enter real tree s lay y
+            (giveBoth (unpack t .sets) s (from q 1) (from (q + 1) d) (each (reserve real tree s) (from q 1) (settleBoth s (unpack t .sets) (work (unpack t) (pagesOf p) f (pendingOf l₀) k))))))) ex
             ∙ is-kept tree (work (unpack t) (pagesOf p) f (pendingOf l₀) k)
-            ∙ ap (λ (h : ℕ → Entry ℕ). change real tree s (from q m) (from q 1) (from at d) lay (λ i. n) (work (unpack t) (pagesOf p) f h k)) (ap pendingOf el ∙ none-pending);
+            ∙ ap (λ (h : ℕ → Entry ℕ). change real tree s (from q 1) (from q 1) (from (q + 1) d) lay (λ i. n) (work (unpack t) (pagesOf p) f h k)) (ap pendingOf el ∙ none-pending);
         packed = z .packed;
       }
 
 -- ---- which pages
 
 module _ (n z : ℕ) where
-  pages-all : cutPages n z ≡ from (n / 512) ((z - 1) / 512 - n / 512 + 1)
-  unfolding cutPages
-  pages-all = ap (from (n / 512)) (sym (add-one ((z - 1) / 512 - n / 512)))
+  part-even : n % 512 ≡ 0 → partPages n ≡ from (n / 512) 0
+  unfolding partPages from
+  part-even h = rw (eq-eqb (n % 512) 0 h)
+
+  part-odd : (n % 512 ≡ 0 → ⊥) → partPages n ≡ from (n / 512) 1
+  unfolding partPages from
+  part-odd h = rw (ne-eqb (n % 512) 0 h)
 
   kept-even : (e : Entry ℕ) → n % 512 ≡ 0 → keptPages n e ≡ []
   unfolding keptPages
   kept-even e h = rw (eq-eqb (n % 512) 0 h)
 
-  dropped-even : n % 512 ≡ 0 → droppedPages n z ≡ from (n / 512) ((z - 1) / 512 - n / 512 + 1)
-  unfolding droppedPages
-  dropped-even h = rw (eq-eqb (n % 512) 0 h) pages-all
+  dropped-even : n % 512 ≡ 0 → droppedPages n z ≡ from (n / 512 + 0) ((z - 1) / 512 - n / 512 + 1)
+  unfolding droppedPages cutPages
+  dropped-even h =
+      let x : n / 512 + 0 ≡ n / 512 = omega arith in
+      rw (eq-eqb (n % 512) 0 h) (ap (from (n / 512)) (sym (add-one ((z - 1) / 512 - n / 512))) ∙ ap (λ i. from i ((z - 1) / 512 - n / 512 + 1)) (sym x))
 
   dropped-odd : (n % 512 ≡ 0 → ⊥) → droppedPages n z ≡ from (n / 512 + 1) ((z - 1) / 512 - n / 512 + 1 - 1)
   unfolding droppedPages
@@ -156,24 +162,24 @@ abbrev cutLay : ℕ → ℕ → PageData → PageData
 cutLay n q = zeroFrom (n % 512)
 
 abbrev allPages : ℕ → ℕ → List ℕ
-allPages n z = from (n / 512) ((z - 1) / 512 - n / 512 + 1)
+allPages n z = from (n / 512 + 0) ((z - 1) / 512 - n / 512 + 1)
 
 abbrev laterPages : ℕ → ℕ → List ℕ
 laterPages n z = from (n / 512 + 1) ((z - 1) / 512 - n / 512 + 1 - 1)
 
 module _ {t p t′ p′ : List ℕ} {f : ℕ} {k : Counts} {r : Totals} (s n z : ℕ) (e : Entry ℕ) where
   -- LAWS: the three ways
-  pub cut-even : n % 512 ≡ 0 → Changed t p t′ p′ f k r (change real (treeOf (unpack t .sets)) s (allPages n z) [] (allPages n z) (cutLay n) (λ i. n))
-      → Changed t p t′ p′ f k r (change real (treeOf (unpack t .sets)) s (cutPages n z) (keptPages n e) (droppedPages n z) (cutLay n) (λ i. n))
-  cut-even h c = changed-pages s n (cutLay n) _ _ _ _ _ _ (pages-all n z) (kept-even n z e h) (dropped-even n z h) c
+  pub cut-even : n % 512 ≡ 0 → Changed t p t′ p′ f k r (change real (treeOf (unpack t .sets)) s (from (n / 512) 0) [] (allPages n z) (cutLay n) (λ i. n))
+      → Changed t p t′ p′ f k r (change real (treeOf (unpack t .sets)) s (partPages n) (keptPages n e) (droppedPages n z) (cutLay n) (λ i. n))
+  cut-even h c = changed-pages s n (cutLay n) _ _ _ _ _ _ (part-even n z h) (kept-even n z e h) (dropped-even n z h) c
 
-  pub cut-hole : (n % 512 ≡ 0 → ⊥) → isStored e ≡ false → Changed t p t′ p′ f k r (change real (treeOf (unpack t .sets)) s (allPages n z) [] (laterPages n z) (cutLay n) (λ i. n))
-      → Changed t p t′ p′ f k r (change real (treeOf (unpack t .sets)) s (cutPages n z) (keptPages n e) (droppedPages n z) (cutLay n) (λ i. n))
-  cut-hole h u c = changed-pages s n (cutLay n) _ _ _ _ _ _ (pages-all n z) (kept-hole n z e h u) (dropped-odd n z h) c
+  pub cut-hole : (n % 512 ≡ 0 → ⊥) → isStored e ≡ false → Changed t p t′ p′ f k r (change real (treeOf (unpack t .sets)) s (from (n / 512) 1) [] (laterPages n z) (cutLay n) (λ i. n))
+      → Changed t p t′ p′ f k r (change real (treeOf (unpack t .sets)) s (partPages n) (keptPages n e) (droppedPages n z) (cutLay n) (λ i. n))
+  cut-hole h u c = changed-pages s n (cutLay n) _ _ _ _ _ _ (part-odd n z h) (kept-hole n z e h u) (dropped-odd n z h) c
 
-  pub cut-stored : (n % 512 ≡ 0 → ⊥) → isStored e ≡ true → Changed t p t′ p′ f k r (change real (treeOf (unpack t .sets)) s (allPages n z) (from (n / 512) 1) (laterPages n z) (cutLay n) (λ i. n))
-      → Changed t p t′ p′ f k r (change real (treeOf (unpack t .sets)) s (cutPages n z) (keptPages n e) (droppedPages n z) (cutLay n) (λ i. n))
-  cut-stored h u c = changed-pages s n (cutLay n) _ _ _ _ _ _ (pages-all n z) (kept-stored n z e h u) (dropped-odd n z h) c
+  pub cut-stored : (n % 512 ≡ 0 → ⊥) → isStored e ≡ true → Changed t p t′ p′ f k r (change real (treeOf (unpack t .sets)) s (from (n / 512) 1) (from (n / 512) 1) (laterPages n z) (cutLay n) (λ i. n))
+      → Changed t p t′ p′ f k r (change real (treeOf (unpack t .sets)) s (partPages n) (keptPages n e) (droppedPages n z) (cutLay n) (λ i. n))
+  cut-stored h u c = changed-pages s n (cutLay n) _ _ _ _ _ _ (part-odd n z h) (kept-stored n z e h u) (dropped-odd n z h) c
 
 -- ---- the rule of truncate
 
@@ -201,7 +207,7 @@ module _ (t p : List ℕ) (f s n z : ℕ) (ez : z ≡ sizeByReading (treeOf (unp
 
   -- LAW: below it
   pub truncate-below : {t′ p′ : List ℕ} {r : Totals} (left : ℕ) → (n ≡ z → ⊥) → n ≤ z
-      → Changed t p t′ p′ f (begun left) r (change real (treeOf (unpack t .sets)) s (cutPages n z) (keptPages n (resolve (treeOf (unpack t .sets)) (unpack t .files f) s (n / 512))) (droppedPages n z) (λ q. zeroFrom (n % 512)) (λ i. n))
+      → Changed t p t′ p′ f (begun left) r (change real (treeOf (unpack t .sets)) s (partPages n) (keptPages n (resolve (treeOf (unpack t .sets)) (unpack t .files f) s (n / 512))) (droppedPages n z) (λ q. zeroFrom (n % 512)) (λ i. n))
       → Changed t p t′ p′ f startCounts r (truncateFile real (treeOf (unpack t .sets)) s n)
   unfolding truncateAs
   truncate-below left h l c = record { pending = c .pending; same = c .same; does = c .does ∙ (rw (ne-eqb n z h, le-ltb z n l)) ∙ as-size; packed = c .packed }

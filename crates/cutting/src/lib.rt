@@ -35,7 +35,8 @@ fn grow(t: &mut [u8], f: usize, s: usize, n: usize)
     dropping::resize(t, f, s, n);
 }
 
-// Below it, where no page stays stored: m pages from page number `first` on are given, d pages from `at` on become holes.
+// Below it, where no page stays stored: m pages from page number `first` on are copied, the d pages behind them are handed over and
+// become holes.
 fn cut_away(
     t: &mut [u8],
     p: &mut [u8],
@@ -43,18 +44,17 @@ fn cut_away(
     s: usize,
     first: usize,
     m: usize,
-    at: usize,
     d: usize,
     n: usize,
     k: Counts,
 ) -> Totals
-    requires { ⌜ Ready (now t) (now p) f k × (s < 8) × (unpack (now t) .sets s .used ≡ true) × (first + m ≤ 64) × (at + d ≤ 64) × (n < 65536) ⌝ }
-    ensures { λ r. ⌜ Changed (now (t .entry)) (now (p .entry)) (now (t .exit)) (now (p .exit)) f k r (Rules.change real (treeOf (unpack (now (t .entry)) .sets)) s (Rules.from first m) [] (Rules.from at d) (λ q. zeroFrom (n % 512)) (λ i. n)) ⌝ }
+    requires { ⌜ Ready (now t) (now p) f k × (s < 8) × (unpack (now t) .sets s .used ≡ true) × (first + m + d ≤ 64) × (n < 65536) ⌝ }
+    ensures { λ r. ⌜ Changed (now (t .entry)) (now (p .entry)) (now (t .exit)) (now (p .exit)) f k r (Rules.change real (treeOf (unpack (now (t .entry)) .sets)) s (Rules.from first m) [] (Rules.from (first + m) d) (λ q. zeroFrom (n % 512)) (λ i. n)) ⌝ }
 {
     settling::settle_set(t, f, s);
     settling::settle_children(t, f, s);
-    let b = giving::give_all(t, p, f, s, first, m, k);
-    dropping::drop_pages(t, f, s, at, d);
+    let b = giving::give_all(t, p, f, s, first, m, d, k);
+    dropping::drop_pages(t, f, s, first + m, d);
     dropping::resize(t, f, s, n);
     Totals {
         taken: b.taken,
@@ -63,7 +63,7 @@ fn cut_away(
     }
 }
 
-// Below it, where the page of the new size stays stored.
+// Below it, where the page of the new size stays stored: it is copied, the m - 1 pages behind it are handed over and become holes.
 fn cut_kept(
     t: &mut [u8],
     p: &mut [u8],
@@ -75,7 +75,7 @@ fn cut_kept(
     k: Counts,
 ) -> Totals
     requires { ⌜ Ready (now t) (now p) f k × (s < 8) × (unpack (now t) .sets s .used ≡ true) × (0 < m) × (first + m ≤ 64) × (n < 65536) × (Rules.ownNeed real s (Rules.from first 1) (unpack (now t) .files f) ≤ k .left) ⌝ }
-    ensures { λ r. ⌜ Changed (now (t .entry)) (now (p .entry)) (now (t .exit)) (now (p .exit)) f k r (Rules.change real (treeOf (unpack (now (t .entry)) .sets)) s (Rules.from first m) (Rules.from first 1) (Rules.from (first + 1) (m - 1)) (λ q. zeroFrom (n % 512)) (λ i. n)) ⌝ }
+    ensures { λ r. ⌜ Changed (now (t .entry)) (now (p .entry)) (now (t .exit)) (now (p .exit)) f k r (Rules.change real (treeOf (unpack (now (t .entry)) .sets)) s (Rules.from first 1) (Rules.from first 1) (Rules.from (first + 1) (m - 1)) (λ q. zeroFrom (n % 512)) (λ i. n)) ⌝ }
 {
     settling::settle_set(t, f, s);
     settling::settle_children(t, f, s);
@@ -83,7 +83,7 @@ fn cut_kept(
     let pending = r.pending;
     let own = pending[first];
     let a = r.counts;
-    let b = giving::give_all(t, p, f, s, first, m, a);
+    let b = giving::give_all(t, p, f, s, first, 1, m - 1, a);
     zeroing::enter_cut(t, p, own, f, s, Page::new(first), n % 512, b);
     dropping::drop_pages(t, f, s, first + 1, m - 1);
     dropping::resize(t, f, s, n);
@@ -97,17 +97,17 @@ fn cut_kept(
 // Below it: the size becomes n, which was z.
 fn cut(t: &mut [u8], p: &mut [u8], f: usize, s: usize, n: usize, z: usize, k: Counts) -> Totals
     requires { ⌜ Ready (now t) (now p) f k × (s < 8) × (unpack (now t) .sets s .used ≡ true) × (n < z) × (z ≤ 32768) × (Rules.ownNeed real s (Rules.keptPages n (resolve (treeOf (unpack (now t) .sets)) (unpack (now t) .files f) s (n / 512))) (unpack (now t) .files f) ≤ k .left) ⌝ }
-    ensures { λ r. ⌜ Changed (now (t .entry)) (now (p .entry)) (now (t .exit)) (now (p .exit)) f k r (Rules.change real (treeOf (unpack (now (t .entry)) .sets)) s (Rules.cutPages n z) (Rules.keptPages n (resolve (treeOf (unpack (now (t .entry)) .sets)) (unpack (now (t .entry)) .files f) s (n / 512))) (Rules.droppedPages n z) (λ q. zeroFrom (n % 512)) (λ i. n)) ⌝ }
+    ensures { λ r. ⌜ Changed (now (t .entry)) (now (p .entry)) (now (t .exit)) (now (p .exit)) f k r (Rules.change real (treeOf (unpack (now (t .entry)) .sets)) s (Rules.partPages n) (Rules.keptPages n (resolve (treeOf (unpack (now (t .entry)) .sets)) (unpack (now (t .entry)) .files f) s (n / 512))) (Rules.droppedPages n z) (λ q. zeroFrom (n % 512)) (λ i. n)) ⌝ }
 {
     let first = n / 512;
     let m = (z - 1) / 512 - first + 1;
     if n % 512 == 0 {
-        return cut_away(t, p, f, s, first, m, first, m, n, k);
+        return cut_away(t, p, f, s, first, 0, m, n, k);
     }
     let r = reading::resolve_in(&*t, f, Page::new(first), s);
     let e = r.entry;
     if !entries::is_stored(e) {
-        return cut_away(t, p, f, s, first, m, first + 1, m - 1, n, k);
+        return cut_away(t, p, f, s, first, 1, m - 1, n, k);
     }
     cut_kept(t, p, f, s, first, m, n, k)
 }

@@ -10,7 +10,7 @@ use Rattle.changing.proofs.Whole.{Did, begun, both-did, did-step, did-then, set
 use Rattle.changing.specs.Tables.{OnTables}
 use Rattle.changing.specs.Whole.{Changed, startCounts, totalsOf}
 use Rattle.copying.specs.Changes.{settled}
-use Rattle.copying.specs.Work.{Alone, Ready, Rest, Step, settleChildren, work}
+use Rattle.copying.specs.Work.{Alone, Ready, Rest, Step, giveBoth, settleChildren, work}
 use Rattle.entering.specs.Pending.{Reserves, StepAt}
 use Rattle.rules.specs.Rules.{Work, change, each, enter, from, giveAll, ownNeed, reserve, resize, touched, writeFile}
 use Rattle.rules.specs.State.{Entry, SetRecord, Tree, treeOf, unmapped}
@@ -27,22 +27,22 @@ use Rattle.tables.specs.declared.entries.Pending.{Pending}
 
 module _ {t p t₁ t₂ t₃ t₄ p₄ t₅ p₅ t₆ : List ℕ} {l₀ l : List Pending} {f : ℕ} {k k₁ k₂ : Counts} (s q n : ℕ) (lay : ℕ → PageData → PageData) (end z y : ℕ) (el : l₀ ≡ nonePending) (ey : y ≡ max z end) (re : Ready t p f k)
     (a : Turns t t₁ (settled f s)) (b : Alone t₁ t₂ f (settleChildren (unpack t₁ .sets) s)) (c : Reserves t₂ t₃ l₀ l f k k₁ (each (reserve real (treeOf (unpack t₂ .sets)) s) (from q n)))
-    (d : Step t₃ p t₄ p₄ f k₁ k₂ (giveAll real (treeOf (unpack t₃ .sets)) s (from q n)))
+    (d : Step t₃ p t₄ p₄ f k₁ k₂ (giveBoth (unpack t₃ .sets) s (from q n) (from (q + n) 0)))
     (e : StepAt (pendingOf l) t₄ p₄ t₅ p₅ f k₂ (each (enter real (treeOf (unpack t₄ .sets)) s lay) (from q n))) (zz : z ≡ unpack t₅ .files f s .size)
     (g : OnTables t₅ t₆ f (resize real (treeOf (unpack t₅ .sets)) s y)) where
   abbrev parts : (ℕ → SetRecord) → Work real → Work real
-  parts S w = each (enter real (treeOf S) s lay) (from q n) (giveAll real (treeOf S) s (from q n) (each (reserve real (treeOf S) s) (from q n) (settleBoth s S w)))
+  parts S w = each (enter real (treeOf S) s lay) (from q n) (giveBoth S s (from q n) (from (q + n) 0) (each (reserve real (treeOf S) s) (from q n) (settleBoth s S w)))
 
   five : Did t p (pendingOf l₀) t₅ p₅ (pendingOf l) f k k₂ (parts (unpack t .sets))
   five =
       did-then (λ S. each (enter real (treeOf S) s lay) (from q n))
-      (did-then (λ S. giveAll real (treeOf S) s (from q n))
+      (did-then (λ S. giveBoth S s (from q n) (from (q + n) 0))
       (did-then (λ S. each (reserve real (treeOf S) s) (from q n)) (both-did s re a b (pendingOf l₀)) (record { same = c .same; does = c .does (pagesOf p) })) (did-step (pendingOf l) d))
       (record { same = e .same; does = e .does })
 
   is-change : (S : ℕ → SetRecord) (w : Work real) → resize real (treeOf S) s (max (parts S w .files s .size) end) (parts S w)
       ≡ change real (treeOf S) s (from q n) (from q n) [] lay (λ m. max m end) w
-  unfolding change each
+  unfolding change each giveAll from
   is-change S w = refl
 
   -- LAW

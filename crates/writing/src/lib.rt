@@ -40,7 +40,7 @@ fn write_pages(
     let r = reserving::reserve_all(t, f, s, first, m, k);
     let pending = r.pending;
     let a = r.counts;
-    let b = giving::give_all(t, p, f, s, first, m, a);
+    let b = giving::give_all(t, p, f, s, first, m, 0, a);
     entering::enter_all(t, p, pending, f, s, first, m, off, data, b);
     let z = files::size_at(&*t, f, s);
     let n = pages::larger(z, off + data.len());

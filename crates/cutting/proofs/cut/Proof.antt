@@ -25,7 +25,7 @@ add-m c = let s = c .before .before in omega (arith, s .pre .4)
 cut-away-requires : tie.Need-cut-away-requires
 cut-away-requires c κs =
     let s = c .before .before .before .before .before in
-    (s .pre .0, s .pre .1, s .pre .2, omega (arith, s .pre .3, s .pre .4), omega (arith, s .pre .3, s .pre .4), omega (arith, s .pre .3, s .pre .4))
+    (s .pre .0, s .pre .1, s .pre .2, omega (arith, s .pre .3, s .pre .4), omega (arith, s .pre .3, s .pre .4))
 
 same-length : tie.Need-same-length
 same-length c = let u = c .before .before .before .before in u .cut-away .ensures .packed .len ∙ sym (u .before .before .before .before .before .before .pre .0 .packed .len)
@@ -42,16 +42,13 @@ resolve-in-requires c κs =
     let s = c .before .before .before .before .before in
     (s .pre .0 .packed .len, s .pre .0 .file, omega (arith, c .new .ensures, s .pre .3, s .pre .4), s .pre .1)
 
-add-cut-away : tie.Need-add-cut-away
-add-cut-away c = let s = c .before .before .before .before .before .before .before .before .before .before in omega (arith, s .pre .3, s .pre .4)
-
 sub-cut-away : tie.Need-sub-cut-away
 sub-cut-away c = let s = c .before .before .before .before .before .before .before .before .before .before in omega (arith, s .pre .3, s .pre .4)
 
 cut-away-requires-2 : tie.Need-cut-away-requires-2
 cut-away-requires-2 c κs =
     let s = c .before .before .before .before .before .before .before .before .before .before in
-    (s .pre .0, s .pre .1, s .pre .2, omega (arith, s .pre .3, s .pre .4), omega (arith, s .pre .3, s .pre .4), omega (arith, s .pre .3, s .pre .4))
+    (s .pre .0, s .pre .1, s .pre .2, omega (arith, s .pre .3, s .pre .4), omega (arith, s .pre .3, s .pre .4))
 
 same-length-3 : tie.Need-same-length-3
 same-length-3 c = let u = c .before .before .before .before in u .cut-away2 .ensures .packed .len ∙ sym (u .before .before .before .before .before .before .before .before .before .before .before .pre .0 .packed .len)
@@ -103,4 +100,4 @@ pub cut-spec : {M : Type 1} → statement M
 cut-spec =
     tie.close
     (tie.spec
-    sub-m sub-m-2 add-m cut-away-requires same-length (λ c. search needs) returns (λ c κs. search needs) resolve-in-requires (λ c κs. search needs) add-cut-away sub-cut-away cut-away-requires-2 same-length-3 (λ c. search needs) returns-2 cut-kept-requires same-length-5 (λ c. search needs) returns-3)
+    sub-m sub-m-2 add-m cut-away-requires same-length (λ c. search needs) returns (λ c κs. search needs) resolve-in-requires (λ c κs. search needs) sub-cut-away cut-away-requires-2 same-length-3 (λ c. search needs) returns-2 cut-kept-requires same-length-5 (λ c. search needs) returns-3)

@@ -46,6 +46,11 @@ first-place c =
     let s = c .before .before .before .before .before .before .before .before .before .before .before .before .before .before .before in
     omega (arith, s .pre .3, s .pre .4)
 
+sub-give-all : tie.Need-sub-give-all
+sub-give-all c =
+    let s = c .before .before .before .before .before .before .before .before .before .before .before .before .before .before .before .before .before .before .before in
+    omega (arith, s .pre .3)
+
 give-all-requires : tie.Need-give-all-requires
 give-all-requires c κs =
     let r = c .before .before .before .before .before .before .before in
@@ -56,7 +61,7 @@ give-all-requires c κs =
     let re = both-ready (a .s) (s .pre .0) (ss .settle-set .ensures) (sk .settle-children .ensures .1) in (
       reserves-ready re (r .reserve-all .ensures),
       s .pre .1,
-      s .pre .4,
+      omega (arith, s .pre .3, s .pre .4),
       same-used _ _ (a .f) (a .s) (r .reserve-all .ensures .same) (both-used (a .s) (s .pre .0) (ss .settle-set .ensures) (sk .settle-children .ensures .1) (s .pre .2)),
     )
 
@@ -133,11 +138,11 @@ returns c =
     let ss = sk .before .before .before .before in
     let s = ss .before .before .before .before in
     let a = s .args in
-    cut-kept (a .s) (a .first) (a .m) (a .first + 1) (a .m - 1) (a .n) (x .new .result .0) (λ q. zeroFrom (a .n % 512)) refl (x .new .ensures) (s .pre .0) (ss .settle-set .ensures)
+    cut-kept (a .s) (a .first) (a .m - 1) (a .n) (x .new .result .0) (λ q. zeroFrom (a .n % 512)) refl (x .new .ensures) (s .pre .0) (ss .settle-set .ensures)
     (sk .settle-children .ensures .1) (r .reserve-all .ensures) (g .give-all .ensures) (e .enter-cut .ensures (pendingOf (r .reserve-all .result .pending)) (entered e)) (d .drop-pages .ensures) (h .resize .ensures)
 
 pub cut-kept-spec : {M : Type 1} → statement M
 cut-kept-spec =
     tie.close
     (tie.spec
-    (λ c κs. search needs) settle-children-requires reserve-all-requires first-place first-in give-all-requires (λ c κs. search needs) enter-cut-requires add-drop-pages sub-drop-pages drop-pages-requires resize-requires same-length (λ c. search needs) returns)
+    (λ c κs. search needs) settle-children-requires reserve-all-requires first-place first-in sub-give-all give-all-requires (λ c κs. search needs) enter-cut-requires add-drop-pages sub-drop-pages drop-pages-requires resize-requires same-length (λ c. search needs) returns)

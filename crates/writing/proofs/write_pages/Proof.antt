@@ -43,7 +43,7 @@ give-all-requires c κs =
     let re = both-ready (a .s) (s .pre .0) (ss .settle-set .ensures) (sk .settle-children .ensures .1) in (
       reserves-ready re (r .reserve-all .ensures),
       s .pre .1,
-      s .pre .3,
+      omega (arith, s .pre .3),
       same-used _ _ (a .f) (a .s) (r .reserve-all .ensures .same) (both-used (a .s) (s .pre .0) (ss .settle-set .ensures) (sk .settle-children .ensures .1) (s .pre .2)),
     )
 

@@ -1,7 +1,10 @@
 -- `copying::giving::give_all` meets its contract. Assumes nothing.
+use Prim.Native.Nat.{_+_}
+use native.Mathlib.Omega.{arith}
 use borrow.Author.Needs.{needs}
-use Rattle.rules.specs.Rules.{from}
-use Rattle.copying.proofs.Given.{give-none}
+use Rattle.rules.specs.Rules.{copied, from}
+use Rattle.copying.proofs.Handed.{both-given, both-none, kept-behind}
+use Rattle.copying.proofs.Steps.{step-used}
 use Rattle.copying.proofs.giving.give_all.Statement.{statement}
 use Rattle.copying.proofs.giving.give_all.Tie as tie
 
@@ -10,11 +13,36 @@ returns c =
     let d = c .before in
     let s = d .before .before .before .before in
     let a = s .args in
-    give-none (a .s) (d .first-child-of .result) (from (a .first) (a .m)) (s .pre .0) (s .pre .3) (d .first-child-of .ensures .0) (c .if1 .taken)
+    both-none (a .s) (d .first-child-of .result) (from (a .first) (a .m)) (from (a .first + a .m) (a .d)) (s .pre .0) (s .pre .3) (d .first-child-of .ensures .0) (c .if1 .taken)
+
+give-pages-requires : tie.Need-give-pages-requires
+give-pages-requires c κs =
+    let r = c .before .before .before in
+    let s = r .before .before .before .before .before .before .before in
+    let e = r .resolve-range .ensures in
+    (s .pre .0, s .pre .1, omega (arith, s .pre .2), s .pre .3, e .len, λ x lo hi. e .found x lo (omega (arith, hi)))
+
+give-pages-requires-2 : tie.Need-give-pages-requires-2
+give-pages-requires-2 c κs =
+    let g = c .before .before .before .before .before .before in
+    let r = g .before .before .before .before in
+    let s = r .before .before .before .before .before .before .before in
+    let a = s .args in
+    let x = g .give-pages .ensures in
+    let e = r .resolve-range .ensures in
+    (x .ready, s .pre .1, s .pre .2, step-used (a .s) x (s .pre .3), e .len, kept-behind (r .resolve-range .result .kept) copied (a .s) (a .first) (a .m) (a .d) (s .pre .0) (e .found) x)
+
+returns-2 : tie.Need-returns-2
+returns-2 c =
+    let h = c .before .before .before .before in
+    let g = h .before .before .before .before .before .before .before in
+    let s = g .before .before .before .before .before .before .before .before .before .before .before in
+    let a = s .args in
+    both-given (a .s) (from (a .first) (a .m)) (from (a .first + a .m) (a .d)) (g .give-pages .ensures) (h .give-pages2 .ensures)
 
 pub give-all-spec : {M : Type 1} → statement M
 give-all-spec =
     tie.close
     (tie.spec
-    (λ c κs. search needs) (λ c. search needs) returns (λ c κs. search needs) (λ c κs. search needs) (λ c. search needs)
-    (λ c. search needs) (λ c. search needs))
+    (λ c κs. search needs) (λ c. search needs) returns (λ c. search needs) (λ c κs. search needs) give-pages-requires (λ c. search needs)
+    give-pages-requires-2 (λ c. search needs) (λ c. search needs) returns-2)

@@ -1,0 +1,265 @@
+-- A page given is its rule: whose turns it is, copied or handed over; the heir, and the block that moves to it. Pages that have not had their turn resolve to what they did. Assumes nothing.
+use mathlib.Core.Bool.{_&&_, Bool, cond, false, true}
+use mathlib.Core.List.{List, List·Memᴰ, List·Memᴰ·not-nil, List·Memᴰ·head, List·Memᴰ·tail, _∷_, []}
+use mathlib.Core.Logic.{_⊎_, ⊎-elim}
+use mathlib.Core.Path.{ap, refl, subst, sym, _∙_, _≡_}
+use Prim.Native.Nat.{_+_, _-_, _<_, suc, zero, ℕ, _≤_}
+use native.Mathlib.Numerals.{sub-one}
+use native.Mathlib.Omega.{arith}
+use borrow.Author.Tests.{le-ltb, lt-ltb}
+use Rattle.base.specs.Logic.{test?}
+use Rattle.copying.proofs.Chains.{children-chain, pages-turn, upPages}
+use Rattle.copying.proofs.Given.{give-none, give-shown, given-as}
+use Rattle.copying.proofs.Kept.{entered}
+use Rattle.copying.proofs.Steps.{going-start, step-as, step-none, step-sets, step-then}
+use Rattle.copying.specs.Work.{Alone, ChainIn, Going, Ready, Step, ShownKept, giveBoth, giveChain, givingOf, handIf, shown, work}
+use Rattle.copying.specs.Turns.{TurnsFound}
+use Rattle.masks.specs.Pages.{pages}
+use Rattle.rules.proofs.Blocks.GoodWork.{not-stored}
+use Rattle.rules.proofs.Steps.OneStep.{TreeOk, putEntry-page, resolve-same}
+use Rattle.rules.specs.Reading.{needs, resolve}
+use Rattle.rules.specs.Rules.{Giving, Work, copied, each, from, give, giveAll, givePage, hand, handOver, handed, putEntry}
+use Rattle.rules.specs.State.{Entry, Files, SetRecord, Tables, Tree, chain, childrenOf, hole, isStored, stored, treeOf, unmapped}
+use Rattle.rules.specs.Storage.{real}
+use Rattle.tables.specs.Calls.{pagesOf}
+use Rattle.tables.specs.OneReading.{blockFits}
+use Rattle.tables.specs.Packed.{unpack}
+use Rattle.tables.specs.Views.{Turns, putEntryIn}
+use Rattle.tables.specs.declared.entries.Kept.{Kept}
+use Rattle.copying.specs.declared.giving.Counts.{Counts}
+use Rattle.copying.specs.declared.giving.InTurn.{InTurn}
+
+-- ---- the block moves
+
+-- LAW: no set takes it over
+pub moved-none : (t : List ℕ) (f s q c : ℕ) → 8 ≤ c → Alone t t f (handIf (treeOf (unpack t .sets)) s q c)
+moved-none t f s q c l p k re = step-as (handIf (treeOf (unpack t .sets)) s q c) (λ h. rw (le-ltb c 8 l)) (step-none re)
+
+-- LAW: two entries put
+pub moved : {t t₁ t₂ : List ℕ} (f s q c : ℕ) (e : Entry ℕ) → c < 8 → e ≡ unpack t .files f s .map q → Turns t t₁ (putEntryIn f c q e) → Turns t₁ t₂ (putEntryIn f s q hole)
+    → Alone t t₂ f (handIf (treeOf (unpack t .sets)) s q c)
+unfolding handOver
+moved {t} f s q c e l own u v p k re =
+    let a = entered f c q e u re (λ x ee. re .sound .named s q x (sym own ∙ ee)) in
+    step-as (handIf (treeOf (unpack t .sets)) s q c)
+    (λ h. rw (lt-ltb c 8 l) (ap (λ (y : Entry ℕ). record {
+      memory = work (unpack t) (pagesOf p) f h k .memory; files = putEntry (putEntry (unpack t .files f) c q y) s q hole; pending = h; taken = k .taken; copies = k .copies; marks = k .marks;
+    }) own))
+    (step-then a (entered f s q hole v (a .ready) (λ x e. absurd (not-stored hole x refl e))))
+
+-- an entry whose block is one of the bitmap
+pub entry-fits : (e : Entry ℕ) → ((b : ℕ) → e ≡ stored b → b < 4096) → blockFits e
+entry-fits unmapped h = tt
+entry-fits hole h = tt
+entry-fits (stored b) h = omega (arith, h b refl)
+
+-- ---- the first child that needs the page
+
+module _ (sets : ℕ → SetRecord) (s q : ℕ) where
+  abbrev handing : ℕ → ℕ → Work real → Work real
+  handing n c = hand real (treeOf sets) s q (chain sets n c)
+
+  hand-start : (c : ℕ) → sets s .used ≡ true → c ≡ sets s .firstChild → (w : Work real) → hand real (treeOf sets) s q (childrenOf sets s) w ≡ handing 8 c w
+  unfolding childrenOf
+  hand-start c u e w = rw (u, e)
+
+  pub hand-end : (n c : ℕ) → 8 ≤ c → (w : Work real) → handing n c w ≡ w
+  unfolding chain hand
+  hand-end zero c l w = refl
+  hand-end (suc n) c l w = rw (le-ltb c 8 l)
+
+  pub hand-out : (n c : ℕ) → n ≡ 0 → (w : Work real) → handing n c w ≡ w
+  unfolding chain hand
+  hand-out n c e w = rw e
+
+  hand-skip : (n c : ℕ) → (n ≡ 0 → ⊥) → c < 8 → (w : Work real) → needs (w .files) c q ≡ false → handing n c w ≡ handing (n - 1) (sets c .nextSibling) w
+  unfolding chain hand
+  hand-skip zero c h l w d = absurd (h refl)
+  hand-skip (suc n) c h l w d = rw (lt-ltb c 8 l, sub-one, d)
+
+  hand-take : (n c : ℕ) → (n ≡ 0 → ⊥) → c < 8 → (w : Work real) → needs (w .files) c q ≡ true
+      → handing n c w ≡ handOver real (treeOf sets) s q c (each (give real (treeOf sets) s q) (chain sets (n - 1) (sets c .nextSibling)) w)
+  unfolding chain hand
+  hand-take zero c h l w d = absurd (h refl)
+  hand-take (suc n) c h l w d = rw (lt-ltb c 8 l, sub-one, d)
+
+  rest-within : (n c : ℕ) → (n ≡ 0 → ⊥) → c < 8 → ChainIn sets s n c → ChainIn sets s (n - 1) (sets c .nextSibling)
+  unfolding chain
+  rest-within zero c h l m = absurd (h refl)
+  rest-within (suc n) c h l m =
+      let into : (x : ℕ) → List·Memᴰ x (c ∷ chain sets n (sets c .nextSibling)) → List·Memᴰ x (childrenOf sets s) = rw (lt-ltb c 8 l) at m in
+      λ x i. into x (List·Memᴰ·tail (rw sub-one at i))
+
+-- the search: no child before c needs page q of file f
+pub record Searching (tb : Tables) (f s q n c : ℕ) : Type 0 where
+  pub rule : (w : Work real) → w .files ≡ tb .files f → hand real (treeOf (tb .sets)) s q (childrenOf (tb .sets) s) w ≡ hand real (treeOf (tb .sets)) s q (chain (tb .sets) n c) w
+  pub within : ChainIn (tb .sets) s n c
+
+module _ (tb : Tables) (f s q : ℕ) where
+  all-within : (c : ℕ) → tb .sets s .used ≡ true → c ≡ tb .sets s .firstChild → ChainIn (tb .sets) s 8 c
+  unfolding childrenOf
+  all-within c u e x m = rw u (subst (λ y. List·Memᴰ x (chain (tb .sets) 8 y)) e m)
+
+  none-within : (c : ℕ) → ChainIn (tb .sets) s 0 c
+  unfolding chain
+  none-within c x m = absurd (List·Memᴰ·not-nil m)
+
+  no-turns : (c : ℕ) (w : Work real) → each (give real (treeOf (tb .sets)) s q) (chain (tb .sets) 0 c) w ≡ w
+  unfolding chain each
+  no-turns c w = refl
+
+  -- LAW: nothing is handed over
+  pub turns-all : (gift : Bool) (c : ℕ) → gift ≡ false → tb .sets s .used ≡ true → c ≡ tb .sets s .firstChild → TurnsFound tb f s q gift (record { first = c; most = 8; heir = 8 })
+  turns-all gift c g u e = record {
+    rule = λ w h. ap (λ (b : Bool). cond b (hand real (treeOf (tb .sets)) s q (childrenOf (tb .sets) s) w) (each (give real (treeOf (tb .sets)) s q) (childrenOf (tb .sets) s) w)) g
+        ∙ children-chain (λ sets. give real (treeOf sets) s q) (tb .sets) s c u e w;
+    within = all-within c u e;
+    few = omega arith;
+  }
+
+  -- LAW: the search starts
+  pub search-start : (c : ℕ) → tb .sets s .used ≡ true → c ≡ tb .sets s .firstChild → Searching tb f s q 8 c
+  search-start c u e = record { rule = λ w h. hand-start (tb .sets) s q c u e w; within = all-within c u e }
+
+  module _ (gift : Bool) (n c : ℕ) (g : gift ≡ true) (x : Searching tb f s q n c) where
+    is-hand : (w : Work real) → w .files ≡ tb .files f
+        → cond gift (hand real (treeOf (tb .sets)) s q (childrenOf (tb .sets) s) w) (each (give real (treeOf (tb .sets)) s q) (childrenOf (tb .sets) s) w) ≡ hand real (treeOf (tb .sets)) s q (chain (tb .sets) n c) w
+    is-hand w h = ap (λ (b : Bool). cond b (hand real (treeOf (tb .sets)) s q (childrenOf (tb .sets) s) w) (each (give real (treeOf (tb .sets)) s q) (childrenOf (tb .sets) s) w)) g ∙ x .rule w h
+
+    -- LAW: no child needs it
+    pub turns-none : (8 ≤ c) ⊎ (n ≡ 0) → TurnsFound tb f s q gift (record { first = c; most = 0; heir = 8 })
+    turns-none o = record {
+      rule = λ w h. is-hand w h ∙ ⊎-elim (λ l. hand-end (tb .sets) s q n c l w) (λ z. hand-out (tb .sets) s q n c z w) o ∙ sym (no-turns c w);
+      within = none-within c;
+      few = omega arith;
+    }
+
+    -- LAW: child c is the first that needs it
+    pub turns-heir : (d : ℕ) → (n ≡ 0 → ⊥) → n ≤ 8 → c < 8 → needs (tb .files f) c q ≡ true → d ≡ tb .sets c .nextSibling → TurnsFound tb f s q gift (record { first = d; most = n - 1; heir = c })
+    turns-heir d pos few l nd e = subst (λ i. TurnsFound tb f s q gift (record { first = i; most = n - 1; heir = c })) (sym e) (record {
+      rule = λ w h. is-hand w h ∙ hand-take (tb .sets) s q n c pos l w (ap (λ (y : Files ℕ). needs y c q) h ∙ nd)
+          ∙ ap (λ (b : Bool). cond b (handOver real (treeOf (tb .sets)) s q c (each (give real (treeOf (tb .sets)) s q) (chain (tb .sets) (n - 1) (tb .sets c .nextSibling)) w)) (each (give real (treeOf (tb .sets)) s q) (chain (tb .sets) (n - 1) (tb .sets c .nextSibling)) w)) (sym (lt-ltb c 8 l));
+      within = rest-within (tb .sets) s q n c pos l (x .within);
+      few = omega arith;
+    })
+
+  -- LAW: child c does not need it
+  pub search-next : (n c d : ℕ) → Searching tb f s q n c → (n ≡ 0 → ⊥) → c < 8 → needs (tb .files f) c q ≡ false → d ≡ tb .sets c .nextSibling → Searching tb f s q (n - 1) d
+  search-next n c d x pos l un e = subst (λ i. Searching tb f s q (n - 1) i) (sym e) (record {
+    rule = λ w h. x .rule w h ∙ hand-skip (tb .sets) s q n c pos l w (ap (λ (y : Files ℕ). needs y c q) h ∙ un);
+    within = rest-within (tb .sets) s q n c pos l (x .within);
+  })
+
+-- ---- a page
+
+page-how : (tr : Tree) (hands : Bool) (s q : ℕ) (w : Work real)
+    → givePage real tr (givingOf hands) s q w ≡ cond (hands && isStored (w .files s .map q)) (hand real tr s q (tr .children s) w) (each (give real tr s q) (tr .children s) w)
+unfolding givePage
+page-how tr true s q w = refl
+page-how tr false s q w = refl
+
+module _ {t p t₁ p₁ : List ℕ} {f : ℕ} {k k₁ : Counts} (s q : ℕ) (e : Entry ℕ) (gift : Bool) (r : InTurn) (re : Ready t p f k) (ee : e ≡ shown t f s q) (found : TurnsFound (unpack t) f s q gift r)
+    (x : Step t p t₁ p₁ f k k₁ (giveChain (unpack t .sets) e q (r .most) (r .first))) where
+  given : (h : ℕ → Entry ℕ) → giveChain (unpack t .sets) e q (r .most) (r .first) (work (unpack t) (pagesOf p) f h k) ≡ each (give real (treeOf (unpack t .sets)) s q) (chain (unpack t .sets) (r .most) (r .first)) (work (unpack t) (pagesOf p) f h k)
+  given h = given-as (treeOf (unpack t .sets)) (re .sound .tree) s q e (chain (unpack t .sets) (r .most) (r .first)) (found .within) (work (unpack t) (pagesOf p) f h k) (sym ee)
+
+  -- LAW: a page's turns, and then the block moves
+  pub page-given : {t₂ : List ℕ} (hands : Bool) → gift ≡ (hands && isStored (unpack t .files f s .map q)) → Alone t₁ t₂ f (handIf (treeOf (unpack t₁ .sets)) s q (r .heir))
+      → Step t p t₂ p₁ f k k₁ (givePage real (treeOf (unpack t .sets)) (givingOf hands) s q)
+  page-given {t₂} hands eg a =
+      let tr = treeOf (unpack t .sets) in
+      let z : Step t₁ p₁ t₂ p₁ f k₁ k₁ (handIf tr s q (r .heir)) = subst (λ (i : ℕ → SetRecord). Step t₁ p₁ t₂ p₁ f k₁ k₁ (handIf (treeOf i) s q (r .heir))) (step-sets x) (a p₁ k₁ (x .ready)) in
+      step-as (givePage real tr (givingOf hands) s q)
+      (λ h. let w = work (unpack t) (pagesOf p) f h k in
+      ap (handIf tr s q (r .heir)) (given h) ∙ sym (found .rule w refl)
+      ∙ ap (λ (b : Bool). cond b (hand real tr s q (tr .children s) w) (each (give real tr s q) (tr .children s) w)) eg ∙ sym (page-how tr hands s q w))
+      (step-then x z)
+
+-- LAW: what the next step of the page needs
+pub moving-below : {t p : List ℕ} {f : ℕ} {k : Counts} (s q : ℕ) → Ready t p f k → (b : ℕ) → unpack t .files f s .map q ≡ stored b → b < 4096
+moving-below s q re b e = let h = re .sound .named s q b e in omega (arith, h, re .sound .header .most)
+
+-- ---- handing page q leaves the others of set s
+
+module _ (tr : Tree) (ok : TreeOk tr) (s q x : ℕ) (apart : q ≡ x → ⊥) where
+  given-seen : (cs : List ℕ) → ((c : ℕ) → List·Memᴰ c cs → List·Memᴰ c (tr .children s)) → (w : Work real) → resolve tr (each (give real tr s q) cs w .files) s x ≡ resolve tr (w .files) s x
+  unfolding each
+  given-seen [] m w = refl
+  given-seen (c ∷ cs) m w = given-seen cs (λ y i. m y (List·Memᴰ·tail i)) (give real tr s q c w) ∙ give-shown tr c ok s q (m c (List·Memᴰ·head refl)) w x
+
+  put-seen : (files : Files ℕ) (c : ℕ) (e : Entry ℕ) → resolve tr (putEntry files c q e) s x ≡ resolve tr files s x
+  put-seen files c e = resolve-same tr files (putEntry files c q e) x (λ y. putEntry-page files c q e y x apart) s
+
+  over-seen : (c : ℕ) (w : Work real) → resolve tr (handOver real tr s q c w .files) s x ≡ resolve tr (w .files) s x
+  unfolding handOver
+  over-seen c w = put-seen (putEntry (w .files) c q (w .files s .map q)) s hole ∙ put-seen (w .files) c (w .files s .map q)
+
+  hand-seen : (cs : List ℕ) → ((c : ℕ) → List·Memᴰ c cs → List·Memᴰ c (tr .children s)) → (w : Work real) → resolve tr (hand real tr s q cs w .files) s x ≡ resolve tr (w .files) s x
+  unfolding hand
+  hand-seen [] m w = refl
+  hand-seen (c ∷ cs) m w =
+      let n : (y : ℕ) → List·Memᴰ y cs → List·Memᴰ y (tr .children s) = λ y i. m y (List·Memᴰ·tail i) in
+      test? (needs (w .files) c q)
+      (λ d. rw d (over-seen c (each (give real tr s q) cs w) ∙ given-seen cs n w))
+      (λ d. rw d (hand-seen cs n w))
+
+  -- LAW: page x of set s resolves to what it did
+  page-seen : (how : Giving) (w : Work real) → resolve tr (givePage real tr how s q w .files) s x ≡ resolve tr (w .files) s x
+  unfolding givePage
+  page-seen copied w = given-seen (tr .children s) (λ y i. i) w
+  page-seen handed w = test? (isStored (w .files s .map q)) (λ d. rw d (hand-seen (tr .children s) (λ y i. i) w)) (λ d. rw d (given-seen (tr .children s) (λ y i. i) w))
+
+-- ---- the pages of set s
+
+abbrev pub givingPage : Giving → ℕ → (ℕ → SetRecord) → ℕ → Work real → Work real
+givingPage how s sets = givePage real (treeOf sets) how s
+
+-- what pages from q on resolve to is kept
+pub record PagesGoing (t₀ p₀ t p : List ℕ) (l : List Kept) (f : ℕ) (k₀ k : Counts) (how : Giving) (s first m q n : ℕ) : Type 0 where
+  pub going : Going t₀ p₀ t p f k₀ k (giveAll real (treeOf (unpack t₀ .sets)) how s (from first m)) (upPages (givingPage how s) (unpack t₀ .sets) q n)
+  pub kept : ShownKept l t f s q n
+
+pub pages-start : {t p : List ℕ} {l : List Kept} {f : ℕ} {k : Counts} (how : Giving) (s first m : ℕ) → Ready t p f k → ShownKept l t f s first m → PagesGoing t p t p l f k k how s first m first m
+unfolding giveAll
+pages-start {t} how s first m re h = record { going = going-start (giveAll real (treeOf (unpack t .sets)) how s (from first m)) re; kept = h }
+
+-- LAW: a page's turn; y is the page's number
+pub pages-next : {t₀ p₀ t p t′ p′ : List ℕ} {l : List Kept} {f : ℕ} {k₀ k k′ : Counts} (how : Giving) (s first m q n y : ℕ) → PagesGoing t₀ p₀ t p l f k₀ k how s first m q n → (n ≡ 0 → ⊥) → y ≡ q
+    → Step t p t′ p′ f k k′ (givePage real (treeOf (unpack t .sets)) how s y) → PagesGoing t₀ p₀ t′ p′ l f k₀ k′ how s first m (q + 1) (n - 1)
+pages-next {t₀} {p₀} {t} {p} {t′} {p′} {l} {f} {k₀} {k} {k′} how s first m q n y g pos e a = record {
+  going = pages-turn (givingPage how s) q n y (g .going) pos e a;
+  kept = λ x lo hi.
+      let w = work (unpack t) (pagesOf p) f (λ i. unmapped) k in
+      let tr = treeOf (unpack t .sets) in
+      let same = page-seen tr (g .going .ready .sound .tree) s y x (λ d. omega (arith, e, d, lo)) how w in
+      let seen : shown t′ f s x ≡ shown t f s x = (λ i. resolve (treeOf (step-sets a i)) (a .step .does (λ i. unmapped) i .files) s x) ∙ same in
+      g .kept x (omega (arith, lo)) (omega (arith, hi, pos)) ∙ sym seen;
+}
+
+-- ---- pages copied, and then pages handed over
+
+-- LAW: giving the pages from q on, n of them, leaves what the pages behind them resolve to
+pages-seen : (tr : Tree) → TreeOk tr → (how : Giving) (s q n x : ℕ) → q + n ≤ x → (w : Work real) → resolve tr (giveAll real tr how s (from q n) w .files) s x ≡ resolve tr (w .files) s x
+unfolding giveAll each from
+pages-seen tr ok how s q zero x h w = refl
+pages-seen tr ok how s q (suc n) x h w = pages-seen tr ok how s (suc q) n x (omega arith) (givePage real tr how s q w) ∙ page-seen tr ok s q x (λ e. omega arith) how w
+
+-- LAW: so what they resolve to is kept
+pub kept-behind : {t p t′ p′ : List ℕ} {f : ℕ} {k k′ : Counts} (l : List Kept) (how : Giving) (s first m d : ℕ) → Ready t p f k → ShownKept l t f s first (m + d)
+    → Step t p t′ p′ f k k′ (giveAll real (treeOf (unpack t .sets)) how s (from first m)) → ShownKept l t′ f s (first + m) d
+kept-behind {t} {p} {t′} {p′} {f} {k} l how s first m d re h a x lo hi =
+    let w = work (unpack t) (pagesOf p) f (λ i. unmapped) k in
+    let same = pages-seen (treeOf (unpack t .sets)) (re .sound .tree) how s first m x lo w in
+    let seen : shown t′ f s x ≡ shown t f s x = (λ i. resolve (treeOf (step-sets a i)) (a .step .does (λ i. unmapped) i .files) s x) ∙ same in
+    h x (omega (arith, lo)) (omega (arith, hi)) ∙ sym seen
+
+-- LAW: the two, one after the other
+pub both-given : {t p t₁ p₁ t₂ p₂ : List ℕ} {f : ℕ} {k k₁ k₂ : Counts} (s : ℕ) (ps ds : List ℕ) → Step t p t₁ p₁ f k k₁ (giveAll real (treeOf (unpack t .sets)) copied s ps)
+    → Step t₁ p₁ t₂ p₂ f k₁ k₂ (giveAll real (treeOf (unpack t₁ .sets)) handed s ds) → Step t p t₂ p₂ f k k₂ (giveBoth (unpack t .sets) s ps ds)
+both-given {t} {p} {t₁} {p₁} {t₂} {p₂} {f} {k} {k₁} {k₂} s ps ds a b =
+    step-then a (subst (λ (i : ℕ → SetRecord). Step t₁ p₁ t₂ p₂ f k₁ k₂ (giveAll real (treeOf i) handed s ds)) (step-sets a) b)
+
+-- LAW: set s has no child
+pub both-none : {t p : List ℕ} {f : ℕ} {k : Counts} (s c : ℕ) (ps ds : List ℕ) → Ready t p f k → unpack t .sets s .used ≡ true → c ≡ unpack t .sets s .firstChild → 8 ≤ c
+    → Step t p t p f k k (giveBoth (unpack t .sets) s ps ds)
+both-none s c ps ds re u e l = both-given s ps ds (give-none copied s c ps re u e l) (give-none handed s c ds re u e l)
