@@ -1,4 +1,4 @@
--- Rows M1 to M12 of document 01, "Marked rows", in one table.
+-- Rows M1 to M12 of document 01, "Marked rows", in one table; M11 and M12 as document 02, Ask 2, changes them.
 use mathlib.Core.Bool.{false, true}
 use mathlib.Core.List.{_++_, List, _∷_, []}
 use mathlib.Core.Path.{_≡_}

@@ -1,4 +1,4 @@
--- The rules of "Changing calls", once, over any storage.
+-- The rules of "Changing calls" (document 01), with "Delete hands its blocks to the copy" (document 02, Ask 2), once, over any storage.
 use mathlib.Core.Bool.{_&&_, Bool, cond, false, not, true}
 use mathlib.Core.List.{List, _∷_, []}
 use Prim.Native.Nat.{_%_, _+_, _-_, _/_, max, suc, zero, ℕ}
@@ -31,7 +31,7 @@ touched off zero = []
 touched off (suc n) = from (off / pageBytes) (suc ((off + n) / pageBytes - off / pageBytes))
 
 -- Truncate to n of a file of z bytes, n below z.
--- "touched pages run from t divided by 512, rounded down, to the old last page"
+-- "touched pages run from t divided by 512, rounded down, to the old last page": these are partPages and then droppedPages
 unfoldable pub cutPages : ℕ → ℕ → List ℕ
 cutPages n z = from (n / pageBytes) (suc ((z - 1) / pageBytes - n / pageBytes))
 
@@ -74,7 +74,8 @@ module _ {K : Type 0} where
   unfoldable pub holes : ℕ → Entry K
   holes p = cond (ltb p pageCount) hole unmapped
 
--- How a page is given to the children that need it: copied; or, where it is stored in the file's own map, handed to the first of them and copied for the others.
+-- How a page is given to the children that need it. copied: each gets a copy. handed, where the call drops the page whole: if it is stored in the file's own map, the first
+-- of them takes it over and the others get copies.
 pub data Giving : Type 0 where
   copied handed : Giving
 
@@ -160,21 +161,23 @@ module _ (S : Storage) (t : Tree) where
   unfoldable pub give : ℕ → ℕ → ℕ → Work S → Work S
   give s p c w = cond (needs (w .files) c p) (supply (resolve t (w .files) s p) c p w) w
 
-  -- "takes over the block itself": page p, stored in the map of set s, moves to the map of set c
+  -- "takes over the block itself": page p, stored in the map of set s, moves to the map of set c. "A block handed over counts as no copy, and the delete or truncate itself
+  -- does not free it": in set s the page is a hole from now on.
   unfoldable pub handOver : ℕ → ℕ → ℕ → Work S → Work S
   handOver s p c w = withFiles w (putEntry (putEntry (w .files) c p (w .files s .map p)) s p hole)
 
-  -- "the first child that needs it takes over the block itself. Other children needing it still get copies", which are made before the block moves
+  -- "the first child that needs it takes over the block itself. Other children needing it still get copies". The others have their turns before the block moves: that
+  -- changes nothing, since neither c nor s depends on another child (the tally has the order of the sentence, and agrees).
   unfoldable pub hand : ℕ → ℕ → List ℕ → Work S → Work S
   hand s p [] w = w
   hand s p (c ∷ cs) w = cond (needs (w .files) c p) (handOver s p c (each (give s p) cs w)) (hand s p cs w)
 
-  -- "for each child in order of making that needs it"
+  -- "for each child in order of making that needs it". "Pages that the file only reads through its parent are copied as before, and so is the part page of a truncate."
   unfoldable pub givePage : Giving → ℕ → ℕ → Work S → Work S
   givePage copied s p w = each (give s p) (t .children s) w
   givePage handed s p w = cond (isStored (w .files s .map p)) (hand s p (t .children s) w) (each (give s p) (t .children s) w)
 
-  -- "For each touched page ascending"
+  -- "For each touched page ascending". The part page of a truncate, which is copied, is the lowest.
   unfoldable pub giveAll : Giving → ℕ → List ℕ → Work S → Work S
   giveAll how s ps w = each (givePage how s) ps w
 
@@ -192,12 +195,12 @@ module _ (S : Storage) (t : Tree) where
   unfoldable pub resize : ℕ → ℕ → Work S → Work S
   resize s n w = withFiles w (upd (w .files) s (record { state = own; size = n; map = w .files s .map }))
 
-  -- "become holes in this map, their blocks free"
+  -- "become holes in this map, their blocks free"; a page handed over is a hole already
   unfoldable pub dropPage : ℕ → ℕ → Work S → Work S
   dropPage s p w =
       record { memory = freeEntry S (w .files s .map p) (w .memory); files = putEntry (w .files) s p hole; pending = w .pending; taken = w .taken; copies = w .copies; marks = w .marks }
 
-  -- A change of the file in set s, steps 2 to 5: of the touched pages, ps are copied to the children and ds handed over; of ps, rs get new bytes by lay; ds become holes; the size is changed by resized.
+  -- A change of the file in set s, steps 2 to 5: of the touched pages, ps are copied to the children; ds, which are dropped whole, are handed over; of ps, rs get new bytes by lay; ds become holes; the size is changed by resized.
   unfoldable pub change : ℕ → List ℕ → List ℕ → List ℕ → (ℕ → S .Page → S .Page) → (ℕ → ℕ) → Work S → Work S
   change s ps rs ds lay resized w =
       let w₁ : Work S = each settle (s ∷ t .children s) w in
@@ -228,12 +231,13 @@ module _ (S : Storage) (t : Tree) where
   truncateNeed s n files =
       cond (ltb n (sizeByReading t files s)) (ownNeed S s (keptPages n (resolve t files s (n / pageBytes))) files) 0
 
-  -- "frees the file's blocks, leaves it absent"
+  -- "frees the file's blocks", those still in its map, "leaves it absent"
   unfoldable pub eraseFile : ℕ → Work S → Work S
   eraseFile s w =
       record { memory = freeMap S (w .files s .map) (w .memory); files = upd (w .files) s absentFile; pending = w .pending; taken = w .taken; copies = w .copies; marks = w .marks }
 
   -- "Delete does step 2 for the children and step 4 for all 64 pages, frees the file's blocks, leaves it absent. A marked file is only freed and made absent."
+  -- In step 4 every page is dropped whole, so handed over (Ask 2).
   unfoldable pub deleteAs : Bool → ℕ → Work S → Work S
   deleteAs true s w = eraseFile s (giveAll handed s (from 0 pageCount) (each settle (t .children s) w))
   deleteAs false s w = eraseFile s w
