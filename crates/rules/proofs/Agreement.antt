@@ -6,3 +6,4 @@ pub mod Delete
 pub mod Remove
 pub mod CreateMake
 pub mod AgreeCalls
+pub mod OthersRead

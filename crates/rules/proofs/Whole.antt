@@ -5,6 +5,7 @@ pub mod Holds
 pub mod HoldsMeans
 pub mod Compared
 pub mod OrderMarks
+pub mod OrderOthers
 pub mod HoldsRun
 pub mod Rows
 pub mod WorkedSession

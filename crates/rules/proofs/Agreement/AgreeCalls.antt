@@ -21,7 +21,7 @@ use Rattle.rules.proofs.Steps.OneStep.{FilesOk, TreeOk}
 use Rattle.rules.proofs.Steps.States.{live-present}
 use Rattle.rules.proofs.Agreement.Remove.{remove-agree}
 use Rattle.rules.proofs.Agreement.CreateMake.{create-agree, make-agree}
-use Rattle.rules.proofs.Agreement.Truncate.{agree-cut, agree-more, agree-same, apart, dropped-in, dropped-under, kept-in, kept-once, kept-part}
+use Rattle.rules.proofs.Agreement.Truncate.{agree-cut, agree-more, agree-same, cut-off, filled-up}
 use Rattle.rules.specs.Calls.{Store, accepted, begin, created, formatted, made, removed, treeIn, viewOf, worked}
 use Rattle.rules.specs.Numbers.{Call, View, create, delete, format, make, numberOf, read, remove, tellFree, tellSize, truncate, write}
 use Rattle.rules.specs.Plain.{Plain, cutOrFill, isNone, overwrite, plainCall, plainFormat, present, putFile}
@@ -101,7 +101,7 @@ module _ (st : Store model) (pl : Plain) (g : Plainly st pl) where
             → Agree (treeIn model st) (truncateAs model (treeIn model st) x y s n z (begin model st f) .files) (upd (pl .files f) s (some (cutOrFill l n)))
         go true y e d = agree-same t s n l (st .files f) (pl .files f) has al (g .agree f) (eqb-true n z e ∙ len)
         go false true e d =
-            let r = changed t (v .proper) s [] [] [] (λ p m. m) (λ p m k. elim m [ ]) (λ p m. elim m [ ]) tt (λ p x. x) (λ m. n) (begin model st f) (v .files-ok f) al in
+            let r = filled-up t (v .proper) s n (begin model st f) (v .files-ok f) al in
             let h = ltb-true z n d in
             agree-more t s n l (st .files f) _ (pl .files f) has al (g .agree f) (omega (arith, len)) r
         go false false e d =
@@ -109,8 +109,7 @@ module _ (st : Store model) (pl : Plain) (g : Plainly st pl) where
             let less : n < z = omega arith in
             let most : z ≤ 32768 = v .small f s in
             let k = resolve t (st .files f) s (n / 512) in
-            let r = changed t (v .proper) s (partPages n) (keptPages n k) (droppedPages n z) (kept-part n k) (apart n z k) (λ p m. dropped-under n z p most less m) (kept-once n k) (λ p. zeroFrom (n % 512)) (λ m. n) (begin model st f) (v .files-ok f) al in
-            let h = ltb-false z n d in let h′ = eqb-false n z e in
+            let r = cut-off t (v .proper) s n (begin model st f) (v .files-ok f) al z most less in
             agree-cut t s n l (st .files f) _ (pl .files f) has al (g .agree f) (omega (arith, len))
             (subst (λ y. Changed t s (keptPages n k) (droppedPages n y) (λ p. zeroFrom (n % 512)) (λ m. n) (st .files f)
             (change model t s (partPages n) (keptPages n k) (droppedPages n z) (λ p. zeroFrom (n % 512)) (λ m. n) (begin model st f) .files)) len r)

@@ -13,13 +13,15 @@ use borrow.Author.Tests.{eqb-false, eqb-true, le-ltb, lt-ltb, ltb-false, ltb-tru
 use Rattle.base.specs.Logic.{same?, test?}
 use Rattle.base.specs.Update.{upd}
 use Rattle.rules.proofs.Agreement.Agree.{Agree, agree-one, at-add, from-high, from-low, from-mem}
-use Rattle.rules.proofs.Agreement.Change.{Changed}
-use Rattle.rules.proofs.Steps.OneStep.{Alive}
+use Rattle.rules.proofs.Agreement.Change.{Changed, changed}
+use Rattle.rules.proofs.Steps.Handing.{ProperTree}
+use Rattle.rules.proofs.Steps.OneStep.{Alive, FilesOk}
 use Rattle.rules.proofs.Steps.States.{live-present}
 use Rattle.rules.proofs.Steps.WriterSteps.{NoDup, bytes, mem?}
+use Rattle.rules.proofs.Storages.Model.{model}
 use Rattle.rules.specs.Plain.{cutOrFill}
 use Rattle.rules.specs.Reading.{resolve}
-use Rattle.rules.specs.Rules.{cutPages, droppedPages, from, keptPages, partPages}
+use Rattle.rules.specs.Rules.{Work, change, cutPages, droppedPages, from, keptPages, partPages}
 use Rattle.rules.specs.State.{Entry, Files, Tree, hole, isStored, stored, unmapped}
 use Rattle.rules.specs.Storage.{PageData, zeroFrom}
 
@@ -113,6 +115,21 @@ unstored : (e : Entry PageData) (i : ℕ) → isStored e ≡ false → bytes e i
 unstored unmapped i h = refl
 unstored hole i h = refl
 unstored (stored v) i h = absurd (true≢false h)
+
+-- WHAT A TRUNCATE CHANGES, over the model
+module _ (t : Tree) (proper : ProperTree t) (s n : ℕ) (w : Work model) (k : FilesOk t (w .files)) (al : Alive (w .files) s) where
+  -- above the size
+  pub filled-up : Changed t s [] [] (λ p x. x) (λ m. n) (w .files) (change model t s [] [] [] (λ p x. x) (λ m. n) w .files)
+  filled-up = changed t proper s [] [] [] (λ p m. m) (λ p m k. elim m [ ]) (λ p m. elim m [ ]) tt (λ p x. x) (λ m. n) w k al
+
+  -- below the size z
+  pub cut-off : (z : ℕ) → z ≤ 32768 → n < z → let e : Entry PageData = resolve t (w .files) s (n / 512) in
+      Changed t s (keptPages n e) (droppedPages n z) (λ p. zeroFrom (n % 512)) (λ m. n)
+      (w .files) (change model t s (partPages n) (keptPages n e) (droppedPages n z) (λ p. zeroFrom (n % 512)) (λ m. n) w .files)
+  cut-off z most less =
+      let e : Entry PageData = resolve t (w .files) s (n / 512) in
+      changed t proper s (partPages n) (keptPages n e) (droppedPages n z) (kept-part n e) (apart n z e) (λ p m. dropped-under n z p most less m) (kept-once n e)
+      (λ p. zeroFrom (n % 512)) (λ m. n) w k al
 
 -- a cut
 module _ (t : Tree) (s n : ℕ) (l : List ℕ) (a b : Files PageData) (pf : ℕ → Option (List ℕ)) (has : pf s ≡ some l) (al : Alive a s) (g : Agree t a pf) (less : n < length l)

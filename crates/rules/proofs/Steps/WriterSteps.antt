@@ -14,7 +14,7 @@ use Rattle.rules.proofs.Steps.OneStep.{FilesOk, Keep, TreeOk, keep-refl
 use Rattle.rules.proofs.Steps.StepFour.{each-all, each-inv}
 use Rattle.rules.specs.Reading.{resolve, shownEntry, shownSize, sizeByReading, walk}
 use Rattle.rules.specs.Rules.{Work, each, enter, enterAs, pageOf, putEntry, reserve, reserveAs, settle, settleAs, settleFile, takeOwn}
-use Rattle.rules.specs.State.{Entry, File, Files, State, Tree, absent, hole, isStored, live, marked, own, stored, unmapped, virgin}
+use Rattle.rules.specs.State.{Entry, File, Files, State, Tree, absent, absentFile, hole, isStored, live, marked, own, stored, unmapped, virgin}
 use Rattle.rules.specs.Storage.{PageData}
 
 module _ {X Y : Type 0} (parent : ℕ → ℕ) (look : X → Option Y) (d : Y) where
@@ -31,6 +31,12 @@ module _ {K : Type 0} where
   pub size-here : (t : Tree) (files : Files K) (s : ℕ) → files s .state ≡ own → sizeByReading t files s ≡ files s .size
   unfolding sizeByReading
   size-here t files s h = walk-here (t .parent) (λ (x : File K). shownSize (x .state) (x .size)) 0 (t .level s) files s (files s .size) (rw h)
+
+  -- an absent file has size 0 by reading
+  pub size-absent : (t : Tree) (files : Files K) (s : ℕ) → files s ≡ absentFile → sizeByReading t files s ≡ 0
+  unfolding sizeByReading
+  size-absent t files s h =
+      walk-here (t .parent) (λ (x : File K). shownSize (x .state) (x .size)) 0 (t .level s) files s 0 (ap (λ (x : File K). shownSize (x .state) (x .size)) h)
 
   -- STEP 2, at a list of sets
   pub record Settled (t : Tree) (files files′ : Files K) : Type 0 where

@@ -27,7 +27,7 @@ pub record Holds (B : ℕ) (r : Store real) (pl : Plain) (ta : Tally) : Type 0 w
   pub tallies : Tallies (countOf (modelOf r)) ta
 
 -- what the plain store asks of a model in order
-orderly : (m : Store model) → ModelFormed m → Orderly m
+pub orderly : (m : Store model) → ModelFormed m → Orderly m
 orderly m v = record {
   proper = record { ok = v .sets-ok .tree; once = children-once (m .sets) (v .sets-ok) };
   files-ok = λ f. v .files-ok f .ok;

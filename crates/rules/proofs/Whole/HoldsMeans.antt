@@ -38,23 +38,26 @@ kind-of g unmapped = refl
 kind-of g hole = refl
 kind-of g (stored b) = refl
 
-module _ (B : ℕ) (r : Store real) (pl : Plain) (ta : Tally) (v : Holds B r pl ta) where
+-- A STORE AND ITS MODEL READ THE SAME
+module _ (r : Store real) where
   -- a byte by reading, in the store and in its model
-  byte-model : (s f i : ℕ) → byteByReading r s f i ≡ bytes (resolve (treeIn real r) (modelOf r .files f) s (i / 512)) (i % 512)
+  pub byte-model : (s f i : ℕ) → byteByReading r s f i ≡ bytes (resolve (treeIn real r) (modelOf r .files f) s (i / 512)) (i % 512)
   unfolding byteByReading
   byte-model s f i =
       ap (λ (y : PageData). y (i % 512))
       (page-bytes (r .memory) (resolve (treeIn real r) (r .files f) s (i / 512)) ∙ ap bytes (sym (resolve-map (r .memory .pages) (treeIn real r) (r .files f) s (i / 512))))
 
-  size-model : (s f : ℕ) → sizeByReading (treeIn real r) (r .files f) s ≡ sizeByReading (treeIn real r) (modelOf r .files f) s
+  -- a size by reading
+  pub size-model : (s f : ℕ) → sizeByReading (treeIn real r) (r .files f) s ≡ sizeByReading (treeIn real r) (modelOf r .files f) s
   size-model s f = sym (size-map (r .memory .pages) (treeIn real r) (r .files f) s)
 
+module _ (B : ℕ) (r : Store real) (pl : Plain) (ta : Tally) (v : Holds B r pl ta) where
   -- a file that the plain store has, and that is not marked, is own or virgin
   alive : (f s : ℕ) (l : List ℕ) → pl .files f s ≡ some l → isMarked (r .files f s .state) ≡ false → live (r .files f s .state) ≡ true
   alive f s l e u = live-of (r .files f s .state) (sym (v .plainly .agree f .there s) ∙ ap isNone e) u
 
   size-plain : (f s : ℕ) (l : List ℕ) → pl .files f s ≡ some l → live (r .files f s .state) ≡ true → sizeByReading (treeIn real r) (r .files f) s ≡ length l
-  size-plain f s l e al = size-model s f ∙ v .plainly .agree f .size s l e al
+  size-plain f s l e al = size-model r s f ∙ v .plainly .agree f .size s l e al
 
   -- the whole of a file lies below 32,768
   length-plain : (f s : ℕ) (l : List ℕ) → pl .files f s ≡ some l → live (r .files f s .state) ≡ true → length l ≤ 32768
@@ -63,7 +66,7 @@ module _ (B : ℕ) (r : Store real) (pl : Plain) (ta : Tally) (v : Holds B r pl 
       omega (arith, v .plainly .agree f .size s l e al)
 
   byte-plain : (f s : ℕ) (l : List ℕ) → pl .files f s ≡ some l → live (r .files f s .state) ≡ true → (i : ℕ) → i < length l → byteByReading r s f i ≡ getD l i 0
-  byte-plain f s l e al i h = byte-model s f i ∙ v .plainly .agree f .byte s l e al i (omega (arith, length-plain f s l e al))
+  byte-plain f s l e al i h = byte-model r s f i ∙ v .plainly .agree f .byte s l e al i (omega (arith, length-plain f s l e al))
 
   pub agrees-plain : AgreesPlain r pl
   agrees-plain = record {
