@@ -122,15 +122,17 @@ module _ (B : ℕ) (least : 1 ≤ B) (most : B ≤ 4096) (r : Store real) (o : I
   pub gave-image : (c : Call) → gave c (imageOf r) ≡ storeGive B c r
   gave-image c = ap (λ (o : Outcome). record { answer = o .answer; bytes = front c (o .answer) (o .buffer) }) (call-image c)
 
+  -- the store that the image after a call holds is the store after it
+  pub store-after : (c : Call) → storeIn (after c (imageOf r)) ≡ step real (blankMemory B) c r .store
+  store-after c = ap storeIn (after-image c) ∙ image-store B most _ (order-step B least r o c)
+
   -- what a call on the image marks
   pub marks-image : (c : Call) → MarksRightly (imageOf r) (some c) (after c (imageOf r))
   marks-image c f s h =
       let here : storeIn (imageOf r) ≡ r = image-store B most r o in
-      let there : storeIn (after c (imageOf r)) ≡ step real (blankMemory B) c r .store =
-      ap storeIn (after-image c) ∙ image-store B most _ (order-step B least r o c) in
       let k = step-marks B least r o c f s (ap (λ x. isMarked (x .files f s .state)) (sym here) ∙ h) in
       let e = ap (λ g. g .answer .number) (gave-image c) in
-      let q = ap (λ x. isMarked (x .files f s .state)) there in (
+      let q = ap (λ x. isMarked (x .files f s .state)) (store-after c) in (
         λ a. let w = k .0 (sym q ∙ a) in (e ∙ w .0, subst (λ x. BecomesMarked (tallyIn x) c f s) (sym here) (w .1)),
         λ w. q ∙ k .1 (sym e ∙ w .0, subst (λ x. BecomesMarked (tallyIn x) c f s) here (w .1)),
       )

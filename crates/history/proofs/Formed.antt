@@ -11,7 +11,7 @@ use lib.ListN.{List·getD-eq-default, getD, length}
 use borrow.Author.Tests.{le-ltb, lt-ltb, ltb-true}
 use Rattle.base.specs.Logic.{test?}
 use Rattle.base.specs.Tabulate.{tab-of}
-use Rattle.history.proofs.Events.{GoesAll, event-goes, events-go}
+use Rattle.history.proofs.Events.{event-goes, events-go}
 use Rattle.history.proofs.Image.{image-formed, imageOf}
 use Rattle.history.specs.Demand3.{MarksRightly, MarksThroughout}
 use Rattle.history.specs.Events.{Event, eventOn, eventsOn, runs}
@@ -20,7 +20,9 @@ use Rattle.packing.specs.Words.{Bytes}
 use Rattle.rules.proofs.Formed.FilesMapped.{map-formed}
 use Rattle.rules.proofs.Storages.MapBlocks.{mapFile}
 use Rattle.rules.proofs.Whole.Order.{InOrder}
+use Rattle.rules.specs.Calls.{Store}
 use Rattle.rules.specs.State.{treeOf}
+use Rattle.rules.specs.Storage.{real}
 use Rattle.tables.proofs.FormedStore.{FormedStore, absent-default, formed-store}
 use Rattle.tables.proofs.OneReading.{one-reading}
 use Rattle.tables.specs.Calls.{packPages, pagesOf, storeOf}
@@ -57,26 +59,23 @@ module _ (t p : List ℕ) (h : wellFormed t (length p) ≡ true) where
   pub image-of : Bytes t → imageOf (storeOf t p) ≡ record { tables = t; pages = p }
   image-of bs = λ i. record { tables = one-reading t (length p) bs h .same i; pages = pages-packed p (unpack t .blocks) (formed .pages) i }
 
--- LISTS OF EVENTS on well-formed bytes
 module _ (m : Image) (bs : Bytes (m .tables)) (h : wellFormed (m .tables) (length (m .pages)) ≡ true) where
-  abbrev B : ℕ
-  B = unpack (m .tables) .blocks
+  -- WHAT HOLDS OF THE IMAGE of every store in order holds of well-formed bytes
+  pub of-image : (P : Image → Type 0) → ((B : ℕ) → 1 ≤ B → B ≤ 4096 → (r : Store real) → InOrder B r → P (imageOf r)) → P m
+  of-image P k =
+      let header = formed (m .tables) (m .pages) h .header in
+      subst P (image-of (m .tables) (m .pages) h bs)
+      (k (unpack (m .tables) .blocks) (header .at-least) (header .most) (storeIn m) (order-of (m .tables) (m .pages) h))
 
-  least : 1 ≤ B
-  least = formed (m .tables) (m .pages) h .header .at-least
-
-  most : B ≤ 4096
-  most = formed (m .tables) (m .pages) h .header .most
-
-  run : (es : List Event) → GoesAll B least most es (storeIn m)
-  run es = events-go B least most es (storeIn m) (order-of (m .tables) (m .pages) h)
-
-  image-run : (es : List Event) → eventsOn es m ≡ imageOf (run es .store)
-  image-run es = ap (eventsOn es) (sym (image-of (m .tables) (m .pages) h bs)) ∙ run es .image
-
+  -- LISTS OF EVENTS on well-formed bytes
   pub formed-after : (es : List Event) → wellFormed (eventsOn es m .tables) (length (eventsOn es m .pages)) ≡ true
-  formed-after es = ap (λ (x : Image). wellFormed (x .tables) (length (x .pages))) (image-run es) ∙ image-formed B most (run es .store) (run es .order)
+  formed-after es =
+      of-image (λ x. wellFormed (eventsOn es x .tables) (length (eventsOn es x .pages)) ≡ true)
+      (λ B least most r o. let g = events-go B least most es r o in
+      ap (λ (x : Image). wellFormed (x .tables) (length (x .pages))) (g .image) ∙ image-formed B most (g .store) (g .order))
 
   pub formed-marks : (es : List Event) → MarksThroughout m es
   formed-marks es before rest e d =
-      subst (λ (x : Image). MarksRightly x (runs e x) (eventOn e x)) (sym (image-run before)) (event-goes B least most (run before .store) (run before .order) e .marks)
+      of-image (λ x. MarksRightly (eventsOn before x) (runs e (eventsOn before x)) (eventOn e (eventsOn before x)))
+      (λ B least most r o. let g = events-go B least most before r o in
+      subst (λ (x : Image). MarksRightly x (runs e x) (eventOn e x)) (sym (g .image)) (event-goes B least most (g .store) (g .order) e .marks))

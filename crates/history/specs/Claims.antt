@@ -6,6 +6,7 @@ use lib.ListN.{length}
 use Rattle.history.specs.Demand3.{Demand3Claim, MarksThroughout}
 use Rattle.history.specs.Events.{Event, eventsOn, listedAll, runsAll}
 use Rattle.history.specs.Image.{Image}
+use Rattle.history.specs.Others.{OthersClaim}
 use Rattle.packing.specs.Words.{Bytes}
 use Rattle.rules.specs.Numbers.{Call}
 use Rattle.rules.specs.Rows.{RowsClaim}
@@ -24,4 +25,6 @@ pub record Claims : Type 0 where
   -- where the list holds calls of the ten only, plain store and tally are fed exactly that list
   pub listed : (cs : List Call) (m : Image) → runsAll (listedAll cs) m ≡ cs
   pub formed : FormedClaim
+  -- document 02, Ask 2: what a delete or a truncate leaves of other files
+  pub others : OthersClaim
   pub rows : RowsClaim
