@@ -264,6 +264,7 @@ CASE(write_512, write(LENT, 0, 0, 512, data, 512))
 CASE(write_all, write(LENT, 0, 0, 0, data, FILE_BYTES))
 CASE(write_far, write(LENT, 7, 3, 100, data, 1))
 CASE(truncate_to_100, truncate(LENT, 0, 0, 100))
+CASE(truncate_to_0, truncate(LENT, 0, 0, 0))
 CASE(truncate_up, truncate(LENT, 0, 0, 5000))
 CASE(delete_it, delete(LENT, 0, 0))
 CASE(read_5, read(LENT, 5, 0, 0, buffer, FILE_BYTES))
@@ -314,11 +315,15 @@ static const struct bench_case cases[] = {
     { "write", "1 byte, set 7", "typical", write_far, typical, true, 0, { 64, 4096 }, { 0, 0 } },
     { "write", "1 byte, level 5", "chain", write_5, chain, true, 0, { 1024, 4096 }, { 0, 0 } },
     { "truncate", "32 KiB to 100", "one file", truncate_to_100, full_file, true, 0, { 64, 4096 }, { 0, 0 } },
-    { "truncate", "64 copies", "one child", truncate_to_100, one_child, true, 0, { 1024, 4096 }, { 0, 0 } },
+    { "truncate", "1 copy, 63 handed", "one child", truncate_to_100, one_child, true, 0, { 1024, 4096 }, { 0, 0 } },
+    { "truncate", "64 handed", "one child", truncate_to_0, one_child, true, 0, { 64, 4096 }, { 0, 0 } },
+    { "truncate", "384 copies", "seven children", truncate_to_0, seven_children, true, 0, { 1024, 4096 }, { 0, 0 } },
     { "truncate", "up", "one file", truncate_up, short_file, true, 0, { 64, 4096 }, { 0, 0 } },
     { "truncate", "level 5", "chain", truncate_5, chain, true, 0, { 1024, 4096 }, { 0, 0 } },
     { "delete", "", "one file", delete_it, full_file, true, 0, { 64, 4096 }, { 0, 0 } },
-    { "delete", "64 copies", "one child", delete_it, one_child, true, 0, { 1024, 4096 }, { 11, 11 } },
+    { "delete", "64 handed", "one child", delete_it, one_child, true, 0, { 64, 4096 }, { 0, 0 } },
+    { "delete", "384 copies", "seven children", delete_it, seven_children, true, 0, { 1024, 4096 }, { 0, 0 } },
+    { "delete", "64 handed, marks", "seven children", delete_it, seven_children, true, 0, { 64, 0 }, { 0, 0 } },
     { "delete", "level 4, 64 copies", "chain", delete_4, chain, true, 0, { 1024, 4096 }, { 0, 0 } },
     { "delete", "", "typical", delete_it, typical, true, 0, { 64, 4096 }, { 0, 0 } },
     { "make", "", "one file", make_1, full_file, true, 0, { 64, 4096 }, { 3, 3 } },

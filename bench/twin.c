@@ -668,8 +668,9 @@ static inline void give(struct change *c, unsigned child, unsigned page, unsigne
     c->copies++;
 }
 
-/* Step 4 for the pages from `from` up to `to`. */
-static void give_pages(struct change *c, unsigned from, unsigned to)
+/* Step 4 for the pages from `from` up to `to`. Those from `whole` on are dropped whole: the first child that needs one takes
+ * over the block that it has in the file's own map. */
+static void give_pages(struct change *c, unsigned from, unsigned to, unsigned whole)
 {
     uint8_t child[SETS];
     unsigned n = 0, looks = 0;
@@ -680,10 +681,17 @@ static void give_pages(struct change *c, unsigned from, unsigned to)
         return;
     for (unsigned q = from; q < to; q++) {
         unsigned e = resolve(c->t, c->x, c->set, c->file, q, &looks);
+        bool gift = q >= whole && (entry_at(c->t, c->set, c->file, q) & STORED) != 0;
         for (unsigned i = 0; i < n; i++) {
             unsigned k = child[i];
             if (entry_at(c->t, k, c->file, q) != UNMAPPED || !live(state_of(head_at(c->t, k, c->file))))
                 continue;
+            if (gift) {
+                put_entry(c->t, k, c->file, q, e);
+                put_entry(c->t, c->set, c->file, q, HOLE);
+                gift = false;
+                continue;
+            }
             give(c, k, q, e);
         }
     }
@@ -738,7 +746,7 @@ sweep_answer twin_write(uint8_t *t, size_t tl, uint8_t *p, size_t pl, uint32_t s
         pending[q] = (uint16_t)(e & STORED ? e & BLOCK : STORED | take_block(&c));
     }
     c.taken = need;
-    give_pages(&c, first, end);
+    give_pages(&c, first, end, end);
     for (size_t done = 0; done < length;) {
         unsigned q = (unsigned)((offset + done) / PAGE);
         size_t at = (offset + done) % PAGE, part = PAGE - at < length - done ? PAGE - at : length - done;
@@ -801,7 +809,7 @@ sweep_answer twin_truncate(uint8_t *t, size_t tl, uint8_t *p, size_t pl, uint32_
         b = take_block(&c);
         c.taken = 1;
     }
-    give_pages(&c, first, end);
+    give_pages(&c, first, end, from);
     if (part && keeps != HOLE) {
         if (needs) {
             copy_bytes(page_of(&c, b), page_of(&c, keeps & BLOCK), size % PAGE);
@@ -829,7 +837,7 @@ sweep_answer twin_delete(uint8_t *t, size_t tl, uint8_t *p, size_t pl, uint32_t 
     struct change c = begin(t, p, &x, set, file);
     if (live(state)) {
         settle_children(&c);
-        give_pages(&c, 0, PAGES);
+        give_pages(&c, 0, PAGES, 0);
     }
     if (state != VIRGIN)
         free_blocks(t, r + 4, 0, PAGES);

@@ -1,5 +1,5 @@
 -- A page given is its rule: whose turns it is, copied or handed over; the heir, and the block that moves to it. Pages that have not had their turn resolve to what they did. Assumes nothing.
-use mathlib.Core.Bool.{_&&_, Bool, cond, false, true}
+use mathlib.Core.Bool.{_&&_, Bool, cond, false, true, true≢false}
 use mathlib.Core.List.{List, List·Memᴰ, List·Memᴰ·not-nil, List·Memᴰ·head, List·Memᴰ·tail, _∷_, []}
 use mathlib.Core.Logic.{_⊎_, ⊎-elim}
 use mathlib.Core.Path.{ap, refl, subst, sym, _∙_, _≡_}
@@ -8,18 +8,20 @@ use native.Mathlib.Numerals.{sub-one}
 use native.Mathlib.Omega.{arith}
 use borrow.Author.Tests.{le-ltb, lt-ltb}
 use Rattle.base.specs.Logic.{test?}
-use Rattle.copying.proofs.Chains.{children-chain, pages-turn, upPages}
+use Rattle.copying.proofs.Chains.{pages-turn, upPages}
 use Rattle.copying.proofs.Given.{give-none, give-shown, given-as}
 use Rattle.copying.proofs.Kept.{entered}
 use Rattle.copying.proofs.Steps.{going-start, step-as, step-none, step-sets, step-then}
-use Rattle.copying.specs.Work.{Alone, ChainIn, Going, Ready, Step, ShownKept, giveBoth, giveChain, givingOf, handIf, shown, work}
-use Rattle.copying.specs.Turns.{TurnsFound}
+use Rattle.copying.specs.Work.{Alone, FirstChild, Going, Ready, Step, ShownKept, giveBoth, giveChain, givingOf, handIf, shown, work}
+use Rattle.copying.specs.Heirs.{HeirFound}
 use Rattle.masks.specs.Pages.{pages}
 use Rattle.rules.proofs.Blocks.GoodWork.{not-stored}
+use Rattle.rules.proofs.Steps.Handing.{some-self}
+use Rattle.rules.proofs.Steps.WriterSteps.{resolve-here}
 use Rattle.rules.proofs.Steps.OneStep.{TreeOk, putEntry-page, resolve-same}
 use Rattle.rules.specs.Reading.{needs, resolve}
 use Rattle.rules.specs.Rules.{Giving, Work, copied, each, from, give, giveAll, givePage, hand, handOver, handed, putEntry}
-use Rattle.rules.specs.State.{Entry, Files, SetRecord, Tables, Tree, chain, childrenOf, hole, isStored, stored, treeOf, unmapped}
+use Rattle.rules.specs.State.{Entry, File, Files, SetRecord, Tables, Tree, chain, childrenOf, hole, isStored, stored, treeOf, unmapped}
 use Rattle.rules.specs.Storage.{real}
 use Rattle.tables.specs.Calls.{pagesOf}
 use Rattle.tables.specs.OneReading.{blockFits}
@@ -27,7 +29,7 @@ use Rattle.tables.specs.Packed.{unpack}
 use Rattle.tables.specs.Views.{Turns, putEntryIn}
 use Rattle.tables.specs.declared.entries.Kept.{Kept}
 use Rattle.copying.specs.declared.giving.Counts.{Counts}
-use Rattle.copying.specs.declared.giving.InTurn.{InTurn}
+use Rattle.copying.specs.declared.giving.Heir.{Heir}
 
 -- ---- the block moves
 
@@ -43,7 +45,12 @@ moved {t} f s q c e l own u v p k re =
     let a = entered f c q e u re (λ x ee. re .sound .named s q x (sym own ∙ ee)) in
     step-as (handIf (treeOf (unpack t .sets)) s q c)
     (λ h. rw (lt-ltb c 8 l) (ap (λ (y : Entry ℕ). record {
-      memory = work (unpack t) (pagesOf p) f h k .memory; files = putEntry (putEntry (unpack t .files f) c q y) s q hole; pending = h; taken = k .taken; copies = k .copies; marks = k .marks;
+      memory = work (unpack t) (pagesOf p) f h k .memory;
+      files = putEntry (putEntry (unpack t .files f) c q y) s q hole;
+      pending = h;
+      taken = k .taken;
+      copies = k .copies;
+      marks = k .marks;
     }) own))
     (step-then a (entered f s q hole v (a .ready) (λ x e. absurd (not-stored hole x refl e))))
 
@@ -58,10 +65,6 @@ entry-fits (stored b) h = omega (arith, h b refl)
 module _ (sets : ℕ → SetRecord) (s q : ℕ) where
   abbrev handing : ℕ → ℕ → Work real → Work real
   handing n c = hand real (treeOf sets) s q (chain sets n c)
-
-  hand-start : (c : ℕ) → sets s .used ≡ true → c ≡ sets s .firstChild → (w : Work real) → hand real (treeOf sets) s q (childrenOf sets s) w ≡ handing 8 c w
-  unfolding childrenOf
-  hand-start c u e w = rw (u, e)
 
   pub hand-end : (n c : ℕ) → 8 ≤ c → (w : Work real) → handing n c w ≡ w
   unfolding chain hand
@@ -83,72 +86,62 @@ module _ (sets : ℕ → SetRecord) (s q : ℕ) where
   hand-take zero c h l w d = absurd (h refl)
   hand-take (suc n) c h l w d = rw (lt-ltb c 8 l, sub-one, d)
 
-  rest-within : (n c : ℕ) → (n ≡ 0 → ⊥) → c < 8 → ChainIn sets s n c → ChainIn sets s (n - 1) (sets c .nextSibling)
+-- the sets behind c in its chain are of it
+rest-within : (sets : ℕ → SetRecord) (n c : ℕ) → (n ≡ 0 → ⊥) → c < 8 → (x : ℕ) → List·Memᴰ x (chain sets (n - 1) (sets c .nextSibling)) → List·Memᴰ x (chain sets n c)
+unfolding chain
+rest-within sets zero c h l x i = absurd (h refl)
+rest-within sets (suc n) c h l x i = rw (lt-ltb c 8 l) (List·Memᴰ·tail (rw sub-one at i))
+
+-- the search from set first on: no set before c needs page q of file f
+pub record Searching (tb : Tables) (f q first n c : ℕ) : Type 0 where
+  pub rule : (s : ℕ) (w : Work real) → w .files ≡ tb .files f → hand real (treeOf (tb .sets)) s q (chain (tb .sets) 8 first) w ≡ hand real (treeOf (tb .sets)) s q (chain (tb .sets) n c) w
+  pub within : (x : ℕ) → List·Memᴰ x (chain (tb .sets) n c) → List·Memᴰ x (chain (tb .sets) 8 first)
+
+module _ (tb : Tables) (f q first : ℕ) where
+  none-within : (x : ℕ) → List·Memᴰ x (chain (tb .sets) 0 8) → List·Memᴰ x (chain (tb .sets) 8 first)
   unfolding chain
-  rest-within zero c h l m = absurd (h refl)
-  rest-within (suc n) c h l m =
-      let into : (x : ℕ) → List·Memᴰ x (c ∷ chain sets n (sets c .nextSibling)) → List·Memᴰ x (childrenOf sets s) = rw (lt-ltb c 8 l) at m in
-      λ x i. into x (List·Memᴰ·tail (rw sub-one at i))
+  none-within x m = absurd (List·Memᴰ·not-nil m)
 
--- the search: no child before c needs page q of file f
-pub record Searching (tb : Tables) (f s q n c : ℕ) : Type 0 where
-  pub rule : (w : Work real) → w .files ≡ tb .files f → hand real (treeOf (tb .sets)) s q (childrenOf (tb .sets) s) w ≡ hand real (treeOf (tb .sets)) s q (chain (tb .sets) n c) w
-  pub within : ChainIn (tb .sets) s n c
-
-module _ (tb : Tables) (f s q : ℕ) where
-  all-within : (c : ℕ) → tb .sets s .used ≡ true → c ≡ tb .sets s .firstChild → ChainIn (tb .sets) s 8 c
-  unfolding childrenOf
-  all-within c u e x m = rw u (subst (λ y. List·Memᴰ x (chain (tb .sets) 8 y)) e m)
-
-  none-within : (c : ℕ) → ChainIn (tb .sets) s 0 c
-  unfolding chain
-  none-within c x m = absurd (List·Memᴰ·not-nil m)
-
-  no-turns : (c : ℕ) (w : Work real) → each (give real (treeOf (tb .sets)) s q) (chain (tb .sets) 0 c) w ≡ w
+  no-turns : (s c : ℕ) (w : Work real) → each (give real (treeOf (tb .sets)) s q) (chain (tb .sets) 0 c) w ≡ w
   unfolding chain each
-  no-turns c w = refl
-
-  -- LAW: nothing is handed over
-  pub turns-all : (gift : Bool) (c : ℕ) → gift ≡ false → tb .sets s .used ≡ true → c ≡ tb .sets s .firstChild → TurnsFound tb f s q gift (record { first = c; most = 8; heir = 8 })
-  turns-all gift c g u e = record {
-    rule = λ w h. ap (λ (b : Bool). cond b (hand real (treeOf (tb .sets)) s q (childrenOf (tb .sets) s) w) (each (give real (treeOf (tb .sets)) s q) (childrenOf (tb .sets) s) w)) g
-        ∙ children-chain (λ sets. give real (treeOf sets) s q) (tb .sets) s c u e w;
-    within = all-within c u e;
-    few = omega arith;
-  }
+  no-turns s c w = refl
 
   -- LAW: the search starts
-  pub search-start : (c : ℕ) → tb .sets s .used ≡ true → c ≡ tb .sets s .firstChild → Searching tb f s q 8 c
-  search-start c u e = record { rule = λ w h. hand-start (tb .sets) s q c u e w; within = all-within c u e }
+  pub search-start : Searching tb f q first 8 first
+  search-start = record { rule = λ s w h. refl; within = λ x m. m }
 
-  module _ (gift : Bool) (n c : ℕ) (g : gift ≡ true) (x : Searching tb f s q n c) where
-    is-hand : (w : Work real) → w .files ≡ tb .files f
-        → cond gift (hand real (treeOf (tb .sets)) s q (childrenOf (tb .sets) s) w) (each (give real (treeOf (tb .sets)) s q) (childrenOf (tb .sets) s) w) ≡ hand real (treeOf (tb .sets)) s q (chain (tb .sets) n c) w
-    is-hand w h = ap (λ (b : Bool). cond b (hand real (treeOf (tb .sets)) s q (childrenOf (tb .sets) s) w) (each (give real (treeOf (tb .sets)) s q) (childrenOf (tb .sets) s) w)) g ∙ x .rule w h
-
-    -- LAW: no child needs it
-    pub turns-none : (8 ≤ c) ⊎ (n ≡ 0) → TurnsFound tb f s q gift (record { first = c; most = 0; heir = 8 })
-    turns-none o = record {
-      rule = λ w h. is-hand w h ∙ ⊎-elim (λ l. hand-end (tb .sets) s q n c l w) (λ z. hand-out (tb .sets) s q n c z w) o ∙ sym (no-turns c w);
-      within = none-within c;
+  module _ (n c : ℕ) (x : Searching tb f q first n c) where
+    -- LAW: no set needs it
+    pub heir-none : (8 ≤ c) ⊎ (n ≡ 0) → HeirFound tb f q first (record { set = 8; next = 8; most = 0 })
+    heir-none o = record {
+      rule = λ s w h. x .rule s w h ∙ ⊎-elim (λ l. hand-end (tb .sets) s q n c l w) (λ z. hand-out (tb .sets) s q n c z w) o ∙ sym (no-turns s 8 w);
+      within = none-within;
       few = omega arith;
     }
 
-    -- LAW: child c is the first that needs it
-    pub turns-heir : (d : ℕ) → (n ≡ 0 → ⊥) → n ≤ 8 → c < 8 → needs (tb .files f) c q ≡ true → d ≡ tb .sets c .nextSibling → TurnsFound tb f s q gift (record { first = d; most = n - 1; heir = c })
-    turns-heir d pos few l nd e = subst (λ i. TurnsFound tb f s q gift (record { first = i; most = n - 1; heir = c })) (sym e) (record {
-      rule = λ w h. is-hand w h ∙ hand-take (tb .sets) s q n c pos l w (ap (λ (y : Files ℕ). needs y c q) h ∙ nd)
-          ∙ ap (λ (b : Bool). cond b (handOver real (treeOf (tb .sets)) s q c (each (give real (treeOf (tb .sets)) s q) (chain (tb .sets) (n - 1) (tb .sets c .nextSibling)) w)) (each (give real (treeOf (tb .sets)) s q) (chain (tb .sets) (n - 1) (tb .sets c .nextSibling)) w)) (sym (lt-ltb c 8 l));
-      within = rest-within (tb .sets) s q n c pos l (x .within);
-      few = omega arith;
-    })
+    module _ (d : ℕ) (pos : n ≡ 0 → ⊥) (l : c < 8) (e : d ≡ tb .sets c .nextSibling) where
+      -- LAW: set c is the first that needs it
+      pub heir-first : n ≤ 8 → needs (tb .files f) c q ≡ true → HeirFound tb f q first (record { set = c; next = d; most = n - 1 })
+      heir-first few nd = subst (λ i. HeirFound tb f q first (record { set = c; next = i; most = n - 1 })) (sym e) (record {
+        rule = λ s w h. x .rule s w h ∙ hand-take (tb .sets) s q n c pos l w (ap (λ (y : Files ℕ). needs y c q) h ∙ nd)
+            ∙ ap (λ (b : Bool). cond b (handOver real (treeOf (tb .sets)) s q c (each (give real (treeOf (tb .sets)) s q) (chain (tb .sets) (n - 1) (tb .sets c .nextSibling)) w)) (each (give real (treeOf (tb .sets)) s q) (chain (tb .sets) (n - 1) (tb .sets c .nextSibling)) w)) (sym (lt-ltb c 8 l));
+        within = λ y m. x .within y (rest-within (tb .sets) n c pos l y m);
+        few = omega arith;
+      })
 
-  -- LAW: child c does not need it
-  pub search-next : (n c d : ℕ) → Searching tb f s q n c → (n ≡ 0 → ⊥) → c < 8 → needs (tb .files f) c q ≡ false → d ≡ tb .sets c .nextSibling → Searching tb f s q (n - 1) d
-  search-next n c d x pos l un e = subst (λ i. Searching tb f s q (n - 1) i) (sym e) (record {
-    rule = λ w h. x .rule w h ∙ hand-skip (tb .sets) s q n c pos l w (ap (λ (y : Files ℕ). needs y c q) h ∙ un);
-    within = rest-within (tb .sets) s q n c pos l (x .within);
-  })
+      -- LAW: set c does not need it
+      pub search-next : needs (tb .files f) c q ≡ false → Searching tb f q first (n - 1) d
+      search-next un = subst (λ i. Searching tb f q first (n - 1) i) (sym e) (record {
+        rule = λ s w h. x .rule s w h ∙ hand-skip (tb .sets) s q n c pos l w (ap (λ (y : Files ℕ). needs y c q) h ∙ un);
+        within = λ y m. x .within y (rest-within (tb .sets) n c pos l y m);
+      })
+
+-- ---- the children of a set
+
+-- LAW: they are the chain from its first child on
+first-children : (sets : ℕ → SetRecord) (s c : ℕ) → FirstChild sets s c → childrenOf sets s ≡ chain sets 8 c
+unfolding childrenOf
+first-children sets s c h = rw (h .used, h .first)
 
 -- ---- a page
 
@@ -158,26 +151,69 @@ unfolding givePage
 page-how tr true s q w = refl
 page-how tr false s q w = refl
 
-module _ {t p t₁ p₁ : List ℕ} {f : ℕ} {k k₁ : Counts} (s q : ℕ) (e : Entry ℕ) (gift : Bool) (r : InTurn) (re : Ready t p f k) (ee : e ≡ shown t f s q) (found : TurnsFound (unpack t) f s q gift r)
-    (x : Step t p t₁ p₁ f k k₁ (giveChain (unpack t .sets) e q (r .most) (r .first))) where
-  given : (h : ℕ → Entry ℕ) → giveChain (unpack t .sets) e q (r .most) (r .first) (work (unpack t) (pagesOf p) f h k) ≡ each (give real (treeOf (unpack t .sets)) s q) (chain (unpack t .sets) (r .most) (r .first)) (work (unpack t) (pagesOf p) f h k)
-  given h = given-as (treeOf (unpack t .sets)) (re .sound .tree) s q e (chain (unpack t .sets) (r .most) (r .first)) (found .within) (work (unpack t) (pagesOf p) f h k) (sym ee)
+-- LAW: the turns of children of set s for what a page of it resolves to are the rule's
+chain-given : {t p t′ p′ : List ℕ} {f : ℕ} {k k′ : Counts} (s q n c first : ℕ) (e : Entry ℕ) → Ready t p f k → e ≡ shown t f s q → FirstChild (unpack t .sets) s first
+    → ((x : ℕ) → List·Memᴰ x (chain (unpack t .sets) n c) → List·Memᴰ x (chain (unpack t .sets) 8 first))
+    → Step t p t′ p′ f k k′ (giveChain (unpack t .sets) e q n c) → Step t p t′ p′ f k k′ (each (give real (treeOf (unpack t .sets)) s q) (chain (unpack t .sets) n c))
+chain-given {t} {p} {t′} {p′} {f} {k} s q n c first e re ee ch within x =
+    step-as (each (give real (treeOf (unpack t .sets)) s q) (chain (unpack t .sets) n c))
+    (λ h. given-as (treeOf (unpack t .sets)) (re .sound .tree) s q e (chain (unpack t .sets) n c)
+    (λ y m. subst (List·Memᴰ y) (sym (first-children (unpack t .sets) s first ch)) (within y m)) (work (unpack t) (pagesOf p) f h k) (sym ee)) x
 
-  -- LAW: a page's turns, and then the block moves
-  pub page-given : {t₂ : List ℕ} (hands : Bool) → gift ≡ (hands && isStored (unpack t .files f s .map q)) → Alone t₁ t₂ f (handIf (treeOf (unpack t₁ .sets)) s q (r .heir))
-      → Step t p t₂ p₁ f k k₁ (givePage real (treeOf (unpack t .sets)) (givingOf hands) s q)
-  page-given {t₂} hands eg a =
+module _ {t p t₁ p₁ : List ℕ} {f : ℕ} {k k₁ : Counts} (s q first : ℕ) (e : Entry ℕ) (r : Heir) (re : Ready t p f k) (ch : FirstChild (unpack t .sets) s first) (ee : e ≡ shown t f s q)
+    (found : HeirFound (unpack t) f q first r) (x : Step t p t₁ p₁ f k k₁ (giveChain (unpack t .sets) e q (r .most) (r .next))) where
+  turns-done : Step t p t₁ p₁ f k k₁ (each (give real (treeOf (unpack t .sets)) s q) (chain (unpack t .sets) (r .most) (r .next)))
+  turns-done = chain-given s q (r .most) (r .next) first e re ee ch (found .within) x
+
+  -- LAW: they leave the map of set s
+  pub map-left : (y : ℕ) → unpack t₁ .files f s .map y ≡ unpack t .files f s .map y
+  map-left y =
+      ap (λ (w : Work real). w .files s .map y) (turns-done .step .does (λ i. unmapped))
+      ∙ ap (λ (z : File ℕ). z .map y) (some-self real (treeOf (unpack t .sets)) (re .sound .tree) s q (chain (unpack t .sets) (r .most) (r .next))
+      (λ z m. subst (List·Memᴰ z) (sym (first-children (unpack t .sets) s first ch)) (found .within z m)) (work (unpack t) (pagesOf p) f (λ i. unmapped) k))
+
+  -- LAW: the turns of the sets behind the heir, and then the block moves
+  pub page-handed : {t₂ : List ℕ} → Alone t₁ t₂ f (handIf (treeOf (unpack t₁ .sets)) s q (r .set)) → Step t p t₂ p₁ f k k₁ (hand real (treeOf (unpack t .sets)) s q (childrenOf (unpack t .sets) s))
+  page-handed {t₂} a =
       let tr = treeOf (unpack t .sets) in
-      let z : Step t₁ p₁ t₂ p₁ f k₁ k₁ (handIf tr s q (r .heir)) = subst (λ (i : ℕ → SetRecord). Step t₁ p₁ t₂ p₁ f k₁ k₁ (handIf (treeOf i) s q (r .heir))) (step-sets x) (a p₁ k₁ (x .ready)) in
+      let z : Step t₁ p₁ t₂ p₁ f k₁ k₁ (handIf tr s q (r .set)) = subst (λ (i : ℕ → SetRecord). Step t₁ p₁ t₂ p₁ f k₁ k₁ (handIf (treeOf i) s q (r .set))) (step-sets x) (a p₁ k₁ (x .ready)) in
+      step-as (hand real tr s q (tr .children s))
+      (λ h. let w = work (unpack t) (pagesOf p) f h k in
+      sym (ap (λ (cs : List ℕ). hand real tr s q cs w) (first-children (unpack t .sets) s first ch) ∙ found .rule s w refl)) (step-then turns-done z)
+
+-- LAW: a page that the set's own map stores resolves to that
+pub own-shown : (t : List ℕ) (f s q : ℕ) → isStored (unpack t .files f s .map q) ≡ true → shown t f s q ≡ unpack t .files f s .map q
+own-shown t f s q h = go (unpack t .files f s .map q) refl h
+  where
+    go : (x : Entry ℕ) → unpack t .files f s .map q ≡ x → isStored x ≡ true → shown t f s q ≡ x
+    go unmapped e i = absurd (true≢false (sym i))
+    go hole e i = absurd (true≢false (sym i))
+    go (stored b) e i = resolve-here (treeOf (unpack t .sets)) (unpack t .files f) s q (stored b) e refl
+
+module _ {t p t′ p′ : List ℕ} {f : ℕ} {k k′ : Counts} (s q : ℕ) (gift hands : Bool) (eg : gift ≡ (hands && isStored (unpack t .files f s .map q))) where
+  -- LAW: a page that is handed over
+  pub page-gift : gift ≡ true → Step t p t′ p′ f k k′ (hand real (treeOf (unpack t .sets)) s q (childrenOf (unpack t .sets) s))
+      → Step t p t′ p′ f k k′ (givePage real (treeOf (unpack t .sets)) (givingOf hands) s q)
+  page-gift g x =
+      let tr = treeOf (unpack t .sets) in
       step-as (givePage real tr (givingOf hands) s q)
       (λ h. let w = work (unpack t) (pagesOf p) f h k in
-      ap (handIf tr s q (r .heir)) (given h) ∙ sym (found .rule w refl)
-      ∙ ap (λ (b : Bool). cond b (hand real tr s q (tr .children s) w) (each (give real tr s q) (tr .children s) w)) eg ∙ sym (page-how tr hands s q w))
-      (step-then x z)
+      ap (λ (b : Bool). cond b (hand real tr s q (tr .children s) w) (each (give real tr s q) (tr .children s) w)) (sym g ∙ eg) ∙ sym (page-how tr hands s q w)) x
 
--- LAW: what the next step of the page needs
-pub moving-below : {t p : List ℕ} {f : ℕ} {k : Counts} (s q : ℕ) → Ready t p f k → (b : ℕ) → unpack t .files f s .map q ≡ stored b → b < 4096
-moving-below s q re b e = let h = re .sound .named s q b e in omega (arith, h, re .sound .header .most)
+  -- LAW: a page that is not
+  pub page-copied : (c : ℕ) (e : Entry ℕ) → gift ≡ false → Ready t p f k → FirstChild (unpack t .sets) s c → e ≡ shown t f s q → Step t p t′ p′ f k k′ (giveChain (unpack t .sets) e q 8 c)
+      → Step t p t′ p′ f k k′ (givePage real (treeOf (unpack t .sets)) (givingOf hands) s q)
+  page-copied c e g re ch ee x =
+      let tr = treeOf (unpack t .sets) in
+      step-as (givePage real tr (givingOf hands) s q)
+      (λ h. let w = work (unpack t) (pagesOf p) f h k in
+      ap (λ (cs : List ℕ). each (give real tr s q) cs w) (sym (first-children (unpack t .sets) s c ch))
+      ∙ ap (λ (b : Bool). cond b (hand real tr s q (tr .children s) w) (each (give real tr s q) (tr .children s) w)) (sym g ∙ eg) ∙ sym (page-how tr hands s q w))
+      (chain-given s q 8 c c e re ee ch (λ y m. m) x)
+
+-- LAW: the block that moves is one of the bitmap
+pub moving-below : {t p : List ℕ} {f : ℕ} {k : Counts} {e : Entry ℕ} (s q : ℕ) → Ready t p f k → e ≡ unpack t .files f s .map q → (b : ℕ) → e ≡ stored b → b < 4096
+moving-below s q re own b ee = let h = re .sound .named s q b (sym own ∙ ee) in omega (arith, h, re .sound .header .most)
 
 -- ---- handing page q leaves the others of set s
 

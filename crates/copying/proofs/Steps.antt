@@ -1,10 +1,10 @@
 -- Steps of a call, one after another, and loops of them. Assumes nothing.
 use mathlib.Core.Bool.{true}
 use mathlib.Core.List.{List}
-use mathlib.Core.Path.{ap, refl, sym, _∙_, _≡_}
+use mathlib.Core.Path.{ap, refl, subst, sym, _∙_, _≡_}
 use Prim.Native.Nat.{_*_, ℕ}
 use lib.ListN.{length}
-use Rattle.copying.specs.Work.{Does, Going, Ready, Rest, Step, work}
+use Rattle.copying.specs.Work.{Does, FirstChild, Going, Ready, Rest, Step, work}
 use Rattle.rules.specs.Rules.{Work}
 use Rattle.rules.specs.State.{Entry, SetRecord, Tables}
 use Rattle.rules.specs.Storage.{PageData, real}
@@ -52,6 +52,9 @@ module _ {t p : List ℕ} {f : ℕ} {k : Counts} where
     pub step-used : (s : ℕ) → Step t p t₁ p₁ f k k₁ op → unpack t .sets s .used ≡ true → unpack t₁ .sets s .used ≡ true
     step-used s x u = ap (λ (y : ℕ → SetRecord). y s .used) (step-sets x) ∙ u
 
+    pub step-first : (s c : ℕ) → Step t p t₁ p₁ f k k₁ op → FirstChild (unpack t .sets) s c → FirstChild (unpack t₁ .sets) s c
+    step-first s c x h = subst (λ (y : ℕ → SetRecord). FirstChild y s c) (sym (step-sets x)) h
+
     pub step-pages : Ready t p f k → Step t p t₁ p₁ f k k₁ op → length p₁ ≡ length p
     step-pages re s = s .ready .size ∙ ap (λ n. n * 512) (step-blocks s) ∙ sym (re .size)
 
@@ -83,6 +86,9 @@ module _ {t₀ p₀ t p : List ℕ} {f : ℕ} {k₀ k : Counts} {op todo : Work 
 
   pub going-used : (s : ℕ) → unpack t₀ .sets s .used ≡ true → unpack t .sets s .used ≡ true
   going-used s u = ap (λ (y : ℕ → SetRecord). y s .used) going-sets ∙ u
+
+  pub going-first : (s c : ℕ) → FirstChild (unpack t₀ .sets) s c → FirstChild (unpack t .sets) s c
+  going-first s c h = subst (λ (y : ℕ → SetRecord). FirstChild y s c) (sym going-sets) h
 
   pub going-pages : Ready t₀ p₀ f k₀ → length p ≡ length p₀
   going-pages re = g .ready .size ∙ ap (λ (r : Rest). r .blocks * 512) (g .same) ∙ sym (re .size)

@@ -1,6 +1,6 @@
 -- For the contracts of the code, not for a reader of document 01: the rules' work on the files of one number, read off tables, pages and the counts of the code; what every step of a call needs and keeps; what a step must show.
 use mathlib.Core.Bool.{Bool, cond, false, not, true}
-use mathlib.Core.List.{List, List·Memᴰ}
+use mathlib.Core.List.{List}
 use mathlib.Core.Path.{_≡_}
 use Prim.Native.Nat.{_*_, _+_, _-_, _<_, ℕ, _≤_}
 use lib.Dec.{ltb}
@@ -10,7 +10,7 @@ use Rattle.base.specs.Update.{upd}
 use Rattle.rules.proofs.Steps.OneStep.{TreeOk}
 use Rattle.rules.specs.Reading.{needs, resolve}
 use Rattle.rules.specs.Rules.{Giving, Work, copied, each, giveAll, handOver, handed, settle, supply}
-use Rattle.rules.specs.State.{Entry, Files, SetRecord, Tables, Tree, absentFile, chain, childrenOf, live, stored, treeOf}
+use Rattle.rules.specs.State.{Entry, Files, SetRecord, Tables, Tree, absentFile, chain, live, stored, treeOf}
 use Rattle.rules.specs.Storage.{Memory, PageData, real}
 use Rattle.tables.specs.Calls.{pagesOf}
 use Rattle.tables.specs.Packed.{unpack}
@@ -91,9 +91,10 @@ giveAs t e q c w = cond (needs (w .files) c q) (supply real t e c q w) w
 abbrev pub giveChain : (ℕ → SetRecord) → Entry ℕ → ℕ → ℕ → ℕ → Work real → Work real
 giveChain sets e q n c = each (giveAs (treeOf sets) e q) (chain sets n c)
 
--- the sets of a chain are children of set s
-abbrev pub ChainIn : (ℕ → SetRecord) → ℕ → ℕ → ℕ → Type 0
-ChainIn sets s n c = (x : ℕ) → List·Memᴰ x (chain sets n c) → List·Memᴰ x (childrenOf sets s)
+-- set s is in use, and c is its first child, or none
+pub record FirstChild (sets : ℕ → SetRecord) (s c : ℕ) : Type 0 where
+  pub used : sets s .used ≡ true
+  pub first : c ≡ sets s .firstChild
 
 -- page q of set s is taken over by set c, where that is one
 abbrev pub handIf : Tree → ℕ → ℕ → ℕ → Work real → Work real

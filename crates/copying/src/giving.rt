@@ -5,14 +5,14 @@ ghost use mathlib.Core.Bool.{_&&_, true};
 ghost use Prim.Native.Nat.{ℕ, _+_, _<_, _≤_};
 ghost use lib.ListN.{length};
 ghost use Rattle.rules.specs.Rules as Rules;
-ghost use Rattle.rules.specs.State.{isStored, live, stored, treeOf};
+ghost use Rattle.rules.specs.State.{childrenOf, isStored, live, stored, treeOf};
 ghost use Rattle.rules.specs.Storage.{real};
 ghost use Rattle.tables.specs.Layout.{tableBytes};
 ghost use Rattle.tables.specs.Packed.{unpack};
 ghost use Rattle.tables.specs.Meaning.{entryMeant};
 ghost use Rattle.tables.specs.Views.{PackedTables};
-ghost use Rattle.copying.specs.Work.{Alone, Ready, ShownKept, Step, giveAs, giveBoth, giveChain, givingOf, handIf, shown};
-ghost use Rattle.copying.specs.Turns.{TurnsFound};
+ghost use Rattle.copying.specs.Work.{Alone, FirstChild, Ready, ShownKept, Step, giveAs, giveBoth, giveChain, givingOf, handIf, shown};
+ghost use Rattle.copying.specs.Heirs.{HeirFound};
 use crate::marking;
 use maps::resolving;
 use tables::entries;
@@ -133,12 +133,12 @@ fn give_chain(
     w
 }
 
-// Whose turns a page's are: those of set `first` and the sets behind it in its chain, `most` at most; then the block goes to set
-// `heir`, where that is one.
-struct InTurn {
-    first: usize,
+// The first child of a set that needs a page, the heir, or 8 if none does; and its siblings behind it: set `next` and the sets behind that
+// in its chain, `most` at most.
+struct Heir {
+    set: usize,
+    next: usize,
     most: usize,
-    heir: usize,
 }
 
 // Is a page of set s handed over, where pages are: is it "stored in the file's own map"?
@@ -152,44 +152,73 @@ fn is_gift(t: &[u8], f: usize, s: usize, page: Page, hands: bool) -> bool
     entries::is_stored(entries::entry_at(t, f, s, page))
 }
 
-// The children of set s: all of them, or, for a block handed over, those behind the first that needs the page, the heir.
-fn in_turn(t: &[u8], f: usize, s: usize, page: Page, gift: bool) -> InTurn
-    requires { ⌜ (length (now t) ≡ tableBytes) × (f < 16) × (s < 8) × (page .0 < 64) × (unpack (now t) .sets s .used ≡ true) ⌝ }
-    ensures { λ r. ⌜ TurnsFound (unpack (now (t .entry))) f s (page .0) gift r ⌝ }
+// The first of set `child` and the sets behind it in its chain that needs a page.
+fn find_heir(t: &[u8], f: usize, page: Page, child: usize) -> Heir
+    requires { ⌜ (length (now t) ≡ tableBytes) × (f < 16) × (page .0 < 64) ⌝ }
+    ensures { λ r. ⌜ HeirFound (unpack (now (t .entry))) f (page .0) child r ⌝ }
 {
-    let mut c = sets::first_child_of(t, s);
+    let mut c = child;
     let mut n: usize = 8;
-    if !gift {
-        return InTurn { first: c, most: n, heir: 8 };
-    }
     while 0 < n {
         if 8 <= c {
-            return InTurn { first: c, most: 0, heir: 8 };
+            return Heir {
+                set: 8,
+                next: 8,
+                most: 0,
+            };
         }
         let next = sets::next_sibling_of(t, c);
         if maps::marking::needs(t, f, c, page) {
-            return InTurn { first: next, most: n - 1, heir: c };
+            return Heir {
+                set: c,
+                next: next,
+                most: n - 1,
+            };
         }
         c = next;
         n -= 1;
     }
-    InTurn { first: c, most: 0, heir: 8 }
+    Heir {
+        set: 8,
+        next: 8,
+        most: 0,
+    }
 }
 
-// The entry that a page has in set s moves to the map of set c, if there is such a set.
-fn hand_over(t: &mut [u8], f: usize, s: usize, page: Page, c: usize)
-    requires { ⌜ PackedTables (now t) × (f < 16) × (s < 8) × (page .0 < 64) × ((b : ℕ) → unpack (now t) .files f s .map (page .0) ≡ stored b → b < 4096) ⌝ }
+// The entry that a page has in set s, e, moves to the map of set c, if there is such a set.
+fn hand_over(t: &mut [u8], f: usize, s: usize, page: Page, e: Entry, c: usize)
+    requires { ⌜ PackedTables (now t) × (f < 16) × (s < 8) × (page .0 < 64) × (entryMeant e ≡ unpack (now t) .files f s .map (page .0)) × ((b : ℕ) → entryMeant e ≡ stored b → b < 4096) ⌝ }
     ensures { λ _. ⌜ Alone (now (t .entry)) (now (t .exit)) f (handIf (treeOf (unpack (now (t .entry)) .sets)) s (page .0) c) ⌝ }
 {
     if 8 <= c {
         return;
     }
-    let e = entries::entry_at(&*t, f, s, page);
     entries::put_entry(t, f, c, page, e);
     entries::put_entry(t, f, s, page, Entry::Hole);
 }
 
-// A page of set s, which resolves to e, for each child.
+// A page of set s, which its own map stores as e: "the first child that needs it takes over the block itself. Other children needing it
+// still get copies", which are made first. The first child of set s is `child`.
+fn hand_page(
+    t: &mut [u8],
+    p: &mut [u8],
+    f: usize,
+    s: usize,
+    page: Page,
+    e: Entry,
+    child: usize,
+    k: Counts,
+) -> Counts
+    requires { ⌜ Ready (now t) (now p) f k × (s < 8) × (page .0 < 64) × FirstChild (unpack (now t) .sets) s child × (entryMeant e ≡ shown (now t) f s (page .0)) × (entryMeant e ≡ unpack (now t) .files f s .map (page .0)) ⌝ }
+    ensures { λ r. ⌜ Step (now (t .entry)) (now (p .entry)) (now (t .exit)) (now (p .exit)) f k r (Rules.hand real (treeOf (unpack (now (t .entry)) .sets)) s (page .0) (childrenOf (unpack (now (t .entry)) .sets) s)) ⌝ }
+{
+    let h = find_heir(&*t, f, page, child);
+    let w = give_chain(t, p, f, page, e, h.next, h.most, k);
+    hand_over(t, f, s, page, e, h.set);
+    w
+}
+
+// A page of set s, which resolves to e, for each child; the first child is `child`.
 fn give_page(
     t: &mut [u8],
     p: &mut [u8],
@@ -197,20 +226,20 @@ fn give_page(
     s: usize,
     page: Page,
     e: Entry,
+    child: usize,
     hands: bool,
     k: Counts,
 ) -> Counts
-    requires { ⌜ Ready (now t) (now p) f k × (s < 8) × (page .0 < 64) × (unpack (now t) .sets s .used ≡ true) × (entryMeant e ≡ shown (now t) f s (page .0)) ⌝ }
+    requires { ⌜ Ready (now t) (now p) f k × (s < 8) × (page .0 < 64) × FirstChild (unpack (now t) .sets) s child × (entryMeant e ≡ shown (now t) f s (page .0)) ⌝ }
     ensures { λ r. ⌜ Step (now (t .entry)) (now (p .entry)) (now (t .exit)) (now (p .exit)) f k r (Rules.givePage real (treeOf (unpack (now (t .entry)) .sets)) (givingOf hands) s (page .0)) ⌝ }
 {
-    let gift = is_gift(&*t, f, s, page, hands);
-    let r = in_turn(&*t, f, s, page, gift);
-    let w = give_chain(t, p, f, page, e, r.first, r.most, k);
-    hand_over(t, f, s, page, r.heir);
-    w
+    if is_gift(&*t, f, s, page, hands) {
+        return hand_page(t, p, f, s, page, e, child, k);
+    }
+    give_chain(t, p, f, page, e, child, 8, k)
 }
 
-// Each of m pages of set s from page number `first` on; what they resolve to is kept.
+// Each of m pages of set s from page number `first` on; what they resolve to is kept, the first child is `child`.
 fn give_pages(
     t: &mut [u8],
     p: &mut [u8],
@@ -219,10 +248,11 @@ fn give_pages(
     s: usize,
     first: usize,
     m: usize,
+    child: usize,
     hands: bool,
     k: Counts,
 ) -> Counts
-    requires { ⌜ Ready (now t) (now p) f k × (s < 8) × (first + m ≤ 64) × (unpack (now t) .sets s .used ≡ true) × (length kept ≡ 64) × ShownKept kept (now t) f s first m ⌝ }
+    requires { ⌜ Ready (now t) (now p) f k × (s < 8) × (first + m ≤ 64) × FirstChild (unpack (now t) .sets) s child × (length kept ≡ 64) × ShownKept kept (now t) f s first m ⌝ }
     ensures { λ r. ⌜ Step (now (t .entry)) (now (p .entry)) (now (t .exit)) (now (p .exit)) f k r (Rules.giveAll real (treeOf (unpack (now (t .entry)) .sets)) (givingOf hands) s (Rules.from first m)) ⌝ }
 {
     let mut w = k;
@@ -230,7 +260,7 @@ fn give_pages(
     let mut n = m;
     while 0 < n {
         let x = kept[q];
-        w = give_page(t, p, f, s, Page::new(q), x.entry(), hands, w);
+        w = give_page(t, p, f, s, Page::new(q), x.entry(), child, hands, w);
         q += 1;
         n -= 1;
     }
@@ -252,11 +282,12 @@ pub fn give_all(
     requires { ⌜ Ready (now t) (now p) f k × (s < 8) × (first + m + d ≤ 64) × (unpack (now t) .sets s .used ≡ true) ⌝ }
     ensures { λ r. ⌜ Step (now (t .entry)) (now (p .entry)) (now (t .exit)) (now (p .exit)) f k r (giveBoth (unpack (now (t .entry)) .sets) s (Rules.from first m) (Rules.from (first + m) d)) ⌝ }
 {
-    if 8 <= sets::first_child_of(&*t, s) {
+    let child = sets::first_child_of(&*t, s);
+    if 8 <= child {
         return k;
     }
     let r = resolving::resolve_range(&*t, f, s, first, m + d);
     let kept = r.kept;
-    let a = give_pages(t, p, kept, f, s, first, m, false, k);
-    give_pages(t, p, kept, f, s, first + m, d, true, a)
+    let a = give_pages(t, p, kept, f, s, first, m, child, false, k);
+    give_pages(t, p, kept, f, s, first + m, d, child, true, a)
 }

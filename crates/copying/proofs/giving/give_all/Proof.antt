@@ -3,8 +3,10 @@ use Prim.Native.Nat.{_+_}
 use native.Mathlib.Omega.{arith}
 use borrow.Author.Needs.{needs}
 use Rattle.rules.specs.Rules.{copied, from}
+use Rattle.tables.specs.Packed.{unpack}
+use Rattle.copying.specs.Work.{FirstChild}
 use Rattle.copying.proofs.Handed.{both-given, both-none, kept-behind}
-use Rattle.copying.proofs.Steps.{step-used}
+use Rattle.copying.proofs.Steps.{step-first}
 use Rattle.copying.proofs.giving.give_all.Statement.{statement}
 use Rattle.copying.proofs.giving.give_all.Tie as tie
 
@@ -15,12 +17,17 @@ returns c =
     let a = s .args in
     both-none (a .s) (d .first-child-of .result) (from (a .first) (a .m)) (from (a .first + a .m) (a .d)) (s .pre .0) (s .pre .3) (d .first-child-of .ensures .0) (c .if1 .taken)
 
+-- the first child
+first-child : (c : tie.After-first-child-of) → let a = c .before .before .before .before .args in FirstChild (unpack (a .t .now) .sets) (a .s) (c .first-child-of .result)
+first-child c = record { used = c .before .before .before .before .pre .3; first = c .first-child-of .ensures .0 }
+
 give-pages-requires : tie.Need-give-pages-requires
 give-pages-requires c κs =
     let r = c .before .before .before in
     let s = r .before .before .before .before .before .before .before in
     let e = r .resolve-range .ensures in
-    (s .pre .0, s .pre .1, omega (arith, s .pre .2), s .pre .3, e .len, λ x lo hi. e .found x lo (omega (arith, hi)))
+    let ch = first-child (r .before .before .before) in
+    (s .pre .0, s .pre .1, omega (arith, s .pre .2), ch, e .len, λ x lo hi. e .found x lo (omega (arith, hi)))
 
 give-pages-requires-2 : tie.Need-give-pages-requires-2
 give-pages-requires-2 c κs =
@@ -30,7 +37,7 @@ give-pages-requires-2 c κs =
     let a = s .args in
     let x = g .give-pages .ensures in
     let e = r .resolve-range .ensures in
-    (x .ready, s .pre .1, s .pre .2, step-used (a .s) x (s .pre .3), e .len, kept-behind (r .resolve-range .result .kept) copied (a .s) (a .first) (a .m) (a .d) (s .pre .0) (e .found) x)
+    (x .ready, s .pre .1, s .pre .2, step-first (a .s) _ x (first-child (r .before .before .before)), e .len, kept-behind (r .resolve-range .result .kept) copied (a .s) (a .first) (a .m) (a .d) (s .pre .0) (e .found) x)
 
 returns-2 : tie.Need-returns-2
 returns-2 c =

@@ -9,17 +9,17 @@ use Rattle.tables.specs.Meaning.{keptMeant}
 use Rattle.tables.specs.Packed.{unpack}
 use Rattle.tables.specs.Views.{entriesOf}
 use Rattle.copying.specs.Work.{givingOf, shown}
-use Rattle.copying.proofs.Steps.{going-done, going-pages, going-tables, going-used}
+use Rattle.copying.proofs.Steps.{going-done, going-first, going-pages, going-tables}
 use Rattle.copying.proofs.Chains.{pages-out}
 use Rattle.copying.proofs.Handed.{PagesGoing, givingPage, pages-next, pages-start}
 use Rattle.copying.proofs.giving.give_pages.Statement.{statement}
 use Rattle.copying.proofs.giving.give_pages.Tie as tie
 
 abbrev Inv-loop : tie.InvT-loop
-Inv-loop t₀ p₀ f s first m hands kept w₀ q₀ n₀ t p w q n = (q + n ≡ first + m) × PagesGoing t₀ p₀ t p kept f w₀ w (givingOf hands) s first m q n
+Inv-loop t₀ p₀ f s first m child hands kept w₀ q₀ n₀ t p w q n = (q + n ≡ first + m) × PagesGoing t₀ p₀ t p kept f w₀ w (givingOf hands) s first m q n
 
 abbrev μ-loop : tie.MeasureT-loop
-μ-loop t₀ p₀ f s first m hands kept w₀ q₀ n₀ t p w q n = n
+μ-loop t₀ p₀ f s first m child hands kept w₀ q₀ n₀ t p w q n = n
 
 -- the function's start, from the loop's test
 abbrev start : tie.At-loop Inv-loop μ-loop → tie.Start Inv-loop μ-loop
@@ -49,7 +49,7 @@ give-page-requires c κs =
       g .going .ready,
       s .pre .1,
       omega (arith, y .ensures),
-      going-used (g .going) (s .args .s) (s .pre .3),
+      going-first (g .going) (s .args .s) (s .args .child) (s .pre .3),
       c .entry .ensures ∙ entry-is x ∙ g .kept (l .loop .q) (omega arith) (omega arith) ∙ ap (shown _ _ _) (sym (y .ensures)),
     )
 
