@@ -7,8 +7,8 @@ use mathlib.Core.Path.{_≡_}
 use Prim.Native.Nat.{_-_, _<_, ℕ}
 use lib.ListN.{length}
 use Rattle.rules.specs.Numbers.{Call, delete, make, truncate, write}
-use Rattle.rules.specs.State.{Tree, isMarked, isStored, isUnmapped, live, pageCount, stored, unmapped}
-use Rattle.rules.specs.Tally.{Tally, TallyFiles, Turn, atPage, childTurn, eachChild, eachPage, kindAt, partPage, tallySize, tallyTruncateNeed, tallyWriteNeed, truncateTouches, writeTouches}
+use Rattle.rules.specs.State.{Tree, isMarked, isStored, live, pageCount, stored, unmapped}
+use Rattle.rules.specs.Tally.{Tally, TallyFiles, Turn, atPage, childTurn, eachChild, eachPage, kindAt, partPage, tallyNeeds, tallySize, tallyTruncateNeed, tallyWriteNeed, truncateTouches, writeTouches}
 
 -- "Marking a file marks every own or virgin file of its number in a child set that has any unmapped page, and so on down":
 -- the file of set y is the one of set c, or it still depends on it
@@ -34,13 +34,13 @@ ownTaken ta f need = record { files = ta .files f; free = ta .free - need; copie
 -- the children behind the first that needs page p; none if no child needs it
 unfoldable pub behind : ℕ → Turn → List ℕ → List ℕ
 behind p x [] = []
-behind p x (c ∷ cs) = cond (live (x .files c .state) && isUnmapped (x .files c .map p)) cs (behind p x cs)
+behind p x (c ∷ cs) = cond (tallyNeeds (x .files) c p) cs (behind p x cs)
 
 -- the children that have a turn at page p, where x is what the first turn there finds: all; but where the page is handed over, those behind the first that needs it, who takes it over
 unfoldable pub inTurn : Tree → ℕ → Bool → ℕ → Turn → List ℕ
 inTurn t s hands p x = cond (hands && isStored (x .files s .map p)) (behind p x (t .children s)) (t .children s)
 
--- what the turn of a child at page p finds, where the first finds x: "that call's earlier copies being taken", at the pages below p, and at page p for the children before it. (A page taken over takes no block.)
+-- what the turn of a child at page p finds, where the first finds x: "that call's earlier copies being taken", at the pages below p, and at page p for the children before it. (A page taken over takes no block, and is stored for the others as it was.)
 unfoldable pub turnBefore : Tree → ℕ → (ℕ → Bool) → (ℕ → Bool) → Turn → ℕ → List ℕ → Turn
 turnBefore t s touches hands x p earlier = eachChild (childTurn t s p) earlier (eachPage (atPage t s touches hands) p x)
 

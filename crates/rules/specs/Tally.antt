@@ -1,5 +1,5 @@
 -- The tally: "the same calls under the rules above with sets, states, sizes, kinds and a count of free blocks (B at format), but no block numbers or bytes".
--- Document 01, "Demand 3". It is stated on its own, in its own words, and shares no rule with the store but the table of
+-- Document 01, "Demand 3", and document 02, Ask 2. It is stated on its own, in its own words, and shares no rule with the store but the table of
 -- numbers: a rule of the store that marked or copied too much or too little would show.
 use mathlib.Core.Bool.{_&&_, Bool, cond, false, not, true, _||_}
 use mathlib.Core.List.{List, _∷_, []}
@@ -59,6 +59,10 @@ pub record Turn : Type 0 where
   pub free : ℕ
   pub copies : ℕ
   pub marks : ℕ
+
+-- "A child needs page p when its file is own or virgin and p is unmapped there."
+abbrev pub tallyNeeds : TallyFiles → ℕ → ℕ → Bool
+tallyNeeds fs c p = live (fs c .state) && isUnmapped (fs c .map p)
 
 module _ (t : Tree) where
   -- the kind that page p has in set s, n levels deep
@@ -120,28 +124,30 @@ module _ (t : Tree) where
 
   -- one child's turn: does it need page p?
   unfoldable pub childTurn : ℕ → ℕ → ℕ → Turn → Turn
-  childTurn s p c x =
-      cond (live (x .files c .state) && isUnmapped (x .files c .map p)) (childPage (kindAt (x .files) s p) p c x) x
+  childTurn s p c x = cond (tallyNeeds (x .files) c p) (childPage (kindAt (x .files) s p) p c x) x
 
-  -- page p, stored in the map of set s, is taken over by child c: no copy, and no block is taken
+  -- page p, stored in the map of set s, is taken over by child c: "A block handed over counts as no copy", and none is taken
   unfoldable pub takenOver : ℕ → ℕ → ℕ → Turn → Turn
   takenOver s p c x = record { files = tallyKind s p hole (tallyKind c p (stored tt) (x .files)); free = x .free; copies = x .copies; marks = x .marks }
 
-  -- the first of the children that needs it takes it over, when those behind it have their copies
+  -- the turn of another child at a page that is taken over
+  unfoldable pub copyTurn : ℕ → ℕ → Turn → Turn
+  copyTurn p c x = cond (tallyNeeds (x .files) c p) (neededCopy p c x) x
+
+  -- "the first child that needs it takes over the block itself. Other children needing it still get copies."
   unfoldable pub handTurns : ℕ → ℕ → List ℕ → Turn → Turn
   handTurns s p [] x = x
-  handTurns s p (c ∷ cs) x =
-      cond (live (x .files c .state) && isUnmapped (x .files c .map p)) (takenOver s p c (eachChild (childTurn s p) cs x)) (handTurns s p cs x)
+  handTurns s p (c ∷ cs) x = cond (tallyNeeds (x .files) c p) (eachChild (copyTurn p) cs (takenOver s p c x)) (handTurns s p cs x)
 
-  -- the turns at page p of the file in set s, handed over if it may be
+  -- the turns at page p of the file in set s; hands: the call drops the page whole, so it is handed over if it is stored in this map
   unfoldable pub pageTurns : ℕ → Bool → ℕ → Turn → Turn
   pageTurns s hands p x = cond (hands && isStored (x .files s .map p)) (handTurns s p (t .children s) x) (eachChild (childTurn s p) (t .children s) x)
 
-  -- the same if the page passes
+  -- the same, if the call touches the page
   abbrev pub atPage : ℕ → (ℕ → Bool) → (ℕ → Bool) → ℕ → Turn → Turn
   atPage s touches hands p x = cond (touches p) (pageTurns s (hands p) p x) x
 
-  -- step 4 for the pages below 64 that pass, of the file in set s
+  -- step 4 for the touched pages below 64, of the file in set s; hands tells which are dropped whole
   unfoldable pub tallyGive : ℕ → (ℕ → Bool) → (ℕ → Bool) → Turn → Turn
   tallyGive s touches hands x = eachPage (atPage s touches hands) pageCount x
 
@@ -193,6 +199,7 @@ unfoldable pub cutKinds : ℕ → ℕ → Kind → (ℕ → Kind) → ℕ → Ki
 cutKinds n z k m p =
     cond (ltb p pageCount && truncateTouches n z p) (cond (partPage n p) (cond (isStored k) (stored tt) (m p)) hole) (m p)
 
+-- released are the blocks of pages dropped that are still in the map after the turns; one handed over is there no more
 unfoldable pub tallyCut : ℕ → ℕ → ℕ → ℕ → Tally → TallyResult
 tallyCut s f n z ta =
     let taken : ℕ = tallyTruncateNeed (ta .tree) (ta .files f) s n in
@@ -216,6 +223,7 @@ tallyTruncate s f n ta =
 unfoldable pub storedPages : TallyFile → ℕ
 storedPages x = count pageCount (λ p. isStored (x .map p))
 
+-- the same of all blocks; the children of a marked file have no turns
 unfoldable pub tallyDelete : ℕ → ℕ → Tally → TallyResult
 tallyDelete s f ta =
     let x : Turn = tallyTurns ta f s (cond (live (ta .files f s .state)) (ta .tree .children s) []) 0 (λ p. live (ta .files f s .state)) (λ p. true) in

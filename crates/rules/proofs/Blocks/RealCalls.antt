@@ -15,7 +15,7 @@ use Rattle.rules.proofs.Steps.Erased.{unlinked}
 use Rattle.rules.proofs.Blocks.GoodWork.{not-stored}
 use Rattle.rules.proofs.Storages.Model.{model}
 use Rattle.rules.proofs.Blocks.RealSim.{pagesSeen, realDemands, toModel}
-use Rattle.rules.proofs.Blocks.RealStore.{BlocksOk, Outer, PagesInside, RealKept, good-begin, kept-finish, none-stored, not-itself}
+use Rattle.rules.proofs.Blocks.RealStore.{BlocksOk, Outer, PagesInside, RealKept, good-begin, kept-finish, none-stored}
 use Rattle.rules.proofs.Storages.StoreSim.{Same, Standing, StoreSim, calls-same}
 use Rattle.rules.proofs.Agreement.Truncate.{apart}
 use Rattle.rules.specs.Calls.{Store, blankMemory, created, formatted, made, newFile, step, treeIn}
@@ -26,7 +26,7 @@ use Rattle.rules.specs.Sets.{appendSet, childFile, linkBehind, linkLast,
 use Rattle.rules.specs.State.{Entry, File, Files, SetRecord, absentFile, childrenOf, hole, isAbsent, isStored, stored, unmapped, unusedSet}
 use Rattle.rules.specs.Storage.{Memory, freeBlocks, real}
 use Rattle.rules.specs.WellFormed.{names}
-use Rattle.rules.proofs.Steps.Handing.{ProperTree}
+use Rattle.rules.proofs.Steps.Handing.{ProperTree, not-itself}
 
 -- FILES THAT CHANGE WITHOUT BLOCKS: each is as it was, or nothing was stored in it and nothing is
 abbrev NoneStored : File ℕ → Type 0

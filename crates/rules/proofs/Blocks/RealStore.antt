@@ -1,7 +1,6 @@
 -- What is kept of the store: the bitmap is exact, no block is named twice, entries name blocks only where they may, and pages are zero where nothing can be stored.
 -- Each call keeps that. Assumes nothing.
 use mathlib.Core.Bool.{Bool, false, true, true≢false}
-use mathlib.Core.List.{List·Memᴰ}
 use mathlib.Core.Logic.{inl, inr, _⊎_, ⊎-elim}
 use mathlib.Core.Path.{_≡_, ap, refl, subst, sym, _∙_}
 use Prim.Native.Nat.{_<_, ℕ}
@@ -10,12 +9,11 @@ use lib.Pow.{low}
 use Rattle.base.specs.Logic.{same?}
 use Rattle.base.specs.Update.{upd, upd-other, upd-same}
 use Rattle.rules.proofs.Blocks.GoodWork.{Good, PagesIn, Place, Used, at, slot}
-use Rattle.rules.proofs.Steps.OneStep.{TreeOk}
 use Rattle.rules.proofs.Steps.Pending.{Finished}
 use Rattle.rules.proofs.Steps.States.{stored-is}
 use Rattle.rules.specs.Calls.{Store, begin, finish, treeIn}
 use Rattle.rules.specs.Rules.{Work}
-use Rattle.rules.specs.State.{Entry, Files, Tree, isAbsent, isStored, stored, unmapped}
+use Rattle.rules.specs.State.{Entry, Files, isAbsent, isStored, stored, unmapped}
 use Rattle.rules.specs.Storage.{real}
 
 -- an entry that names block b
@@ -50,10 +48,6 @@ pub record RealKept (B : ℕ) (r : Store real) : Type 0 where
   pub blocks : r .memory .blocks ≡ B
   pub blocks-ok : BlocksOk r
   pub pages-in : PagesInside r
-
--- no set is a child of itself
-pub not-itself : (t : Tree) → TreeOk t → (s c : ℕ) → List·Memᴰ c (t .children s) → s ≡ c → ⊥
-not-itself t ok s c m e = let z : t .level s ≡ t .level c = ap (t .level) e in omega (arith, ok .kid-lvl s c m)
 
 -- the blocks of the files of other numbers
 pub record Outer (r : Store real) (f : ℕ) (b : ℕ) : Type 0 where

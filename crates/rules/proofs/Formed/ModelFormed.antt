@@ -13,7 +13,7 @@ use Rattle.rules.proofs.Storages.Model.{model}
 use Rattle.rules.proofs.Steps.OneStep.{TreeOk}
 use Rattle.rules.proofs.Formed.Past.{delete-formed, truncate-formed, write-formed}
 use Rattle.rules.proofs.Tree.RemoveSet.{remove-sets}
-use Rattle.rules.proofs.Tree.SetsOk.{SetsOk, children-once, format-sets}
+use Rattle.rules.proofs.Tree.SetsOk.{SetsOk, format-sets, proper-tree}
 use Rattle.rules.proofs.Formed.Shape.{FilesFormed}
 use Rattle.rules.specs.Calls.{Store, accepted, begin, created, formatted, made, removed, treeIn, viewOf, worked}
 use Rattle.rules.specs.Numbers.{Call, View, create, delete, format, make, numberOf, read, remove, tellFree, tellSize, truncate, write}
@@ -73,7 +73,7 @@ module _ (m : Store model) (v : ModelFormed m) (B : ℕ) where
   tree-ok = v .sets-ok .tree
 
   proper : ProperTree t
-  proper = record { ok = v .sets-ok .tree; once = children-once (m .sets) (v .sets-ok) }
+  proper = proper-tree (m .sets) (v .sets-ok)
 
   -- AN ACCEPTED CALL
   pub accepted-formed : (c : Call) → numberOf now c ≡ 0 → ModelFormed (accepted model B c m .store)

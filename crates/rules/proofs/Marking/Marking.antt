@@ -9,7 +9,7 @@ use Rattle.base.specs.Logic.{and-both, and-left, and-right, or-false, or-right,
 use Rattle.base.specs.Update.{upd, upd-keeps}
 use Rattle.rules.proofs.Steps.OneStep.{TreeOk}
 use Rattle.rules.proofs.Steps.Reached.{reaches-self, some-unmapped, unmapped-some}
-use Rattle.rules.proofs.Steps.States.{unmapped-is}
+use Rattle.rules.proofs.Steps.States.{stored-is, unmapped-is}
 use Rattle.rules.proofs.Tally.TallyReach.{any-some, depends-above, marked-reaches, one-up}
 use Rattle.rules.specs.Marking.{FindsNone, MarkedDown, mark-below, mark-itself}
 use Rattle.rules.specs.Reading.{dependent, dependsOn, reaches}
@@ -43,11 +43,6 @@ module _ (t : Tree) (fs : TallyFiles) where
 unfoldable pub findsNone : Tree → ℕ → ℕ → ℕ → Turn → Bool
 findsNone t s p c x = live (x .files c .state) && isUnmapped (x .files c .map p) && isStored (kindAt t (x .files) s p) && eqb (x .free) 0
 
-is-stored : (k : Kind) → isStored k ≡ true → k ≡ stored tt
-is-stored unmapped h = cc
-is-stored hole h = cc
-is-stored (stored b) h = refl
-
 or-either : (a b : Bool) → (a || b) ≡ true → (a ≡ true) ⊎ (b ≡ true)
 or-either true b h = inl refl
 or-either false b h = inr h
@@ -63,7 +58,7 @@ module _ (t : Tree) (s p c : ℕ) (x : Turn) where
       record {
         alive = and-left _ (isUnmapped (x .files c .map p)) h₂;
         needed = unmapped-is (x .files c .map p) (and-right (live (x .files c .state)) _ h₂);
-        copied = is-stored (kindAt t (x .files) s p) (and-right need kind h₁);
+        copied = stored-is (kindAt t (x .files) s p) (and-right need kind h₁) .1;
         none = eqb-true (x .free) 0 (and-right (need && kind) (eqb (x .free) 0) h);
       }
 

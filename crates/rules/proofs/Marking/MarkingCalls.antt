@@ -13,7 +13,7 @@ use Rattle.base.specs.Logic.{same?, test?}
 use Rattle.base.specs.Update.{upd, upd-keeps, upd-other, upd-same}
 use Rattle.rules.proofs.Marking.MarkingRun.{run-marks}
 use Rattle.rules.proofs.Marking.MarkingSettled.{alike-back, marking-alike, settle-alike}
-use Rattle.rules.proofs.Steps.OneStep.{TreeOk}
+use Rattle.rules.proofs.Steps.Handing.{ProperTree}
 use Rattle.rules.proofs.Tally.TallyWriter.{turns-state}
 use Rattle.rules.specs.Marking.{BecomesMarked, MarkingTurn, in-delete, in-make, in-truncate, in-write, ownTaken}
 use Rattle.rules.specs.Numbers.{Call, create, delete, format, make, read, refusal, remove, tellFree, tellSize, truncate, write}
@@ -54,7 +54,7 @@ module _ (ta : Tally) (f s taken : ℕ) (x : Turn) (z : TallyFile) (m : ℕ) whe
   leaves-other g n = upd-other (ta .files) f _ g n
 
 -- A CHANGING CALL: steps 2 to 5, where z is the file that step 5 leaves in set s
-module _ (ta : Tally) (ok : TreeOk (ta .tree)) (shallow : (x : ℕ) → ta .tree .level x ≤ setCount)
+module _ (ta : Tally) (proper : ProperTree (ta .tree)) (shallow : (x : ℕ) → ta .tree .level x ≤ setCount)
     (f s taken : ℕ) (cs : List ℕ) (touches hands : ℕ → Bool) (z : TallyFile) (m : ℕ) (fine : isMarked (z .state) ≡ false) where
   abbrev turns : Turn
   turns = tallyTurns ta f s cs taken touches hands
@@ -65,13 +65,13 @@ module _ (ta : Tally) (ok : TreeOk (ta .tree)) (shallow : (x : ℕ) → ta .tree
   turns-mark : (y : ℕ) → (isMarked (turns .files y .state) ≡ true) ↔ ((isMarked (ta .files f y .state) ≡ true) ⊎ MarkingTurn (ta .tree) s touches hands (turnsStart ta f cs taken) y)
   unfolding tallyTurns
   turns-mark y =
-      let r = run-marks (ta .tree) ok shallow s y touches hands (turnsStart ta f cs taken) in
+      let r = run-marks (ta .tree) proper shallow s y touches hands (turnsStart ta f cs taken) in
       let e = settle-marks (ta .tree) cs (ta .files f) y in
       (λ h. ⊎-elim (λ a. inl (sym e ∙ a)) inr (r .0 h), λ h. r .1 (⊎-elim (λ a. inl (e ∙ a)) inr h))
 
   own-mark : isMarked (turns .files s .state) ≡ isMarked (ta .files f s .state)
   unfolding tallyTurns
-  own-mark = ap isMarked (turns-state (ta .tree) ok s touches hands (turnsStart ta f cs taken)) ∙ settle-marks (ta .tree) cs (ta .files f) s
+  own-mark = ap isMarked (turns-state (ta .tree) proper s touches hands (turnsStart ta f cs taken)) ∙ settle-marks (ta .tree) cs (ta .files f) s
 
   -- STEP 5 marks nothing
   pub last-marks : (y : ℕ) → isMarked (ta .files f y .state) ≡ false → isMarked (after .tally .files f y .state) ≡ isMarked (turns .files y .state)
@@ -184,7 +184,7 @@ put-file-mark files f s z g y a b =
 no-turn : (t : Tree) (s : ℕ) (touches hands : ℕ → Bool) (x : Turn) (y : ℕ) → ((p : ℕ) → touches p ≡ false) → MarkingTurn t s touches hands x y → ⊥
 no-turn t s touches hands x y h r = true≢false (sym (r .touched) ∙ h (r .page))
 
-module _ (ta : Tally) (ok : TreeOk (ta .tree)) (shallow : (x : ℕ) → ta .tree .level x ≤ setCount) (blocks g y : ℕ) (h : isMarked (ta .files g y .state) ≡ false) where
+module _ (ta : Tally) (proper : ProperTree (ta .tree)) (shallow : (x : ℕ) → ta .tree .level x ≤ setCount) (blocks g y : ℕ) (h : isMarked (ta .files g y .state) ≡ false) where
   abbrev marksIn : Call → Type 0
   marksIn c = (isMarked (tallyCall blocks c ta .tally .files g y .state) ≡ true) ↔ WhyMarked ta c g y
 
@@ -192,21 +192,21 @@ module _ (ta : Tally) (ok : TreeOk (ta .tree)) (shallow : (x : ℕ) → ta .tree
   unfolding tallyCall tallyTold tallyWrite writeTouches
   write-marks s f off [] = (λ a. absurd (true≢false (sym a ∙ h)), λ r. absurd (no-turn (ta .tree) s _ _ _ y (λ p. refl) (r .1)))
   write-marks s f off (b ∷ bs) =
-      change-marks ta ok shallow f s _ (s ∷ ta .tree .children s) (writeTouches off (length (b ∷ bs))) (λ p. false) _ 0 refl g y h
+      change-marks ta proper shallow f s _ (s ∷ ta .tree .children s) (writeTouches off (length (b ∷ bs))) (λ p. false) _ 0 refl g y h
 
   truncate-marks : (s f n : ℕ) → marksIn (truncate s f n)
   unfolding tallyCall tallyGrow tallyCut
   truncate-marks s f n =
       truncate-cases (λ r. (isMarked (r .tally .files g y .state) ≡ true) ↔ WhyMarked ta (truncate s f n) g y) ta s f n
       (λ e. (λ a. absurd (true≢false (sym a ∙ h)), λ b. let l = b .0 in absurd (omega arith)))
-      (λ e. let r = change-marks ta ok shallow f s 0 (s ∷ ta .tree .children s) (λ p. false) (λ p. false) _ 0 refl g y h in
+      (λ e. let r = change-marks ta proper shallow f s 0 (s ∷ ta .tree .children s) (λ p. false) (λ p. false) _ 0 refl g y h in
       (λ a. absurd (no-turn (ta .tree) s _ _ _ y (λ p. refl) (r .0 a .1)), λ b. let l = b .0 in absurd (omega arith)))
-      (λ e. let r = change-marks ta ok shallow f s _ (s ∷ ta .tree .children s) (truncateTouches n (tallySize (ta .tree) (ta .files f) s)) (λ p. not (partPage n p)) _ _ refl g y h in
+      (λ e. let r = change-marks ta proper shallow f s _ (s ∷ ta .tree .children s) (truncateTouches n (tallySize (ta .tree) (ta .files f) s)) (λ p. not (partPage n p)) _ _ refl g y h in
       (λ a. (e, r .0 a), λ b. r .1 (b .1)))
 
   delete-marks : (s f : ℕ) → marksIn (delete s f)
   unfolding tallyCall tallyDelete
-  delete-marks s f = change-marks ta ok shallow f s 0 _ _ (λ p. true) _ _ refl g y h
+  delete-marks s f = change-marks ta proper shallow f s 0 _ _ (λ p. true) _ _ refl g y h
 
   make-marks : (s c : ℕ) (w : Bool) → marksIn (make s c w)
   unfolding tallyCall tallyTold

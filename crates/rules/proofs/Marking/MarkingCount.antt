@@ -13,7 +13,7 @@ use Rattle.base.specs.Logic.{and-false, and-left, and-right, test?}
 use Rattle.rules.proofs.Marking.Marking.{finds-none, findsNone, marked-down, turn-test}
 use Rattle.rules.proofs.Marking.MarkingCalls.{last-marks, settle-marks, truncate-cases, turnsStart}
 use Rattle.rules.proofs.Marking.MarkingRun.{run-marks}
-use Rattle.rules.proofs.Steps.OneStep.{TreeOk}
+use Rattle.rules.proofs.Steps.Handing.{ProperTree}
 use Rattle.rules.proofs.Steps.States.{live-unmarked}
 use Rattle.rules.proofs.Tally.TallyWriter.{over-state, turns-inv}
 use Rattle.rules.specs.Marking.{MarkedDown, mark-below, mark-itself}
@@ -53,7 +53,7 @@ markedSets fs = count setCount (λ y. isMarked (fs y .state))
 abbrev pub newlyMarked : TallyFiles → TallyFiles → ℕ
 newlyMarked fs gs = count setCount (λ y. isMarked (gs y .state) && not (isMarked (fs y .state)))
 
-module _ (t : Tree) (ok : TreeOk t) (shallow : (x : ℕ) → t .level x ≤ setCount) (s : ℕ) where
+module _ (t : Tree) (proper : ProperTree t) (shallow : (x : ℕ) → t .level x ≤ setCount) (s : ℕ) where
   turn-adds : (p c : ℕ) (x : Turn) → childTurn t s p c x .marks ≡ x .marks + cond (findsNone t s p c x) (count setCount (markedWith t (x .files) c)) 0
   unfolding childTurn childPage neededCopy findsNone
   turn-adds p c x = test? (live (x .files c .state) && isUnmapped (x .files c .map p)) (λ e. rw e (go (kindAt t (x .files) s p))) (λ e. rw e (sym (add-zero _)))
@@ -69,7 +69,7 @@ module _ (t : Tree) (ok : TreeOk t) (shallow : (x : ℕ) → t .level x ≤ setC
       ∙ count-or setCount (λ y. isMarked (x .files y .state)) (λ y. findsNone t s p c x && markedWith t (x .files) c y)
       (λ y a b. true≢false (sym a ∙ live-unmarked (x .files y .state)
       (live-down t (x .files) c y (finds-none t s p c x (and-left _ (markedWith t (x .files) c y) b) .alive)
-      (marked-down t (x .files) ok shallow c y .0 (and-right (findsNone t s p c x) _ b)))))
+      (marked-down t (x .files) (proper .ok) shallow c y .0 (and-right (findsNone t s p c x) _ b)))))
       ∙ ap (λ n. markedSets (x .files) + n) (count-if setCount (findsNone t s p c x) (markedWith t (x .files) c))
 
   -- taking over marks nothing
@@ -78,18 +78,18 @@ module _ (t : Tree) (ok : TreeOk t) (shallow : (x : ℕ) → t .level x ≤ setC
   over-adds p c z = refl
 
   over-counts : (p c : ℕ) (z : Turn) → markedSets (takenOver t s p c z .files) ≡ markedSets (z .files)
-  over-counts p c z = count-same setCount _ _ (λ y l. ap isMarked (over-state t ok s p c z y))
+  over-counts p c z = count-same setCount _ _ (λ y l. ap isMarked (over-state t s p c z y))
 
   run-counts : (touches hands : ℕ → Bool) (x : Turn) → tallyGive t s touches hands x .marks + markedSets (x .files) ≡ x .marks + markedSets (tallyGive t s touches hands x .files)
   run-counts touches hands x =
-      turns-inv t s (λ z. z .marks + markedSets (x .files) ≡ x .marks + markedSets (z .files)) touches hands
-      (λ p c z l e m i. let a = turn-adds p c z in let b = turn-counts p c z in omega arith) (λ p c z l e m i. let a = over-adds p c z in let b = over-counts p c z in omega arith) x refl
+      turns-inv t proper s (λ z. z .marks + markedSets (x .files) ≡ x .marks + markedSets (z .files))
+      (λ p c z m i. let a = turn-adds p c z in let b = turn-counts p c z in omega arith) (λ p c z m i. let a = over-adds p c z in let b = over-counts p c z in omega arith) touches hands x refl
 
   -- THE RUN counts the files newly marked
   pub run-newly : (touches hands : ℕ → Bool) (x : Turn) → tallyGive t s touches hands x .marks ≡ x .marks + newlyMarked (x .files) (tallyGive t s touches hands x .files)
   run-newly touches hands x =
       let a = run-counts touches hands x in
-      let b = count-new setCount (λ y. isMarked (x .files y .state)) (λ y. isMarked (tallyGive t s touches hands x .files y .state)) (λ y h. run-marks t ok shallow s y touches hands x .1 (inl h)) in
+      let b = count-new setCount (λ y. isMarked (x .files y .state)) (λ y. isMarked (tallyGive t s touches hands x .files y .state)) (λ y h. run-marks t proper shallow s y touches hands x .1 (inl h)) in
       omega arith
 
 -- A CHANGING CALL
@@ -108,17 +108,17 @@ leaves-third : (ta : Tally) (f s taken : ℕ) (x : Turn) (z : TallyFile) (m : �
 unfolding tallyLeaves
 leaves-third ta f s taken x z m = refl
 
-module _ (ta : Tally) (ok : TreeOk (ta .tree)) (shallow : (x : ℕ) → ta .tree .level x ≤ setCount) where
+module _ (ta : Tally) (proper : ProperTree (ta .tree)) (shallow : (x : ℕ) → ta .tree .level x ≤ setCount) where
   change-newly : (f s taken : ℕ) (cs : List ℕ) (touches hands : ℕ → Bool) (z : TallyFile) (m : ℕ) → isMarked (z .state) ≡ false →
       let r = tallyLeaves ta f s taken (tallyTurns ta f s cs taken touches hands) z m in r .answer .third ≡ newlyMarked (ta .files f) (r .tally .files f)
   unfolding tallyTurns
   change-newly f s taken cs touches hands z m fine =
       let x : Turn = tallyTurns ta f s cs taken touches hands in
-      leaves-third ta f s taken x z m ∙ run-newly (ta .tree) ok shallow s touches hands (turnsStart ta f cs taken) ∙ zero-add _
+      leaves-third ta f s taken x z m ∙ run-newly (ta .tree) proper shallow s touches hands (turnsStart ta f cs taken) ∙ zero-add _
       ∙ count-same setCount (λ y. isMarked (tallyLeaves ta f s taken x z m .tally .files f y .state) && not (isMarked (ta .files f y .state)))
       (λ y. isMarked (x .files y .state) && not (isMarked (turnsStart ta f cs taken .files y .state)))
       (λ y l. ap (λ b. isMarked (x .files y .state) && not b) (settle-marks (ta .tree) cs (ta .files f) y)
-      ∙ new-same _ _ (isMarked (ta .files f y .state)) (λ e. sym (last-marks ta ok shallow f s taken cs touches hands z m fine y e)))
+      ∙ new-same _ _ (isMarked (ta .files f y .state)) (λ e. sym (last-marks ta proper shallow f s taken cs touches hands z m fine y e)))
 
   -- the third count of an accepted write, truncate, delete
   pub write-newly : (blocks s f off : ℕ) (bs : List ℕ) → let r = tallyCall blocks (write s f off bs) ta in r .answer .third ≡ newlyMarked (ta .files f) (r .tally .files f)

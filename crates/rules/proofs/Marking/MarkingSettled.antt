@@ -9,7 +9,7 @@ use Rattle.base.specs.Logic.{test?}
 use Rattle.base.specs.Update.{upd, upd-keeps, upd-map}
 use Rattle.rules.specs.Marking.{FindsNone, MarkedDown, MarkingTurn, behind, inTurn, mark-below, mark-itself, turnBefore}
 use Rattle.rules.specs.State.{State, Tree, absent, hole, isStored, isUnmapped, isVirgin, live, marked, own, pageCount, setCount, stored, unmapped, virgin}
-use Rattle.rules.specs.Tally.{Kind, TallyFile, TallyFiles, Turn, anyOf, anyUnmapped, atPage, childPage, childTurn, dependsAbove, eachChild, eachPage, handTurns, kindAt, kindIn, kindOver, markedWith, neededCopy, pageTurns, reachedDown, takenOver, tallyKind, tallyMark, tallySettle, tallySize}
+use Rattle.rules.specs.Tally.{Kind, TallyFile, TallyFiles, Turn, anyOf, anyUnmapped, atPage, childPage, childTurn, copyTurn, dependsAbove, eachChild, eachPage, handTurns, kindAt, kindIn, kindOver, markedWith, neededCopy, pageTurns, reachedDown, takenOver, tallyKind, tallyMark, tallyNeeds, tallySettle, tallySize}
 
 -- the same entries, and own or virgin in the same sets
 pub record Alike (fs gs : TallyFiles) : Type 0 where
@@ -89,35 +89,46 @@ module _ (t : Tree) (s : ℕ) where
   page-alike hole p c x y h = record { files = put-alike t (x .files) (y .files) (h .files) c p hole; free = h .free }
   page-alike (stored b) p c x y h = copy-alike p c x y h
 
+  -- who needs a page
+  needs-same : (p c : ℕ) (x y : Turn) → AlikeTurn x y → tallyNeeds (x .files) c p ≡ tallyNeeds (y .files) c p
+  needs-same p c x y h = ap₂ (λ (b : Bool) (m : ℕ → Kind). b && isUnmapped (m p)) (h .files .lives c) (h .files .maps c)
+
   turn-alike : (p c : ℕ) (x y : Turn) → AlikeTurn x y → AlikeTurn (childTurn t s p c x) (childTurn t s p c y)
   unfolding childTurn
   turn-alike p c x y h =
-      let e = ap₂ (λ (b : Bool) (m : ℕ → Kind). b && isUnmapped (m p)) (h .files .lives c) (h .files .maps c) in
+      let e = needs-same p c x y h in
       let k = kind-same t (x .files) (y .files) (h .files) s p in
-      test? (live (x .files c .state) && isUnmapped (x .files c .map p))
+      test? (tallyNeeds (x .files) c p)
       (λ d. rw (d, sym e ∙ d, k) (page-alike (kindAt t (y .files) s p) p c x y h))
       (λ d. rw (d, sym e ∙ d) h)
 
-  children-alike : (p : ℕ) (cs : List ℕ) (x y : Turn) → AlikeTurn x y → AlikeTurn (eachChild (childTurn t s p) cs x) (eachChild (childTurn t s p) cs y)
+  -- the copy for another child, at a page that is taken over
+  other-alike : (p c : ℕ) (x y : Turn) → AlikeTurn x y → AlikeTurn (copyTurn t p c x) (copyTurn t p c y)
+  unfolding copyTurn
+  other-alike p c x y h =
+      let e = needs-same p c x y h in
+      test? (tallyNeeds (x .files) c p) (λ d. rw (d, sym e ∙ d) (copy-alike p c x y h)) (λ d. rw (d, sym e ∙ d) h)
+
+  -- at each child
+  each-alike : (f : ℕ → Turn → Turn) → ((c : ℕ) (x y : Turn) → AlikeTurn x y → AlikeTurn (f c x) (f c y)) → (cs : List ℕ) (x y : Turn) → AlikeTurn x y → AlikeTurn (eachChild f cs x) (eachChild f cs y)
   unfolding eachChild
-  children-alike p [] x y h = h
-  children-alike p (c ∷ cs) x y h = children-alike p cs _ _ (turn-alike p c x y h)
+  each-alike f k [] x y h = h
+  each-alike f k (c ∷ cs) x y h = each-alike f k cs _ _ (k c x y h)
+
+  children-alike : (p : ℕ) (cs : List ℕ) (x y : Turn) → AlikeTurn x y → AlikeTurn (eachChild (childTurn t s p) cs x) (eachChild (childTurn t s p) cs y)
+  children-alike p = each-alike (childTurn t s p) (turn-alike p)
 
   over-alike : (p c : ℕ) (x y : Turn) → AlikeTurn x y → AlikeTurn (takenOver t s p c x) (takenOver t s p c y)
   unfolding takenOver
   over-alike p c x y h = record { files = put-alike t _ _ (put-alike t (x .files) (y .files) (h .files) c p (stored tt)) s p hole; free = h .free }
-
-  -- who needs a page
-  needs-same : (p c : ℕ) (x y : Turn) → AlikeTurn x y → (live (x .files c .state) && isUnmapped (x .files c .map p)) ≡ (live (y .files c .state) && isUnmapped (y .files c .map p))
-  needs-same p c x y h = ap₂ (λ (b : Bool) (m : ℕ → Kind). b && isUnmapped (m p)) (h .files .lives c) (h .files .maps c)
 
   hand-alike : (p : ℕ) (cs : List ℕ) (x y : Turn) → AlikeTurn x y → AlikeTurn (handTurns t s p cs x) (handTurns t s p cs y)
   unfolding handTurns
   hand-alike p [] x y h = h
   hand-alike p (c ∷ cs) x y h =
       let e = needs-same p c x y h in
-      test? (live (x .files c .state) && isUnmapped (x .files c .map p))
-      (λ d. rw (d, sym e ∙ d) (over-alike p c _ _ (children-alike p cs x y h)))
+      test? (tallyNeeds (x .files) c p)
+      (λ d. rw (d, sym e ∙ d) (each-alike (copyTurn t p) (other-alike p) cs _ _ (over-alike p c x y h)))
       (λ d. rw (d, sym e ∙ d) (hand-alike p cs x y h))
 
   stored-same : (hands : Bool) (p : ℕ) (x y : Turn) → AlikeTurn x y → (hands && isStored (x .files s .map p)) ≡ (hands && isStored (y .files s .map p))

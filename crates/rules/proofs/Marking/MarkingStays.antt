@@ -9,7 +9,7 @@ use Rattle.base.specs.Logic.{same?}
 use Rattle.base.specs.Update.{upd, upd-other, upd-same}
 use Rattle.rules.proofs.Marking.MarkingCalls.{settle-marks, truncate-cases, turnsStart}
 use Rattle.rules.proofs.Marking.MarkingRun.{run-marks}
-use Rattle.rules.proofs.Steps.OneStep.{TreeOk}
+use Rattle.rules.proofs.Steps.Handing.{ProperTree}
 use Rattle.rules.proofs.Steps.States.{live-unmarked}
 use Rattle.rules.proofs.Whole.Accepted.{passed-create, passed-truncate, passed-write}
 use Rattle.rules.specs.Numbers.{Call, create, delete, format, make, numberOf, read, remove, tellFree, tellSize, truncate, write}
@@ -47,13 +47,13 @@ put-stays files f s fs z g y k h =
     (λ h. ap (λ (w : TallyFiles). isMarked (w y .state)) (upd-same files f _) ∙ ap (λ (x : TallyFile). isMarked (x .state)) (upd-other fs s z y n) ∙ k h) h)))
     (λ n. inl (ap (λ (w : TallyFiles). isMarked (w y .state)) (upd-other files f _ g n) ∙ h))
 
-module _ (ta : Tally) (ok : TreeOk (ta .tree)) (shallow : (x : ℕ) → ta .tree .level x ≤ setCount) (g y : ℕ) (h : isMarked (ta .files g y .state) ≡ true) where
+module _ (ta : Tally) (proper : ProperTree (ta .tree)) (shallow : (x : ℕ) → ta .tree .level x ≤ setCount) (g y : ℕ) (h : isMarked (ta .files g y .state) ≡ true) where
   change-stays : (f s taken : ℕ) (cs : List ℕ) (touches hands : ℕ → Bool) (z : TallyFile) (m : ℕ) →
       (isMarked (tallyLeaves ta f s taken (tallyTurns ta f s cs taken touches hands) z m .tally .files g y .state) ≡ true) ⊎ ((f ≡ g) × (s ≡ y))
   unfolding tallyLeaves tallyTurns
   change-stays f s taken cs touches hands z m =
       put-stays (ta .files) f s _ z g y
-      (λ k. run-marks (ta .tree) ok shallow s y touches hands (turnsStart ta f cs taken) .1 (inl (settle-marks (ta .tree) cs (ta .files f) y ∙ k))) h
+      (λ k. run-marks (ta .tree) proper shallow s y touches hands (turnsStart ta f cs taken) .1 (inl (settle-marks (ta .tree) cs (ta .files f) y ∙ k))) h
 
   -- not the file that the call changes, which is not marked
   elsewhere : {A : Type 0} (f s : ℕ) → isMarked (ta .files f s .state) ≡ false → A ⊎ ((f ≡ g) × (s ≡ y)) → A ⊎ ⊥

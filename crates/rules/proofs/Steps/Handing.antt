@@ -24,6 +24,10 @@ pub record ProperTree (t : Tree) : Type 0 where
   pub ok : TreeOk t
   pub once : (s : ℕ) → NoDup (t .children s)
 
+-- no set is a child of itself
+pub not-itself : (t : Tree) → TreeOk t → (s c : ℕ) → List·Memᴰ c (t .children s) → s ≡ c → ⊥
+not-itself t ok s c m e = let z : t .level s ≡ t .level c = ap (t .level) e in omega (arith, ok .kid-lvl s c m)
+
 -- a set that is not below set d is not reached from it
 not-reached : {K : Type 0} (t : Tree) → TreeOk t → (files : Files K) (d n x : ℕ) → t .level x ≡ n → n < t .level d → dependsOn t files d n x ≡ false
 unfolding dependsOn
@@ -54,7 +58,7 @@ module _ (S : Storage) (t : Tree) (ok : TreeOk t) (s : ℕ) where
   pub give-parent : (d : ℕ) → List·Memᴰ d (t .children s) → (p : ℕ) (w : Work S) → give S t s p d w .files s ≡ w .files s
   unfolding reaches
   give-parent d kd =
-      give-leaves S t s d s (λ q. let e : t .level d ≡ t .level s = ap (t .level) q in omega (arith, ok .kid-lvl s d kd))
+      give-leaves S t s d s (λ q. not-itself t ok s d kd (sym q))
       (λ files. not-reached t ok files d (t .level s) s refl (omega (arith, ok .kid-lvl s d kd)))
 
 -- the turns of some of the children

@@ -13,12 +13,12 @@ use Rattle.base.specs.Logic.{and-left, and-right, pick, test?}
 use Rattle.base.specs.Update.{upd, upd-self}
 use Rattle.rules.proofs.Storages.Model.{counting}
 use Rattle.rules.proofs.Tally.TallyChange.{change-leaves, changeLeaves, newKinds}
-use Rattle.rules.proofs.Tally.TallyLoops.{PagesOf, all-pages, count-pages, cut-pages, dropped-pages, kept-pages, no-pages, pages-once, pages-passed, put-pages, sum-loop, write-pages}
+use Rattle.rules.proofs.Tally.TallyLoops.{PagesOf, all-pages, count-pages, cut-pages, dropped-pages, kept-pages, no-pages, page-inv, pages-once, pages-passed, put-pages, sum-loop, write-pages}
 use Rattle.rules.proofs.Tally.TallyNumbers.{Tallies, TallyOrderly, kept-need, same-numbers, tallies-is, tallies-of, tallyOf, write-need}
 use Rattle.rules.proofs.Whole.Accepted.{passed-write}
 use Rattle.rules.proofs.Tally.TallyReach.{NoVirginRoot, kind-resolve, no-virgin-root, size-reading}
-use Rattle.rules.proofs.Tally.TallySteps.{give-all, settle-all, settle-maps, withTurn}
-use Rattle.rules.proofs.Tally.TallyWriter.{free-map, turns-inv}
+use Rattle.rules.proofs.Tally.TallySteps.{give-all, settle-all, withTurn}
+use Rattle.rules.proofs.Tally.TallyWriter.{free-map}
 use Rattle.rules.proofs.Tree.SetsOk.{root-alone-tree}
 use Rattle.rules.specs.Calls.{Result, Store, accepted, begin, created, formatted, made, readCount, removed, resultOf, step, treeIn, viewOf, worked}
 use Rattle.rules.specs.Numbers.{Call, create, delete, format, make, numberOf, read, refusal, remove, tellFree, tellSize, truncate, write}
@@ -66,7 +66,8 @@ part-not n p m =
 
 -- the turns where none is touched
 turns-none : (t : Tree) (s : ℕ) (x : Turn) → tallyGive t s (λ p. false) (λ p. true) x ≡ x
-turns-none t s x = turns-inv t s (λ y. y ≡ x) (λ p. false) (λ p. true) (λ p c y l e m i. absurd (true≢false (sym e))) (λ p c y l e m i. absurd (true≢false (sym e))) x refl
+unfolding tallyGive
+turns-none t s x = page-inv _ (λ y. y ≡ x) pageCount (λ p y l i. i) x refl
 
 -- the kinds after a truncate
 module _ (n z : ℕ) (l : n < z) (h : z ≤ largestSize) (e : Kind) where
@@ -111,10 +112,10 @@ module _ (k : Store counting) (o : TallyOrderly k) where
   levels x = omega (arith, o .shallow x)
 
   above : (f : ℕ) → NoVirginRoot sets (k .files f)
-  above f = no-virgin-root sets (k .files f) (o .tree-ok) (o .files-ok f)
+  above f = no-virgin-root sets (k .files f) (o .proper .ok) (o .files-ok f)
 
   size-is : (f s : ℕ) → tallySize sets (k .files f) s ≡ sizeByReading sets (k .files f) s
-  size-is f s = size-reading sets (k .files f) (o .tree-ok) (above f) s
+  size-is f s = size-reading sets (k .files f) (o .proper .ok) (above f) s
 
   -- WRITE
   write-same : (s f off n : ℕ) → off + n ≤ largestSize → (lay : ℕ → Unit {0} → Unit {0}) →
@@ -126,7 +127,7 @@ module _ (k : Store counting) (o : TallyOrderly k) where
       let turns : ℕ → Turn = λ m. tallyTurns (tallyOf k) f s (s ∷ sets .children s) m (writeTouches off n) (λ p. false) in
       let own-file : Turn → (ℕ → Kind) → TallyFile = λ x m. record { state = own; size = max (x .files s .size) (off + n); map = m } in
       ap (λ (w : Work counting). resultOfTally (worked counting k f w))
-      (change-leaves sets (o .tree-ok) levels s (touched off n) (touched off n) [] (writeTouches off n) (λ p. false) (subst (λ l. PagesOf l (writeTouches off n)) (sym (append-none (touched off n))) r) (λ p m. refl) (λ p m. elim m [ ]) tt (λ p m. elim m [ ]) lay (λ m. max m (off + n)) (begin counting k f) (above f))
+      (change-leaves sets (o .proper) levels s (touched off n) (touched off n) [] (writeTouches off n) (λ p. false) (subst (λ l. PagesOf l (writeTouches off n)) (sym (append-none (touched off n))) r) (λ p m. refl) (λ p m. elim m [ ]) tt (λ p m. elim m [ ]) lay (λ m. max m (off + n)) (begin counting k f) (above f))
       ∙ worked-leaves k f s (turns need) need (own-file (turns need) (each (λ p g. upd g p (stored tt)) (touched off n) (turns need .files s .map))) 0 _
       ∙ ap (λ m. tallyLeaves (tallyOf k) f s need (turns need) (own-file (turns need) m) 0) (fun-ext (put-pages (stored tt) r (turns need .files s .map)))
       ∙ ap (λ m. tallyLeaves (tallyOf k) f s m (turns m) (own-file (turns m) (λ p. cond (ltb p pageCount && writeTouches off n p) (stored tt) (turns m .files s .map p))) 0)
@@ -137,7 +138,7 @@ module _ (k : Store counting) (o : TallyOrderly k) where
   unfolding tallyGrow tallyTurns countIn each ownNeed
   grow-same s f n =
       ap (λ (w : Work counting). resultOfTally (worked counting k f w))
-      (change-leaves sets (o .tree-ok) levels s [] [] [] (λ p. false) (λ p. false) no-pages (λ p m. elim m [ ]) (λ p m. elim m [ ]) tt (λ p m. elim m [ ]) (λ p v. v) (λ m. n) (begin counting k f) (above f))
+      (change-leaves sets (o .proper) levels s [] [] [] (λ p. false) (λ p. false) no-pages (λ p m. elim m [ ]) (λ p m. elim m [ ]) tt (λ p m. elim m [ ]) (λ p v. v) (λ m. n) (begin counting k f) (above f))
       ∙ worked-leaves k f s (tallyTurns (tallyOf k) f s (s ∷ sets .children s) 0 (λ p. false) (λ p. false)) 0 _ 0 _
 
   cut-same : (s f n z : ℕ) → tallySize sets (k .files f) s ≡ z → n < z → z ≤ largestSize → (lay : ℕ → Unit {0} → Unit {0}) →
@@ -152,7 +153,7 @@ module _ (k : Store counting) (o : TallyOrderly k) where
       let own-file : (ℕ → Kind) → TallyFile = λ m. record { state = own; size = n; map = m } in
       let q : tallyTruncateNeed sets fs s n ≡ need = kept-need sets fs s n (ap (ltb n) e ∙ lt-ltb n z l) in
       ap (λ (w : Work counting). resultOfTally (worked counting k f w))
-      (change-leaves sets (o .tree-ok) levels s (partPages n) (keptPages n kind) (droppedPages n z) (truncateTouches n z) (λ p. not (partPage n p))
+      (change-leaves sets (o .proper) levels s (partPages n) (keptPages n kind) (droppedPages n z) (truncateTouches n z) (λ p. not (partPage n p))
       (subst (λ l. PagesOf l (truncateTouches n z)) (sym (part-dropped n z l)) (cut-pages n z l h)) (part-not n)
       (λ p m. and-right (truncateTouches n z p) _ (pages-passed (dropped-pages n z l h) p m .1))
       (pages-once (dropped-pages n z l h)) (cut-apart n z l h kind) lay (λ m. n) (begin counting k f) (above f))
@@ -215,9 +216,9 @@ module _ (k : Store counting) (o : TallyOrderly k) where
       go : (b : Bool) → resultOfTally (worked counting k f (deleteAs counting sets b s (begin counting k f))) ≡ leaves (tallyTurns (tallyOf k) f s (cond b (sets .children s) []) 0 (λ p. b) (λ p. true))
       go true =
           ap (λ (w : Work counting). resultOfTally (worked counting k f (eraseFile counting sets s w)))
-          (ap (giveAll counting sets handed s (from 0 pageCount)) (settle-all sets (o .tree-ok) (sets .children s) (begin counting k f) (above f))
+          (ap (giveAll counting sets handed s (from 0 pageCount)) (settle-all sets (o .proper .ok) (sets .children s) (begin counting k f) (above f))
           ∙ none-first (withFiles counting sets (begin counting k f) settled)
-          ∙ give-all sets (o .tree-ok) levels s [] (from 0 pageCount) (λ p. true) (λ p. true) all-pages (λ p m. elim m [ ]) (λ p m. refl) (withFiles counting sets (begin counting k f) settled))
+          ∙ give-all sets (o .proper) levels s [] (from 0 pageCount) (λ p. true) (λ p. true) all-pages (λ p m. elim m [ ]) (λ p m. refl) (withFiles counting sets (begin counting k f) settled))
           ∙ erase-same s f settled (tallyGive sets s (λ p. true) (λ p. true) (start settled (k .memory)))
           ∙ ap (λ n. leaves (tallyGive sets s (λ p. true) (λ p. true) (start settled n))) (sym none)
         where

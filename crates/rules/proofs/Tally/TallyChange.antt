@@ -5,11 +5,11 @@ use mathlib.Core.Path.{ap, _∙_, _≡_}
 use Prim.Native.Nat.{_+_, _-_, ℕ, _≤_}
 use Rattle.base.specs.Update.{upd, upd-same, upd-upd}
 use Rattle.rules.proofs.Storages.Model.{counting}
-use Rattle.rules.proofs.Steps.OneStep.{TreeOk}
+use Rattle.rules.proofs.Steps.Handing.{ProperTree}
 use Rattle.rules.proofs.Tally.TallyLoops.{PagesOf, count-same-in, put-inside, put-outside}
 use Rattle.rules.proofs.Tally.TallyReach.{NoVirginRoot}
 use Rattle.rules.proofs.Tally.TallySteps.{give-all, pendingAfter, reserve-all, settle-all, settle-maps, withReserved, withTurn}
-use Rattle.rules.proofs.Tally.TallyWriter.{drop-all, enter-stored, put-all, turns-state, withReleased}
+use Rattle.rules.proofs.Tally.TallyWriter.{drop-all, enter-stored, put-all, withReleased}
 use Rattle.rules.proofs.Steps.WriterSteps.{NoDup}
 use Rattle.rules.specs.Rules.{Work, change, copied, countIn, dropPage, each, enter, giveAll, handed, ownNeed, putEntry, reserve, resize, settle, withFiles}
 use Rattle.rules.specs.State.{Tree, hole, isStored, own, setCount, stored}
@@ -35,7 +35,7 @@ resize-file : (s : ℕ) (fs : TallyFiles) (y : TallyFile) (g : ℕ → ℕ) →
     upd (upd fs s y) s (record { state = own; size = g (upd fs s y s .size); map = upd fs s y s .map }) ≡ upd fs s (record { state = own; size = g (y .size); map = y .map })
 resize-file s fs y g = rw (upd-same fs s y) (upd-upd fs s _ _)
 
-module _ (t : Tree) (ok : TreeOk t) (shallow : (x : ℕ) → t .level x ≤ setCount) (s : ℕ) (ps rs ds : List ℕ) (touches handing : ℕ → Bool) (r : PagesOf (ps ++ ds) touches) (off : (p : ℕ) → List·Memᴰ p ps → handing p ≡ false) (on : (p : ℕ) → List·Memᴰ p ds → handing p ≡ true)
+module _ (t : Tree) (proper : ProperTree t) (shallow : (x : ℕ) → t .level x ≤ setCount) (s : ℕ) (ps rs ds : List ℕ) (touches handing : ℕ → Bool) (r : PagesOf (ps ++ ds) touches) (off : (p : ℕ) → List·Memᴰ p ps → handing p ≡ false) (on : (p : ℕ) → List·Memᴰ p ds → handing p ≡ true)
     (nd : NoDup ds) (disjoint : (p : ℕ) → List·Memᴰ p ds → List·Memᴰ p rs → ⊥) (lay : ℕ → Unit {0} → Unit {0}) (resized : ℕ → ℕ)
     (w : Work counting) (nv : NoVirginRoot t (w .files)) where
   abbrev need : ℕ
@@ -49,7 +49,7 @@ module _ (t : Tree) (ok : TreeOk t) (shallow : (x : ℕ) → t .level x ≤ setC
 
   need-same : ownNeed counting s rs settledFiles ≡ need
   unfolding ownNeed
-  need-same = rw (settle-maps t ok (s ∷ t .children s) (w .files) s)
+  need-same = rw (settle-maps t (proper .ok) (s ∷ t .children s) (w .files) s)
 
   freed-same : countIn ds (λ p. isStored (each (λ p g. putEntry g s p (stored tt)) rs (turns .files) s .map p)) ≡ countIn ds (λ p. isStored (turns .files s .map p))
   freed-same = count-same-in ds _ _ (λ p m. ap isStored
@@ -73,12 +73,12 @@ module _ (t : Tree) (ok : TreeOk t) (shallow : (x : ℕ) → t .level x ≤ setC
       let v₃ : Work counting = withTurn v₂ turns in
       let v₄ : Work counting = withFiles counting t v₃ (each (λ p g. putEntry g s p (stored tt)) rs (turns .files)) in
       let v₅ : Work counting = withReleased v₃ (countIn ds (λ p. isStored (turns .files s .map p))) (upd (turns .files) s y) in
-      let e₁ : w₁ ≡ v₁ = settle-all t ok (s ∷ t .children s) w nv in
-      let e₂ : w₂ ≡ v₂ = ap (each (reserve counting t s) rs) e₁ ∙ reserve-all t ok s rs v₁ ∙ ap (λ n. withReserved v₁ n h) need-same in
-      let e₃ : w₃ ≡ v₃ = ap (λ w. giveAll counting t handed s ds (giveAll counting t copied s ps w)) e₂ ∙ give-all t ok shallow s ps ds touches handing r off on v₂ in
-      let e₄ : w₄ ≡ v₄ = ap (each (enter counting t s lay) rs) e₃ ∙ enter-stored t ok s lay rs v₃ (put-inside (stored tt) rs (w .pending)) in
+      let e₁ : w₁ ≡ v₁ = settle-all t (proper .ok) (s ∷ t .children s) w nv in
+      let e₂ : w₂ ≡ v₂ = ap (each (reserve counting t s) rs) e₁ ∙ reserve-all t (proper .ok) s rs v₁ ∙ ap (λ n. withReserved v₁ n h) need-same in
+      let e₃ : w₃ ≡ v₃ = ap (λ w. giveAll counting t handed s ds (giveAll counting t copied s ps w)) e₂ ∙ give-all t proper shallow s ps ds touches handing r off on v₂ in
+      let e₄ : w₄ ≡ v₄ = ap (each (enter counting t s lay) rs) e₃ ∙ enter-stored t s lay rs v₃ (put-inside (stored tt) rs (w .pending)) in
       let e₅ : w₅ ≡ v₅ =
-      ap (each (dropPage counting t s) ds) e₄ ∙ drop-all t ok s ds nd v₄ ∙ (λ i. withReleased v₃ (freed-same i) (put-both s rs ds (turns .files) i)) in
+      ap (each (dropPage counting t s) ds) e₄ ∙ drop-all t s ds nd v₄ ∙ (λ i. withReleased v₃ (freed-same i) (put-both s rs ds (turns .files) i)) in
       ap (λ (v : Work counting). resize counting t s (resized (v .files s .size)) v) e₅
       ∙ (λ i. record {
         memory = v₅ .memory;

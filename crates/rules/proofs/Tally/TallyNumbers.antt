@@ -9,6 +9,7 @@ use lib.ListN.{length}
 use borrow.Author.Tests.{ltb-false}
 use Rattle.base.specs.Logic.{test?}
 use Rattle.rules.proofs.Storages.Model.{counting}
+use Rattle.rules.proofs.Steps.Handing.{ProperTree}
 use Rattle.rules.proofs.Steps.OneStep.{FilesOk, TreeOk}
 use Rattle.rules.proofs.Tally.TallyLoops.{count-pages, write-pages}
 use Rattle.rules.proofs.Tally.TallyReach.{NoVirginRoot, kind-resolve, no-virgin-root, size-reading}
@@ -38,7 +39,7 @@ tallies-of k ta e = record { tree = ap (λ (x : Tally). x .tree) e; files = λ f
 
 -- what is asked of the store, and what a store has whose tables are well formed: the sets in order, no level over 5, the files in order, no size over 32,768
 pub record TallyOrderly (k : Store counting) : Type 0 where
-  pub tree-ok : TreeOk (treeIn counting k)
+  pub proper : ProperTree (treeIn counting k)
   pub shallow : (s : ℕ) → k .sets s .level ≤ highestLevel
   pub files-ok : (f : ℕ) → FilesOk (treeIn counting k) (k .files f)
   pub small : (f s : ℕ) → k .files f s .size ≤ largestSize
@@ -106,4 +107,4 @@ same-numbers k ta pl o h e c =
     })
     ∙ same-number (treeIn counting k) (λ f s. k .files f s .state) (k .memory) _ _ _ _
     (λ s f off n l. write-need (k .files f) s off n l)
-    (λ s f n. truncate-need (treeIn counting k) (o .tree-ok) (k .files f) (no-virgin-root (treeIn counting k) (k .files f) (o .tree-ok) (o .files-ok f)) s n) c
+    (λ s f n. truncate-need (treeIn counting k) (o .proper .ok) (k .files f) (no-virgin-root (treeIn counting k) (k .files f) (o .proper .ok) (o .files-ok f)) s n) c

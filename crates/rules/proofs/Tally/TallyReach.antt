@@ -1,14 +1,14 @@
 -- The tally's readings are the store's without blocks: the kind of a page, the size of a file, who depends on the file above;
 -- and the files that are marked with a file, found by going down through the children, are those that the store finds by going up the parents. Assumes nothing.
-use mathlib.Core.Bool.{_&&_, Bool, cond, true, true≢false}
+use mathlib.Core.Bool.{_&&_, Bool, cond, true, true≢false, _||_}
 use mathlib.Core.List.{List, List·Memᴰ, List·Memᴰ·head, List·Memᴰ·tail, _∷_, []}
-use mathlib.Core.Path.{ap, fun-ext, refl, subst, sym, _∙_, _≡_}
-use Prim.Native.Nat.{suc, zero, ℕ, _≤_}
+use mathlib.Core.Path.{ap, ap₂, fun-ext, refl, subst, sym, _∙_, _≡_}
+use Prim.Native.Nat.{_<_, suc, zero, ℕ, _≤_}
 use native.Mathlib.Omega.{arith}
 use lib.Dec.{eqb, lit<}
-use borrow.Author.Tests.{eq-eqb, eqb-true}
+use borrow.Author.Tests.{eq-eqb, eqb-true, ne-eqb}
 use Rattle.base.specs.Count.{count, count-same}
-use Rattle.base.specs.Logic.{and-both, and-left, and-right, or-right, pick, same-test, test?}
+use Rattle.base.specs.Logic.{and-both, and-left, and-right, or-right, pick, same-test, same?, test?}
 use Rattle.rules.proofs.Steps.OneStep.{FilesOk, TreeOk}
 use Rattle.rules.proofs.Steps.Reached.{reaches-self}
 use Rattle.rules.specs.Reading.{dependent, dependsOn, reaches, resolve, shownEntry, shownSize, sizeByReading, someUnmapped, walk}
@@ -87,6 +87,12 @@ any-some (y ∷ ys) f h =
     test? (f y) (λ e. (y, List·Memᴰ·head refl, e))
     (λ e. let r = any-some ys f (rw e at h) in (r .0, List·Memᴰ·tail (r .1), r .2))
 
+-- tests that agree on the members
+pub any-same : (xs : List ℕ) (f g : ℕ → Bool) → ((x : ℕ) → List·Memᴰ x xs → f x ≡ g x) → anyOf xs f ≡ anyOf xs g
+unfolding anyOf
+any-same [] f g h = refl
+any-same (y ∷ ys) f g h = ap₂ (λ a b. a || b) (h y (List·Memᴰ·head refl)) (any-same ys f g (λ x m. h x (List·Memᴰ·tail m)))
+
 module _ (t : Tree) (ok : TreeOk t) (fs : TallyFiles) where
   -- UP: who depends on a child that depends on the file above it depends on that
   pub one-up : (c d : ℕ) → List·Memᴰ d (t .children c) → dependent (fs d) ≡ true → (n x : ℕ) → t .level x ≡ n → dependsOn t fs d n x ≡ true → dependsOn t fs c n x ≡ true
@@ -142,16 +148,16 @@ module _ (t : Tree) (ok : TreeOk t) (fs : TallyFiles) where
       one-down n c (t .parent x) x (ok .child x m e) (depends-above t fs (fs x) ∙ and-left _ _ g)
       (up-down m n c (t .parent x) (ok .lower x m e) (omega arith) (and-right (dependent (fs x)) _ g)))
 
-  -- who is marked with the file of set c stands no higher than c
-  pub reached-level : (n c x : ℕ) → reachedDown t fs n c x ≡ true → t .level c ≤ t .level x
+  -- who is marked with the file of set c stands below it
+  pub reached-below : (n c x : ℕ) → (c ≡ x → ⊥) → reachedDown t fs n c x ≡ true → t .level c < t .level x
   unfolding reachedDown
-  reached-level zero c x h = let e : t .level c ≡ t .level x = ap (t .level) (eqb-true c x h) in omega arith
-  reached-level (suc n) c x h =
-      test? (eqb c x)
-      (λ q. let e : t .level c ≡ t .level x = ap (t .level) (eqb-true c x q) in omega arith)
-      (λ q. let g = any-some (t .children c) _ (rw q at h) in
-      let l = reached-level n (g .0) x (and-right (dependsAbove t (fs (g .0))) _ (g .2)) in
-      omega (arith, ok .kid-lvl c (g .0) (g .1)))
+  reached-below zero c x apart h = absurd (apart (eqb-true c x h))
+  reached-below (suc n) c x apart h =
+      let g = any-some (t .children c) _ (rw (ne-eqb c x apart) at h) in
+      let l = ok .kid-lvl c (g .0) (g .1) in
+      same? (g .0) x
+      (λ e. let e′ : t .level (g .0) ≡ t .level x = ap (t .level) e in omega arith)
+      (λ e. let d = reached-below n (g .0) x e (and-right (dependsAbove t (fs (g .0))) _ (g .2)) in omega arith)
 
   -- GOING DOWN IS GOING UP: who is marked with the file of set c
   pub marked-reaches : (c x : ℕ) → t .level x ≤ setCount → markedWith t fs c x ≡ reaches t fs c x

@@ -1,5 +1,5 @@
 -- The steps of a changing call over `counting`, the storage without blocks and bytes, are those of the tally. Assumes nothing.
-use mathlib.Core.Bool.{Bool, _&&_, cond, false, not, true, true≢false}
+use mathlib.Core.Bool.{Bool, cond, false, not, true}
 use mathlib.Core.List.{List, List·Memᴰ, List·Memᴰ·head, List·Memᴰ·tail, [], _++_, _∷_}
 use mathlib.Core.Path.{ap, refl, sym, _∙_, _≡_}
 use Prim.Native.Nat.{_+_, _-_, suc, ℕ, _≤_}
@@ -11,15 +11,17 @@ use borrow.Author.Tests.{eqb-true}
 use Rattle.base.specs.Logic.{same?, test?}
 use Rattle.base.specs.Update.{upd, upd-keeps, upd-other, upd-same}
 use Rattle.rules.proofs.Storages.Model.{counting}
+use Rattle.rules.proofs.Steps.Handing.{ProperTree, some-self}
 use Rattle.rules.proofs.Steps.OneStep.{TreeOk}
+use Rattle.rules.proofs.Steps.States.{stored-is}
 use Rattle.rules.proofs.Steps.StepFour.{each-inv}
+use Rattle.rules.proofs.Tally.TallyHanding.{hand-late, handLate}
 use Rattle.rules.proofs.Tally.TallyLoops.{PagesOf, each-child, each-page, each-part}
 use Rattle.rules.proofs.Tally.TallyReach.{NoVirginRoot, kind-resolve, mark-count, mark-down, size-reading}
 use Rattle.rules.specs.Reading.{needs, resolve, sizeByReading}
 use Rattle.rules.specs.Rules.{Giving, Work, copied, copy, countIn, each, give, giveAll, givePage, hand, handOver, handed, mark, ownNeed, putEntry, reserve, reserveAs, settle, settleAs, settleFile, supply, takeOwn, withFiles}
-use Rattle.rules.specs.State.{State, Tree, absent, hole, isStored, isUnmapped, isVirgin, live, marked, own, setCount, stored, unmapped, virgin}
-use Rattle.rules.specs.Tally.{Kind, TallyFile, TallyFiles, Turn, childPage, childTurn, eachChild, handTurns, neededCopy, pageTurns, takenOver, tallyGive, tallyKind, tallySettle}
-use Rattle.rules.proofs.Steps.Handing.{some-self}
+use Rattle.rules.specs.State.{State, Tree, absent, hole, isStored, isVirgin, marked, own, setCount, stored, unmapped, virgin}
+use Rattle.rules.specs.Tally.{Kind, TallyFile, TallyFiles, Turn, childPage, childTurn, eachChild, neededCopy, pageTurns, takenOver, tallyGive, tallyKind, tallyNeeds, tallySettle}
 
 -- what the tally's turns see of a Work, and a Work with that put in its place
 abbrev pub turnOf : Work counting → Turn
@@ -116,87 +118,83 @@ module _ (t : Tree) (ok : TreeOk t) where
   reserve-all s [] w = sym (reserved-none w (w .pending))
   reserve-all s (p ∷ rs) w = rw (reserve-one s p w) (reserve-all s rs (withReserved w _ _) ∙ reserved-more w _ _ (upd (w .pending) p (stored tt)) _)
 
-  -- STEP 4
-  module _ (shallow : (x : ℕ) → t .level x ≤ setCount) where
-    supply-page : (e : Kind) (c p : ℕ) (w : Work counting) → supply counting t e c p w ≡ withTurn w (childPage t e p c (turnOf w))
-    unfolding supply childPage neededCopy mark copy putEntry tallyKind
-    supply-page unmapped c p w = refl
-    supply-page hole c p w = refl
-    supply-page (stored b) c p w =
-        test? (eqb (w .memory) 0)
-        (λ e. rw e (λ i. record {
-          memory = eqb-true (w .memory) 0 e i;
-          files = sym (mark-down t ok (w .files) shallow c) i;
-          pending = w .pending;
-          taken = w .taken;
-          copies = w .copies;
-          marks = w .marks + sym (mark-count t ok (w .files) shallow c) i;
-        }))
-        (λ e. rw e (λ i. record {
-          memory = w .memory - 1;
-          files = putEntry (w .files) c p (stored tt);
-          pending = w .pending;
-          taken = w .taken;
-          copies = sym (add-one (w .copies)) i;
-          marks = w .marks;
-        }))
+-- STEP 4
+module _ (t : Tree) (proper : ProperTree t) (shallow : (x : ℕ) → t .level x ≤ setCount) where
+  supply-page : (e : Kind) (c p : ℕ) (w : Work counting) → supply counting t e c p w ≡ withTurn w (childPage t e p c (turnOf w))
+  unfolding supply childPage neededCopy mark copy putEntry tallyKind
+  supply-page unmapped c p w = refl
+  supply-page hole c p w = refl
+  supply-page (stored b) c p w =
+      test? (eqb (w .memory) 0)
+      (λ e. rw e (λ i. record {
+        memory = eqb-true (w .memory) 0 e i;
+        files = sym (mark-down t (proper .ok) (w .files) shallow c) i;
+        pending = w .pending;
+        taken = w .taken;
+        copies = w .copies;
+        marks = w .marks + sym (mark-count t (proper .ok) (w .files) shallow c) i;
+      }))
+      (λ e. rw e (λ i. record {
+        memory = w .memory - 1;
+        files = putEntry (w .files) c p (stored tt);
+        pending = w .pending;
+        taken = w .taken;
+        copies = sym (add-one (w .copies)) i;
+        marks = w .marks;
+      }))
 
-    give-one : (s p c : ℕ) (w : Work counting) → give counting t s p c w ≡ withTurn w (childTurn t s p c (turnOf w))
-    unfolding give childTurn needs
-    give-one s p c w =
-        rw (kind-resolve t (w .files) s p)
-        (test? (live (w .files c .state) && isUnmapped (w .files c .map p)) (λ e. rw e (supply-page (resolve t (w .files) s p) c p w)) (λ e. rw e))
+  give-one : (s p c : ℕ) (w : Work counting) → give counting t s p c w ≡ withTurn w (childTurn t s p c (turnOf w))
+  unfolding give childTurn needs
+  give-one s p c w =
+      rw (kind-resolve t (w .files) s p)
+      (test? (tallyNeeds (w .files) c p) (λ e. rw e (supply-page (resolve t (w .files) s p) c p w)) (λ e. rw e))
 
-    give-some : (s p : ℕ) (cs : List ℕ) (w : Work counting) → each (give counting t s p) cs w ≡ withTurn w (eachChild (childTurn t s p) cs (turnOf w))
-    give-some s p cs w =
-        each-part turnOf withTurn (λ w. refl) (λ w x y. refl) (λ w x. refl) (give counting t s p) (childTurn t s p) (give-one s p) cs w
-        ∙ ap (withTurn w) (sym (each-child (childTurn t s p) cs (turnOf w)))
+  give-some : (s p : ℕ) (cs : List ℕ) (w : Work counting) → each (give counting t s p) cs w ≡ withTurn w (eachChild (childTurn t s p) cs (turnOf w))
+  give-some s p cs w =
+      each-part turnOf withTurn (λ w. refl) (λ w x y. refl) (λ w x. refl) (give counting t s p) (childTurn t s p) (give-one s p) cs w
+      ∙ ap (withTurn w) (sym (each-child (childTurn t s p) cs (turnOf w)))
 
-    -- a page taken over
-    over-one : (s p c : ℕ) (w : Work counting) → w .files s .map p ≡ stored tt → handOver counting t s p c w ≡ withTurn w (takenOver t s p c (turnOf w))
-    unfolding handOver takenOver putEntry tallyKind
-    over-one s p c w h = rw h
+  -- a page taken over
+  over-one : (s p c : ℕ) (w : Work counting) → w .files s .map p ≡ stored tt → handOver counting t s p c w ≡ withTurn w (takenOver t s p c (turnOf w))
+  unfolding handOver takenOver putEntry tallyKind
+  over-one s p c w h = rw h
 
-    hand-all : (s p : ℕ) (cs : List ℕ) → ((d : ℕ) → List·Memᴰ d cs → List·Memᴰ d (t .children s)) → (w : Work counting) → w .files s .map p ≡ stored tt →
-        hand counting t s p cs w ≡ withTurn w (handTurns t s p cs (turnOf w))
-    unfolding hand handTurns needs
-    hand-all s p [] kids w h = refl
-    hand-all s p (c ∷ cs) kids w h =
-        let inside : (d : ℕ) → List·Memᴰ d cs → List·Memᴰ d (t .children s) = λ d m. kids d (List·Memᴰ·tail m) in
-        test? (live (w .files c .state) && isUnmapped (w .files c .map p))
-        (λ e. rw e (over-one s p c (each (give counting t s p) cs w) (ap (λ (x : TallyFile). x .map p) (some-self counting t ok s p cs inside w) ∙ h)
-        ∙ ap (λ (v : Work counting). withTurn v (takenOver t s p c (turnOf v))) (give-some s p cs w)))
-        (λ e. rw e (hand-all s p cs inside w h))
+  -- a page handed over, in the order of the store
+  hand-all : (s p : ℕ) (cs : List ℕ) → ((d : ℕ) → List·Memᴰ d cs → List·Memᴰ d (t .children s)) → (w : Work counting) → w .files s .map p ≡ stored tt →
+      hand counting t s p cs w ≡ withTurn w (handLate t s p cs (turnOf w))
+  unfolding hand handLate needs
+  hand-all s p [] kids w h = refl
+  hand-all s p (c ∷ cs) kids w h =
+      let inside : (d : ℕ) → List·Memᴰ d cs → List·Memᴰ d (t .children s) = λ d m. kids d (List·Memᴰ·tail m) in
+      test? (tallyNeeds (w .files) c p)
+      (λ e. rw e (over-one s p c (each (give counting t s p) cs w) (ap (λ (x : TallyFile). x .map p) (some-self counting t (proper .ok) s p cs inside w) ∙ h)
+      ∙ ap (λ (v : Work counting). withTurn v (takenOver t s p c (turnOf v))) (give-some s p cs w)))
+      (λ e. rw e (hand-all s p cs inside w h))
 
-    kind-stored : (e : Kind) → isStored e ≡ true → e ≡ stored tt
-    kind-stored unmapped h = absurd (true≢false (sym h))
-    kind-stored hole h = absurd (true≢false (sym h))
-    kind-stored (stored b) h = refl
+  abbrev hands : Giving → Bool
+  hands copied = false
+  hands handed = true
 
-    abbrev hands : Giving → Bool
-    hands copied = false
-    hands handed = true
+  page-all : (how : Giving) (s p : ℕ) (w : Work counting) → givePage counting t how s p w ≡ withTurn w (pageTurns t s (hands how) p (turnOf w))
+  unfolding givePage pageTurns
+  page-all copied s p w = give-some s p (t .children s) w
+  page-all handed s p w =
+      test? (isStored (w .files s .map p))
+      (λ e. rw (e, hand-late t proper s p (turnOf w) e) (hand-all s p (t .children s) (λ d m. m) w (stored-is (w .files s .map p) e .1)))
+      (λ e. rw e (give-some s p (t .children s) w))
 
-    page-all : (how : Giving) (s p : ℕ) (w : Work counting) → givePage counting t how s p w ≡ withTurn w (pageTurns t s (hands how) p (turnOf w))
-    unfolding givePage pageTurns
-    page-all copied s p w = give-some s p (t .children s) w
-    page-all handed s p w =
-        test? (isStored (w .files s .map p))
-        (λ e. rw e (hand-all s p (t .children s) (λ d m. m) w (kind-stored (w .files s .map p) e)))
-        (λ e. rw e (give-some s p (t .children s) w))
+  give-list : (how : Giving) (s : ℕ) (ps : List ℕ) (handing : ℕ → Bool) → ((p : ℕ) → List·Memᴰ p ps → handing p ≡ hands how) → (w : Work counting) →
+      giveAll counting t how s ps w ≡ withTurn w (each (λ p. pageTurns t s (handing p) p) ps (turnOf w))
+  unfolding giveAll each
+  give-list how s [] handing h w = refl
+  give-list how s (p ∷ ps) handing h w =
+      ap (each (givePage counting t how s) ps) (page-all how s p w ∙ ap (λ b. withTurn w (pageTurns t s b p (turnOf w))) (sym (h p (List·Memᴰ·head refl))))
+      ∙ give-list how s ps handing (λ q m. h q (List·Memᴰ·tail m)) (withTurn w _)
 
-    give-list : (how : Giving) (s : ℕ) (ps : List ℕ) (handing : ℕ → Bool) → ((p : ℕ) → List·Memᴰ p ps → handing p ≡ hands how) → (w : Work counting) →
-        giveAll counting t how s ps w ≡ withTurn w (each (λ p. pageTurns t s (handing p) p) ps (turnOf w))
-    unfolding giveAll each
-    give-list how s [] handing h w = refl
-    give-list how s (p ∷ ps) handing h w =
-        ap (each (givePage counting t how s) ps) (page-all how s p w ∙ ap (λ b. withTurn w (pageTurns t s b p (turnOf w))) (sym (h p (List·Memᴰ·head refl))))
-        ∙ give-list how s ps handing (λ q m. h q (List·Memᴰ·tail m)) (withTurn w _)
-
-    pub give-all : (s : ℕ) (ps ds : List ℕ) (touches handing : ℕ → Bool) → PagesOf (ps ++ ds) touches → ((p : ℕ) → List·Memᴰ p ps → handing p ≡ false) → ((p : ℕ) → List·Memᴰ p ds → handing p ≡ true) →
-        (w : Work counting) → giveAll counting t handed s ds (giveAll counting t copied s ps w) ≡ withTurn w (tallyGive t s touches handing (turnOf w))
-    unfolding tallyGive
-    give-all s ps ds touches handing r off on w =
-        ap (giveAll counting t handed s ds) (give-list copied s ps handing off w) ∙ give-list handed s ds handing on (withTurn w _)
-        ∙ ap (withTurn w) (sym (each-append (λ p. pageTurns t s (handing p) p) ps ds (turnOf w))
-        ∙ sym (each-page r (λ p. pageTurns t s (handing p) p) _ (λ p x l e. rw e) (λ p x l e. rw e) (turnOf w)))
+  pub give-all : (s : ℕ) (ps ds : List ℕ) (touches handing : ℕ → Bool) → PagesOf (ps ++ ds) touches → ((p : ℕ) → List·Memᴰ p ps → handing p ≡ false) → ((p : ℕ) → List·Memᴰ p ds → handing p ≡ true) →
+      (w : Work counting) → giveAll counting t handed s ds (giveAll counting t copied s ps w) ≡ withTurn w (tallyGive t s touches handing (turnOf w))
+  unfolding tallyGive
+  give-all s ps ds touches handing r off on w =
+      ap (giveAll counting t handed s ds) (give-list copied s ps handing off w) ∙ give-list handed s ds handing on (withTurn w _)
+      ∙ ap (withTurn w) (sym (each-append (λ p. pageTurns t s (handing p) p) ps ds (turnOf w))
+      ∙ sym (each-page r (λ p. pageTurns t s (handing p) p) _ (λ p x l e. rw e) (λ p x l e. rw e) (turnOf w)))

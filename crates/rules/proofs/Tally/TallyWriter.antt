@@ -1,51 +1,62 @@
--- The writer's own file over `counting`: step 4 leaves it as it is, step 5 makes pages stored, pages dropped become holes and their blocks are free again. Assumes nothing.
-use mathlib.Core.Bool.{Bool, _&&_, cond, false, true}
+-- What all of step 4 keeps; and the writer's own file over `counting`: step 4 leaves its state as it is, step 5 makes pages stored, pages dropped become holes and their blocks are free again. Assumes nothing.
+use mathlib.Core.Bool.{Bool, _&&_, cond}
 use mathlib.Core.List.{List, List·Memᴰ, List·Memᴰ·head, List·Memᴰ·tail, [], _∷_}
 use mathlib.Core.Path.{ap, refl, subst, sym, _∙_, _≡_}
-use Prim.Native.Nat.{_+_, _<_, ℕ}
+use Prim.Native.Nat.{_+_, ℕ}
 use native.Mathlib.Nat.{add-zero}
 use native.Mathlib.Omega.{arith}
-use lib.Dec.{eqb}
-use Rattle.base.specs.Logic.{test?}
-use Rattle.base.specs.Update.{upd, upd-keeps, upd-other, upd-same, upd-self, upd-upd}
+use Rattle.base.specs.Logic.{and-right, test?}
+use Rattle.base.specs.Update.{upd, upd-keeps, upd-same, upd-self, upd-upd}
 use Rattle.rules.proofs.Storages.Model.{counting}
-use Rattle.rules.proofs.Steps.OneStep.{TreeOk, putEntry-page}
+use Rattle.rules.proofs.Steps.Handing.{ProperTree}
+use Rattle.rules.proofs.Steps.OneStep.{putEntry-page}
 use Rattle.rules.proofs.Steps.StepFour.{each-inv}
 use Rattle.rules.proofs.Tally.TallyLoops.{all-pages, count-pages, count-same-in, each-child, page-inv}
-use Rattle.rules.proofs.Tally.TallyReach.{reached-level}
+use Rattle.rules.proofs.Tally.TallyHanding.{hand-late, handLate, turn-self}
 use Rattle.rules.proofs.Steps.WriterSteps.{NoDup}
 use Rattle.rules.specs.Rules.{Work, countIn, dropPage, each, enter, enterAs, freeEntry, freeMap, from, putEntry, withFiles}
-use Rattle.rules.specs.State.{Tree, hole, isStored, isUnmapped, live, pageCount, setCount, stored, unmapped}
-use Rattle.rules.specs.Tally.{Kind, TallyFile, TallyFiles, Turn, childPage, childTurn, eachChild, handTurns, kindAt, markedWith, neededCopy, pageTurns, storedPages, takenOver, tallyGive, tallyKind, tallyMark}
+use Rattle.rules.specs.State.{Tree, hole, isStored, pageCount, stored, unmapped}
+use Rattle.rules.specs.Tally.{Kind, TallyFile, TallyFiles, Turn, childTurn, eachChild, pageTurns, storedPages, takenOver, tallyGive, tallyKind, tallyNeeds}
 
--- the turns of step 4, one after the other
-module _ (t : Tree) (s : ℕ) (I : Turn → Type 0) where
+-- WHAT EVERY TURN OF STEP 4 KEEPS, and every taking over, all of step 4 keeps
+module _ (t : Tree) (proper : ProperTree t) (s : ℕ) (I : Turn → Type 0)
+    (turn : (p c : ℕ) (x : Turn) → List·Memᴰ c (t .children s) → I x → I (childTurn t s p c x)) (over : (p c : ℕ) (x : Turn) → List·Memᴰ c (t .children s) → I x → I (takenOver t s p c x)) where
   -- some of the children, at page p
-  module _ (p : ℕ) (step : (c : ℕ) (x : Turn) → List·Memᴰ c (t .children s) → I x → I (childTurn t s p c x)) (over : (c : ℕ) (x : Turn) → List·Memᴰ c (t .children s) → I x → I (takenOver t s p c x)) where
-    some-inv : (cs : List ℕ) → ((c : ℕ) → List·Memᴰ c cs → List·Memᴰ c (t .children s)) → (x : Turn) → I x → I (eachChild (childTurn t s p) cs x)
-    some-inv cs kids x i = rw (each-child (childTurn t s p) cs x) (each-inv (childTurn t s p) I cs (λ c z m. step c z (kids c m)) x i)
+  some-inv : (p : ℕ) (cs : List ℕ) → ((c : ℕ) → List·Memᴰ c cs → List·Memᴰ c (t .children s)) → (x : Turn) → I x → I (eachChild (childTurn t s p) cs x)
+  some-inv p cs kids x i = rw (each-child (childTurn t s p) cs x) (each-inv (childTurn t s p) I cs (λ c z m. turn p c z (kids c m)) x i)
 
-    hand-inv : (cs : List ℕ) → ((c : ℕ) → List·Memᴰ c cs → List·Memᴰ c (t .children s)) → (x : Turn) → I x → I (handTurns t s p cs x)
-    unfolding handTurns
-    hand-inv [] kids x i = i
-    hand-inv (c ∷ cs) kids x i =
-        test? (live (x .files c .state) && isUnmapped (x .files c .map p))
-        (λ e. rw e (over c _ (kids c (List·Memᴰ·head refl)) (some-inv cs (λ d m. kids d (List·Memᴰ·tail m)) x i)))
-        (λ e. rw e (hand-inv cs (λ d m. kids d (List·Memᴰ·tail m)) x i))
+  -- the same at a page handed over, in the order of the store
+  late-inv : (p : ℕ) (cs : List ℕ) → ((c : ℕ) → List·Memᴰ c cs → List·Memᴰ c (t .children s)) → (x : Turn) → I x → I (handLate t s p cs x)
+  unfolding handLate
+  late-inv p [] kids x i = i
+  late-inv p (c ∷ cs) kids x i =
+      test? (tallyNeeds (x .files) c p)
+      (λ e. rw e (over p c _ (kids c (List·Memᴰ·head refl)) (some-inv p cs (λ d m. kids d (List·Memᴰ·tail m)) x i)))
+      (λ e. rw e (late-inv p cs (λ d m. kids d (List·Memᴰ·tail m)) x i))
 
-    page-turns-inv : (hands : Bool) (x : Turn) → I x → I (pageTurns t s hands p x)
-    unfolding pageTurns
-    page-turns-inv hands x i =
-        test? (hands && isStored (x .files s .map p)) (λ e. rw e (hand-inv (t .children s) (λ c m. m) x i)) (λ e. rw e (some-inv (t .children s) (λ c m. m) x i))
+  -- all children, at page p
+  page-turns-inv : (hands : Bool) (p : ℕ) (x : Turn) → I x → I (pageTurns t s hands p x)
+  unfolding pageTurns
+  page-turns-inv hands p x i =
+      test? (hands && isStored (x .files s .map p))
+      (λ e. rw (e, hand-late t proper s p x (and-right hands _ e)) (late-inv p (t .children s) (λ c m. m) x i))
+      (λ e. rw e (some-inv p (t .children s) (λ c m. m) x i))
 
-  pub turns-inv : (touches hands : ℕ → Bool) →
-      ((p c : ℕ) (x : Turn) → p < pageCount → touches p ≡ true → List·Memᴰ c (t .children s) → I x → I (childTurn t s p c x)) →
-      ((p c : ℕ) (x : Turn) → p < pageCount → touches p ≡ true → List·Memᴰ c (t .children s) → I x → I (takenOver t s p c x)) →
-      (x : Turn) → I x → I (tallyGive t s touches hands x)
+  -- all pages
+  pub turns-inv : (touches hands : ℕ → Bool) (x : Turn) → I x → I (tallyGive t s touches hands x)
   unfolding tallyGive
-  turns-inv touches hands h k x i =
-      page-inv _ I pageCount
-      (λ p y l j. test? (touches p) (λ e. rw e (page-turns-inv p (λ c z m. h p c z l e m) (λ c z m. k p c z l e m) (hands p) y j)) (λ e. rw e j)) x i
+  turns-inv touches hands x i = page-inv _ I pageCount (λ p y l j. test? (touches p) (λ e. rw e (page-turns-inv (hands p) p y j)) (λ e. rw e j)) x i
+
+-- taking over changes no state
+pub over-state : (t : Tree) (s p c : ℕ) (x : Turn) (y : ℕ) → takenOver t s p c x .files y .state ≡ x .files y .state
+unfolding takenOver tallyKind
+over-state t s p c x y = upd-keeps (λ (z : TallyFile). z .state) (upd (x .files) c _) s _ refl y ∙ upd-keeps (λ (z : TallyFile). z .state) (x .files) c _ refl y
+
+-- the state of the writer's file stays
+pub turns-state : (t : Tree) → ProperTree t → (s : ℕ) (touches hands : ℕ → Bool) (x : Turn) → tallyGive t s touches hands x .files s .state ≡ x .files s .state
+turns-state t proper s touches hands x =
+    turns-inv t proper s (λ y. y .files s .state ≡ x .files s .state)
+    (λ p c y m i. ap (λ (z : TallyFile). z .state) (turn-self t (proper .ok) s p c y m) ∙ i) (λ p c y m i. over-state t s p c y s ∙ i) touches hands x refl
 
 -- n blocks are free again, and the files are fs
 abbrev pub withReleased : Work counting → ℕ → TallyFiles → Work counting
@@ -63,33 +74,7 @@ free-one unmapped m = sym (add-zero m)
 free-one hole m = sym (add-zero m)
 free-one (stored b) m = refl
 
-module _ (t : Tree) (ok : TreeOk t) (s : ℕ) where
-  -- a child's turn leaves the file of the set above it
-  turn-self : (p c : ℕ) (x : Turn) → List·Memᴰ c (t .children s) → childTurn t s p c x .files s ≡ x .files s
-  unfolding childTurn childPage neededCopy tallyMark tallyKind
-  turn-self p c x m = test? (live (x .files c .state) && isUnmapped (x .files c .map p)) (λ e. rw e (go (kindAt t (x .files) s p))) (λ e. rw e)
-    where
-      apart : c ≡ s → ⊥
-      apart q = let e : t .level c ≡ t .level s = ap (t .level) q in omega (arith, ok .kid-lvl s c m)
-
-      missed : markedWith t (x .files) c s ≡ false
-      missed = test? (markedWith t (x .files) c s) (λ e. let l = reached-level t ok (x .files) setCount c s e in absurd (omega (arith, ok .kid-lvl s c m))) (λ e. e)
-
-      go : (k : Kind) → childPage t k p c x .files s ≡ x .files s
-      go unmapped = refl
-      go hole = upd-other (x .files) c _ s apart
-      go (stored b) = test? (eqb (x .free) 0) (λ e. rw (e, missed)) (λ e. rw e (upd-other (x .files) c _ s apart))
-
-  pub over-state : (p c : ℕ) (x : Turn) (y : ℕ) → takenOver t s p c x .files y .state ≡ x .files y .state
-  unfolding takenOver tallyKind
-  over-state p c x y = upd-keeps (λ (z : TallyFile). z .state) (upd (x .files) c _) s _ refl y ∙ upd-keeps (λ (z : TallyFile). z .state) (x .files) c _ refl y
-
-  -- the state of the writer's file stays
-  pub turns-state : (touches hands : ℕ → Bool) (x : Turn) → tallyGive t s touches hands x .files s .state ≡ x .files s .state
-  turns-state touches hands x =
-      turns-inv t s (λ y. y .files s .state ≡ x .files s .state) touches hands
-      (λ p c y l e m i. ap (λ (z : TallyFile). z .state) (turn-self p c y m) ∙ i) (λ p c y l e m i. over-state p c y s ∙ i) x refl
-
+module _ (t : Tree) (s : ℕ) where
   -- STEP 5: pending blocks enter the map
   module _ (lay : ℕ → Unit {0} → Unit {0}) where
     enter-one : (p : ℕ) (w : Work counting) → w .pending p ≡ stored tt → enter counting t s lay p w ≡ withFiles counting t w (putEntry (w .files) s p (stored tt))

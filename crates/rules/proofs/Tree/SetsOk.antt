@@ -9,6 +9,7 @@ use lib.Dec.{eqb, ltb}
 use borrow.Author.Tests.{ltb-false, ltb-true, ne-eqb}
 use Rattle.base.specs.Logic.{same?, test?}
 use Rattle.rules.proofs.Tree.Chains.{Follows, children-are, children-none, children-used, count-once, follows-next, follows-once}
+use Rattle.rules.proofs.Steps.Handing.{ProperTree}
 use Rattle.rules.proofs.Steps.OneStep.{TreeOk}
 use Rattle.rules.proofs.Steps.WriterSteps.{NoDup}
 use Rattle.rules.specs.Rules.{countIn}
@@ -50,6 +51,10 @@ module _ (sets : ℕ → SetRecord) (ok : SetsOk sets) where
   pub children-once : (s : ℕ) → NoDup (childrenOf sets s)
   children-once s =
       test? (sets s .used) (λ u. follows-once sets (childrenOf sets s) (sets s .firstChild) (ok .follows s u)) (λ u. rw (children-none sets s u) tt)
+
+  -- the tree of sets in order
+  pub proper-tree : ProperTree (treeOf sets)
+  proper-tree = record { ok = ok .tree; once = children-once }
 
   -- every used set but the root stands in its parent's list, one level on
   pub set-listed : (c : ℕ) → sets c .used ≡ true → (c ≡ 0 → ⊥) → List·Memᴰ c (childrenOf sets (sets c .parent))

@@ -11,7 +11,7 @@ use Rattle.rules.proofs.Storages.Model.{model}
 use Rattle.rules.proofs.Tally.TallyNumbers.{Tallies, same-numbers}
 use Rattle.rules.proofs.Tree.MakeSet.{make-same}
 use Rattle.rules.proofs.Tree.RemoveSet.{remove-same}
-use Rattle.rules.proofs.Tree.SetsOk.{children-once, root-alone-tree}
+use Rattle.rules.proofs.Tree.SetsOk.{proper-tree, root-alone-tree}
 use Rattle.rules.proofs.Whole.Order.{InOrder, answer-tally, model-after, order-step, tallies-step, tally-orderly}
 use Rattle.rules.specs.Calls.{Store, blankMemory, resultOf, step, treeIn, viewOf}
 use Rattle.rules.specs.Numbers.{Call, numberOf}
@@ -29,7 +29,7 @@ pub record Holds (B : ℕ) (r : Store real) (pl : Plain) (ta : Tally) : Type 0 w
 -- what the plain store asks of a model in order
 pub orderly : (m : Store model) → ModelFormed m → Orderly m
 orderly m v = record {
-  proper = record { ok = v .sets-ok .tree; once = children-once (m .sets) (v .sets-ok) };
+  proper = proper-tree (m .sets) (v .sets-ok);
   files-ok = λ f. v .files-ok f .ok;
   small = λ f s. size-most (treeIn model m) (m .files f) (v .files-ok f .shape) s;
   unused = λ f s u. v .files-ok f .shape s .unused u;

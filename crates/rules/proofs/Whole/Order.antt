@@ -20,7 +20,7 @@ use Rattle.rules.proofs.Tally.TallyCalls.{SameStep, SetsAfter, step-tal
 use Rattle.rules.proofs.Tally.TallyNumbers.{Tallies, TallyOrderly}
 use Rattle.rules.proofs.Tree.MakeSet.{make-same}
 use Rattle.rules.proofs.Tree.RemoveSet.{remove-same}
-use Rattle.rules.proofs.Tree.SetsOk.{children-once, format-sets}
+use Rattle.rules.proofs.Tree.SetsOk.{format-sets, proper-tree}
 use Rattle.rules.proofs.Whole.Accepted.{passed-make, passed-remove}
 use Rattle.rules.specs.Calls.{Store, blankMemory, formatted, resultOf, step, tablesOf, treeIn, viewOf}
 use Rattle.rules.specs.Numbers.{Call, create, delete, format, make, numberOf, read, remove, tellFree, tellSize, truncate, write}
@@ -54,7 +54,7 @@ count-only m k h = λ i. record { memory = h .memory i; sets = h .sets i; files 
 -- what the tally asks of a model in order
 pub tally-orderly : (m : Store model) → ModelFormed m → TallyOrderly (countOf m)
 tally-orderly m v = record {
-  tree-ok = v .sets-ok .tree;
+  proper = proper-tree (m .sets) (v .sets-ok);
   shallow = v .sets-ok .highest;
   files-ok = λ f. map-formed forget (treeIn model m) (m .files f) (v .files-ok f) .ok;
   small = λ f s. v .files-ok f .shape s .most;
@@ -82,7 +82,7 @@ module _ (B : ℕ) (some : 1 ≤ B) (r : Store real) (o : InOrder B r) (c : Call
   m = modelOf r
 
   proper : ProperTree (treeIn real r)
-  proper = record { ok = o .formed .sets-ok .tree; once = children-once (r .sets) (o .formed .sets-ok) }
+  proper = proper-tree (r .sets) (o .formed .sets-ok)
 
   real-model : Same pagesSeen (RealKept B) (step real (blankMemory B) c r) (step model B c m)
   real-model = step-same B some r m (o .kept .blocks) (o .kept .blocks-ok) (o .kept .pages-in) (model-stands r) proper c

@@ -10,6 +10,7 @@ use Rattle.rules.proofs.Marking.MarkingCalls.{becomes-marked, truncate-
 use Rattle.rules.proofs.Storages.CountCalls.{countOf, forget, modelOf}
 use Rattle.rules.proofs.Storages.MapBlocks.{mapEntry}
 use Rattle.rules.proofs.Tally.TallyNumbers.{Tallies}
+use Rattle.rules.proofs.Tree.SetsOk.{proper-tree}
 use Rattle.rules.proofs.Whole.Order.{InOrder, answer-tally, tallies-step}
 use Rattle.rules.specs.Agreement.{kindOf, tallyIn}
 use Rattle.rules.specs.Calls.{Store, blankMemory, step, treeIn}
@@ -57,7 +58,7 @@ module _ (B : ℕ) (least : 1 ≤ B) (r : Store real) (o : InOrder B r) where
       (isMarked (bothAs n B c pl (tallyIn r) .tally .files f s .state) ≡ true) ↔ ((bothAs n B c pl (tallyIn r) .answer .number ≡ 0) × BecomesMarked (tallyIn r) c f s)
   unfolding bothAs
   marks-as zero c f s h =
-      let k = becomes-marked (tallyIn r) (o .formed .sets-ok .tree) (λ x. omega (arith, o .formed .sets-ok .highest x)) B f s h c in
+      let k = becomes-marked (tallyIn r) (proper-tree (r .sets) (o .formed .sets-ok)) (λ x. omega (arith, o .formed .sets-ok .highest x)) B f s h c in
       (λ a. (tally-number B c (tallyIn r), k .0 a), λ q. k .1 (q .1))
   marks-as (suc n) c f s h = (λ a. absurd (true≢false (sym a ∙ h)), λ q. absurd (let e = q .0 in omega arith))
 
