@@ -7,13 +7,13 @@ use Prim.Native.Nat.{_+_, _-_, _<_, suc, zero, ℕ, _≤_}
 use native.Mathlib.Numerals.{sub-one}
 use native.Mathlib.Omega.{arith}
 use borrow.Author.Tests.{le-ltb, lt-ltb}
-use Rattle.base.specs.Logic.{test?}
+use Rattle.base.specs.Logic.{and-right, test?}
 use Rattle.copying.proofs.Chains.{pages-turn, upPages}
-use Rattle.copying.proofs.Given.{give-none, give-shown, given-as}
+use Rattle.copying.proofs.Given.{give-none, give-shown, given-as, resolve-below}
 use Rattle.copying.proofs.Kept.{entered}
 use Rattle.copying.proofs.Steps.{going-start, step-as, step-none, step-sets, step-then}
 use Rattle.copying.specs.Work.{Alone, FirstChild, Going, Ready, Step, ShownKept, giveBoth, giveChain, givingOf, handIf, shown, work}
-use Rattle.copying.specs.Heirs.{HeirFound}
+use Rattle.copying.specs.Turns.{BehindHeir, TurnsFound, handedOr}
 use Rattle.masks.specs.Pages.{pages}
 use Rattle.rules.proofs.Blocks.GoodWork.{not-stored}
 use Rattle.rules.proofs.Steps.Handing.{some-self}
@@ -29,7 +29,7 @@ use Rattle.tables.specs.Packed.{unpack}
 use Rattle.tables.specs.Views.{Turns, putEntryIn}
 use Rattle.tables.specs.declared.entries.Kept.{Kept}
 use Rattle.copying.specs.declared.giving.Counts.{Counts}
-use Rattle.copying.specs.declared.giving.Heir.{Heir}
+use Rattle.copying.specs.declared.giving.InTurn.{InTurn}
 
 -- ---- the block moves
 
@@ -112,21 +112,23 @@ module _ (tb : Tables) (f q first : ℕ) where
 
   module _ (n c : ℕ) (x : Searching tb f q first n c) where
     -- LAW: no set needs it
-    pub heir-none : (8 ≤ c) ⊎ (n ≡ 0) → HeirFound tb f q first (record { set = 8; next = 8; most = 0 })
+    pub heir-none : (8 ≤ c) ⊎ (n ≡ 0) → BehindHeir tb f q first (record { heir = 8; next = 8; most = 0 })
     heir-none o = record {
       rule = λ s w h. x .rule s w h ∙ ⊎-elim (λ l. hand-end (tb .sets) s q n c l w) (λ z. hand-out (tb .sets) s q n c z w) o ∙ sym (no-turns s 8 w);
       within = none-within;
       few = omega arith;
+      heir-of-gift = λ l. refl;
     }
 
     module _ (d : ℕ) (pos : n ≡ 0 → ⊥) (l : c < 8) (e : d ≡ tb .sets c .nextSibling) where
       -- LAW: set c is the first that needs it
-      pub heir-first : n ≤ 8 → needs (tb .files f) c q ≡ true → HeirFound tb f q first (record { set = c; next = d; most = n - 1 })
-      heir-first few nd = subst (λ i. HeirFound tb f q first (record { set = c; next = i; most = n - 1 })) (sym e) (record {
+      pub heir-first : n ≤ 8 → needs (tb .files f) c q ≡ true → BehindHeir tb f q first (record { heir = c; next = d; most = n - 1 })
+      heir-first few nd = subst (λ i. BehindHeir tb f q first (record { heir = c; next = i; most = n - 1 })) (sym e) (record {
         rule = λ s w h. x .rule s w h ∙ hand-take (tb .sets) s q n c pos l w (ap (λ (y : Files ℕ). needs y c q) h ∙ nd)
             ∙ ap (λ (b : Bool). cond b (handOver real (treeOf (tb .sets)) s q c (each (give real (treeOf (tb .sets)) s q) (chain (tb .sets) (n - 1) (tb .sets c .nextSibling)) w)) (each (give real (treeOf (tb .sets)) s q) (chain (tb .sets) (n - 1) (tb .sets c .nextSibling)) w)) (sym (lt-ltb c 8 l));
         within = λ y m. x .within y (rest-within (tb .sets) n c pos l y m);
         few = omega arith;
+        heir-of-gift = λ i. refl;
       })
 
       -- LAW: set c does not need it
@@ -135,6 +137,19 @@ module _ (tb : Tables) (f q first : ℕ) where
         rule = λ s w h. x .rule s w h ∙ hand-skip (tb .sets) s q n c pos l w (ap (λ (y : Files ℕ). needs y c q) h ∙ un);
         within = λ y m. x .within y (rest-within (tb .sets) n c pos l y m);
       })
+
+-- LAW: nothing is handed over
+pub turns-all : (tb : Tables) (f q c : ℕ) (gift : Bool) → gift ≡ false → TurnsFound tb f q c gift (record { heir = 8; next = c; most = 8 })
+turns-all tb f q c gift g = record {
+  rule = λ s w h. ap (λ (b : Bool). handedOr b (treeOf (tb .sets)) s q (chain (tb .sets) 8 c) w) g;
+  within = λ x m. m;
+  few = omega arith;
+  heir-of-gift = λ l. absurd (omega arith);
+}
+
+-- LAW: it is
+pub turns-heir : (tb : Tables) (f q c : ℕ) (gift : Bool) (r : InTurn) → gift ≡ true → BehindHeir tb f q c r → TurnsFound tb f q c gift r
+turns-heir tb f q c gift r g x = subst (λ (b : Bool). TurnsFound tb f q c b r) (sym g) x
 
 -- ---- the children of a set
 
@@ -145,8 +160,7 @@ first-children sets s c h = rw (h .used, h .first)
 
 -- ---- a page
 
-page-how : (tr : Tree) (hands : Bool) (s q : ℕ) (w : Work real)
-    → givePage real tr (givingOf hands) s q w ≡ cond (hands && isStored (w .files s .map q)) (hand real tr s q (tr .children s) w) (each (give real tr s q) (tr .children s) w)
+page-how : (tr : Tree) (hands : Bool) (s q : ℕ) (w : Work real) → givePage real tr (givingOf hands) s q w ≡ handedOr (hands && isStored (w .files s .map q)) tr s q (tr .children s) w
 unfolding givePage
 page-how tr true s q w = refl
 page-how tr false s q w = refl
@@ -160,8 +174,8 @@ chain-given {t} {p} {t′} {p′} {f} {k} s q n c first e re ee ch within x =
     (λ h. given-as (treeOf (unpack t .sets)) (re .sound .tree) s q e (chain (unpack t .sets) n c)
     (λ y m. subst (List·Memᴰ y) (sym (first-children (unpack t .sets) s first ch)) (within y m)) (work (unpack t) (pagesOf p) f h k) (sym ee)) x
 
-module _ {t p t₁ p₁ : List ℕ} {f : ℕ} {k k₁ : Counts} (s q first : ℕ) (e : Entry ℕ) (r : Heir) (re : Ready t p f k) (ch : FirstChild (unpack t .sets) s first) (ee : e ≡ shown t f s q)
-    (found : HeirFound (unpack t) f q first r) (x : Step t p t₁ p₁ f k k₁ (giveChain (unpack t .sets) e q (r .most) (r .next))) where
+module _ {t p t₁ p₁ : List ℕ} {f : ℕ} {k k₁ : Counts} (s q first : ℕ) (e : Entry ℕ) (gift : Bool) (r : InTurn) (re : Ready t p f k) (ch : FirstChild (unpack t .sets) s first) (ee : e ≡ shown t f s q)
+    (found : TurnsFound (unpack t) f q first gift r) (x : Step t p t₁ p₁ f k k₁ (giveChain (unpack t .sets) e q (r .most) (r .next))) where
   turns-done : Step t p t₁ p₁ f k k₁ (each (give real (treeOf (unpack t .sets)) s q) (chain (unpack t .sets) (r .most) (r .next)))
   turns-done = chain-given s q (r .most) (r .next) first e re ee ch (found .within) x
 
@@ -172,14 +186,16 @@ module _ {t p t₁ p₁ : List ℕ} {f : ℕ} {k k₁ : Counts} (s q first : ℕ
       ∙ ap (λ (z : File ℕ). z .map y) (some-self real (treeOf (unpack t .sets)) (re .sound .tree) s q (chain (unpack t .sets) (r .most) (r .next))
       (λ z m. subst (List·Memᴰ z) (sym (first-children (unpack t .sets) s first ch)) (found .within z m)) (work (unpack t) (pagesOf p) f (λ i. unmapped) k))
 
-  -- LAW: the turns of the sets behind the heir, and then the block moves
-  pub page-handed : {t₂ : List ℕ} → Alone t₁ t₂ f (handIf (treeOf (unpack t₁ .sets)) s q (r .set)) → Step t p t₂ p₁ f k k₁ (hand real (treeOf (unpack t .sets)) s q (childrenOf (unpack t .sets) s))
-  page-handed {t₂} a =
+  -- LAW: a page's turns, and then the block moves
+  pub page-given : {t₂ : List ℕ} (hands : Bool) → gift ≡ (hands && isStored (unpack t .files f s .map q)) → Alone t₁ t₂ f (handIf (treeOf (unpack t₁ .sets)) s q (r .heir))
+      → Step t p t₂ p₁ f k k₁ (givePage real (treeOf (unpack t .sets)) (givingOf hands) s q)
+  page-given {t₂} hands eg a =
       let tr = treeOf (unpack t .sets) in
-      let z : Step t₁ p₁ t₂ p₁ f k₁ k₁ (handIf tr s q (r .set)) = subst (λ (i : ℕ → SetRecord). Step t₁ p₁ t₂ p₁ f k₁ k₁ (handIf (treeOf i) s q (r .set))) (step-sets x) (a p₁ k₁ (x .ready)) in
-      step-as (hand real tr s q (tr .children s))
+      let z : Step t₁ p₁ t₂ p₁ f k₁ k₁ (handIf tr s q (r .heir)) = subst (λ (i : ℕ → SetRecord). Step t₁ p₁ t₂ p₁ f k₁ k₁ (handIf (treeOf i) s q (r .heir))) (step-sets x) (a p₁ k₁ (x .ready)) in
+      step-as (givePage real tr (givingOf hands) s q)
       (λ h. let w = work (unpack t) (pagesOf p) f h k in
-      sym (ap (λ (cs : List ℕ). hand real tr s q cs w) (first-children (unpack t .sets) s first ch) ∙ found .rule s w refl)) (step-then turns-done z)
+      sym (found .rule s w refl) ∙ ap (λ (cs : List ℕ). handedOr gift tr s q cs w) (sym (first-children (unpack t .sets) s first ch))
+      ∙ ap (λ (b : Bool). handedOr b tr s q (tr .children s) w) eg ∙ sym (page-how tr hands s q w)) (step-then turns-done z)
 
 -- LAW: a page that the set's own map stores resolves to that
 pub own-shown : (t : List ℕ) (f s q : ℕ) → isStored (unpack t .files f s .map q) ≡ true → shown t f s q ≡ unpack t .files f s .map q
@@ -190,30 +206,15 @@ own-shown t f s q h = go (unpack t .files f s .map q) refl h
     go hole e i = absurd (true≢false (sym i))
     go (stored b) e i = resolve-here (treeOf (unpack t .sets)) (unpack t .files f) s q (stored b) e refl
 
-module _ {t p t′ p′ : List ℕ} {f : ℕ} {k k′ : Counts} (s q : ℕ) (gift hands : Bool) (eg : gift ≡ (hands && isStored (unpack t .files f s .map q))) where
-  -- LAW: a page that is handed over
-  pub page-gift : gift ≡ true → Step t p t′ p′ f k k′ (hand real (treeOf (unpack t .sets)) s q (childrenOf (unpack t .sets) s))
-      → Step t p t′ p′ f k k′ (givePage real (treeOf (unpack t .sets)) (givingOf hands) s q)
-  page-gift g x =
-      let tr = treeOf (unpack t .sets) in
-      step-as (givePage real tr (givingOf hands) s q)
-      (λ h. let w = work (unpack t) (pagesOf p) f h k in
-      ap (λ (b : Bool). cond b (hand real tr s q (tr .children s) w) (each (give real tr s q) (tr .children s) w)) (sym g ∙ eg) ∙ sym (page-how tr hands s q w)) x
+-- LAW: so an heir takes over what the page resolves to
+pub heir-own : (t : List ℕ) (f s q c : ℕ) (e : Entry ℕ) (gift hands : Bool) (r : InTurn) → gift ≡ (hands && isStored (unpack t .files f s .map q)) → TurnsFound (unpack t) f q c gift r → e ≡ shown t f s q
+    → r .heir < 8 → e ≡ unpack t .files f s .map q
+heir-own t f s q c e gift hands r eg found ee l =
+    ee ∙ own-shown t f s q (and-right hands (isStored (unpack t .files f s .map q)) (sym eg ∙ found .heir-of-gift l))
 
-  -- LAW: a page that is not
-  pub page-copied : (c : ℕ) (e : Entry ℕ) → gift ≡ false → Ready t p f k → FirstChild (unpack t .sets) s c → e ≡ shown t f s q → Step t p t′ p′ f k k′ (giveChain (unpack t .sets) e q 8 c)
-      → Step t p t′ p′ f k k′ (givePage real (treeOf (unpack t .sets)) (givingOf hands) s q)
-  page-copied c e g re ch ee x =
-      let tr = treeOf (unpack t .sets) in
-      step-as (givePage real tr (givingOf hands) s q)
-      (λ h. let w = work (unpack t) (pagesOf p) f h k in
-      ap (λ (cs : List ℕ). each (give real tr s q) cs w) (sym (first-children (unpack t .sets) s c ch))
-      ∙ ap (λ (b : Bool). cond b (hand real tr s q (tr .children s) w) (each (give real tr s q) (tr .children s) w)) (sym g ∙ eg) ∙ sym (page-how tr hands s q w))
-      (chain-given s q 8 c c e re ee ch (λ y m. m) x)
-
--- LAW: the block that moves is one of the bitmap
-pub moving-below : {t p : List ℕ} {f : ℕ} {k : Counts} {e : Entry ℕ} (s q : ℕ) → Ready t p f k → e ≡ unpack t .files f s .map q → (b : ℕ) → e ≡ stored b → b < 4096
-moving-below s q re own b ee = let h = re .sound .named s q b (sym own ∙ ee) in omega (arith, h, re .sound .header .most)
+-- LAW: a page resolves to a block of the bitmap
+pub shown-below : {t p : List ℕ} {f : ℕ} {k : Counts} {e : Entry ℕ} (s q : ℕ) → Ready t p f k → e ≡ shown t f s q → (b : ℕ) → e ≡ stored b → b < 4096
+shown-below s q re ee b h = let x = resolve-below re s q ee b h in omega (arith, x, re .sound .header .most)
 
 -- ---- handing page q leaves the others of set s
 

@@ -1,3 +1,3 @@
 pub mod Work
-pub mod Heirs
+pub mod Turns
 pub mod Changes

@@ -5,14 +5,14 @@ ghost use mathlib.Core.Bool.{_&&_, true};
 ghost use Prim.Native.Nat.{ℕ, _+_, _<_, _≤_};
 ghost use lib.ListN.{length};
 ghost use Rattle.rules.specs.Rules as Rules;
-ghost use Rattle.rules.specs.State.{childrenOf, isStored, live, stored, treeOf};
+ghost use Rattle.rules.specs.State.{isStored, live, stored, treeOf};
 ghost use Rattle.rules.specs.Storage.{real};
 ghost use Rattle.tables.specs.Layout.{tableBytes};
 ghost use Rattle.tables.specs.Packed.{unpack};
 ghost use Rattle.tables.specs.Meaning.{entryMeant};
 ghost use Rattle.tables.specs.Views.{PackedTables};
 ghost use Rattle.copying.specs.Work.{Alone, FirstChild, Ready, ShownKept, Step, giveAs, giveBoth, giveChain, givingOf, handIf, shown};
-ghost use Rattle.copying.specs.Heirs.{HeirFound};
+ghost use Rattle.copying.specs.Turns.{BehindHeir, TurnsFound};
 use crate::marking;
 use maps::resolving;
 use tables::entries;
@@ -133,10 +133,10 @@ fn give_chain(
     w
 }
 
-// The first child of a set that needs a page, the heir, or 8 if none does; and its siblings behind it: set `next` and the sets behind that
-// in its chain, `most` at most.
-struct Heir {
-    set: usize,
+// Whose turns a page's are: those of set `next` and the sets behind it in its chain, `most` at most; then set `heir` takes the page over, where
+// that is a set.
+struct InTurn {
+    heir: usize,
     next: usize,
     most: usize,
 }
@@ -152,25 +152,25 @@ fn is_gift(t: &[u8], f: usize, s: usize, page: Page, hands: bool) -> bool
     entries::is_stored(entries::entry_at(t, f, s, page))
 }
 
-// The first of set `child` and the sets behind it in its chain that needs a page.
-fn find_heir(t: &[u8], f: usize, page: Page, child: usize) -> Heir
+// The heir is the first of set `child` and the sets behind it in its chain that needs the page; those behind the heir have turns.
+fn behind_heir(t: &[u8], f: usize, page: Page, child: usize) -> InTurn
     requires { ⌜ (length (now t) ≡ tableBytes) × (f < 16) × (page .0 < 64) ⌝ }
-    ensures { λ r. ⌜ HeirFound (unpack (now (t .entry))) f (page .0) child r ⌝ }
+    ensures { λ r. ⌜ BehindHeir (unpack (now (t .entry))) f (page .0) child r ⌝ }
 {
     let mut c = child;
     let mut n: usize = 8;
     while 0 < n {
         if 8 <= c {
-            return Heir {
-                set: 8,
+            return InTurn {
+                heir: 8,
                 next: 8,
                 most: 0,
             };
         }
         let next = sets::next_sibling_of(t, c);
         if maps::marking::needs(t, f, c, page) {
-            return Heir {
-                set: c,
+            return InTurn {
+                heir: c,
                 next: next,
                 most: n - 1,
             };
@@ -178,16 +178,31 @@ fn find_heir(t: &[u8], f: usize, page: Page, child: usize) -> Heir
         c = next;
         n -= 1;
     }
-    Heir {
-        set: 8,
+    InTurn {
+        heir: 8,
         next: 8,
         most: 0,
     }
 }
 
+// All children have turns, or, where the page is handed over, those behind the heir; the first child is `child`.
+fn in_turn(t: &[u8], f: usize, page: Page, child: usize, gift: bool) -> InTurn
+    requires { ⌜ (length (now t) ≡ tableBytes) × (f < 16) × (page .0 < 64) ⌝ }
+    ensures { λ r. ⌜ TurnsFound (unpack (now (t .entry))) f (page .0) child gift r ⌝ }
+{
+    if !gift {
+        return InTurn {
+            heir: 8,
+            next: child,
+            most: 8,
+        };
+    }
+    behind_heir(t, f, page, child)
+}
+
 // The entry that a page has in set s, e, moves to the map of set c, if there is such a set.
 fn hand_over(t: &mut [u8], f: usize, s: usize, page: Page, e: Entry, c: usize)
-    requires { ⌜ PackedTables (now t) × (f < 16) × (s < 8) × (page .0 < 64) × (entryMeant e ≡ unpack (now t) .files f s .map (page .0)) × ((b : ℕ) → entryMeant e ≡ stored b → b < 4096) ⌝ }
+    requires { ⌜ PackedTables (now t) × (f < 16) × (s < 8) × (page .0 < 64) × (c < 8 → entryMeant e ≡ unpack (now t) .files f s .map (page .0)) × ((b : ℕ) → entryMeant e ≡ stored b → b < 4096) ⌝ }
     ensures { λ _. ⌜ Alone (now (t .entry)) (now (t .exit)) f (handIf (treeOf (unpack (now (t .entry)) .sets)) s (page .0) c) ⌝ }
 {
     if 8 <= c {
@@ -197,28 +212,8 @@ fn hand_over(t: &mut [u8], f: usize, s: usize, page: Page, e: Entry, c: usize)
     entries::put_entry(t, f, s, page, Entry::Hole);
 }
 
-// A page of set s, which its own map stores as e: "the first child that needs it takes over the block itself. Other children needing it
-// still get copies", which are made first. The first child of set s is `child`.
-fn hand_page(
-    t: &mut [u8],
-    p: &mut [u8],
-    f: usize,
-    s: usize,
-    page: Page,
-    e: Entry,
-    child: usize,
-    k: Counts,
-) -> Counts
-    requires { ⌜ Ready (now t) (now p) f k × (s < 8) × (page .0 < 64) × FirstChild (unpack (now t) .sets) s child × (entryMeant e ≡ shown (now t) f s (page .0)) × (entryMeant e ≡ unpack (now t) .files f s .map (page .0)) ⌝ }
-    ensures { λ r. ⌜ Step (now (t .entry)) (now (p .entry)) (now (t .exit)) (now (p .exit)) f k r (Rules.hand real (treeOf (unpack (now (t .entry)) .sets)) s (page .0) (childrenOf (unpack (now (t .entry)) .sets) s)) ⌝ }
-{
-    let h = find_heir(&*t, f, page, child);
-    let w = give_chain(t, p, f, page, e, h.next, h.most, k);
-    hand_over(t, f, s, page, e, h.set);
-    w
-}
-
-// A page of set s, which resolves to e, for each child; the first child is `child`.
+// A page of set s, which resolves to e, for each child; the first child is `child`. Where it is handed over, the others get their copies before
+// the block moves.
 fn give_page(
     t: &mut [u8],
     p: &mut [u8],
@@ -233,10 +228,11 @@ fn give_page(
     requires { ⌜ Ready (now t) (now p) f k × (s < 8) × (page .0 < 64) × FirstChild (unpack (now t) .sets) s child × (entryMeant e ≡ shown (now t) f s (page .0)) ⌝ }
     ensures { λ r. ⌜ Step (now (t .entry)) (now (p .entry)) (now (t .exit)) (now (p .exit)) f k r (Rules.givePage real (treeOf (unpack (now (t .entry)) .sets)) (givingOf hands) s (page .0)) ⌝ }
 {
-    if is_gift(&*t, f, s, page, hands) {
-        return hand_page(t, p, f, s, page, e, child, k);
-    }
-    give_chain(t, p, f, page, e, child, 8, k)
+    let gift = is_gift(&*t, f, s, page, hands);
+    let r = in_turn(&*t, f, page, child, gift);
+    let w = give_chain(t, p, f, page, e, r.next, r.most, k);
+    hand_over(t, f, s, page, e, r.heir);
+    w
 }
 
 // Each of m pages of set s from page number `first` on; what they resolve to is kept, the first child is `child`.

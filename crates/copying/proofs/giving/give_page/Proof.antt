@@ -1,52 +1,44 @@
 -- `copying::giving::give_page` meets its contract. Assumes nothing.
 use mathlib.Core.Path.{sym, _∙_}
-use native.Mathlib.Omega.{arith}
 use borrow.Author.Needs.{needs}
-use Rattle.base.specs.Logic.{and-right}
-use Rattle.rules.specs.State.{isStored}
 use Rattle.tables.specs.Meaning.{entryMeant}
-use Rattle.tables.specs.Packed.{unpack}
 use Rattle.copying.proofs.Given.{resolve-below}
-use Rattle.copying.proofs.Handed.{own-shown, page-copied, page-gift}
+use Rattle.copying.proofs.Handed.{heir-own, map-left, page-given, shown-below}
 use Rattle.copying.proofs.giving.give_page.Statement.{statement}
 use Rattle.copying.proofs.giving.give_page.Tie as tie
 
-hand-page-requires : tie.Need-hand-page-requires
-hand-page-requires c κs =
-    let i = c .before .before in
-    let g = i .before in
-    let s = g .before .before .before .before in
+give-chain-requires : tie.Need-give-chain-requires
+give-chain-requires c κs =
+    let r = c .before .before in
+    let s = r .before .before .before .before .before .before in
+    (s .pre .0, s .pre .2, resolve-below (s .pre .0) (s .args .s) (s .args .page .0) (s .pre .4), r .in-turn .ensures .few)
+
+hand-over-requires : tie.Need-hand-over-requires
+hand-over-requires c κs =
+    let g = c .before .before .before .before .before in
+    let r = g .before .before .before in
+    let i = r .before .before in
+    let s = i .before .before .before .before in
     let a = s .args in
-    let own = and-right (a .hands) (isStored (unpack (a .t .now) .files (a .f) (a .s) .map (a .page .0))) (sym (g .is-gift .ensures) ∙ i .if1 .taken) in
-    (s .pre .0, s .pre .1, s .pre .2, s .pre .3, s .pre .4, s .pre .4 ∙ own-shown (a .t .now) (a .f) (a .s) (a .page .0) own)
+    let re = g .give-chain .ensures .ready in
+    let left = map-left (a .s) (a .page .0) (a .child) (entryMeant (a .e)) (i .is-gift .result) (r .in-turn .result) (s .pre .0) (s .pre .3) (s .pre .4) (r .in-turn .ensures) (g .give-chain .ensures) (a .page .0) in
+    let own = heir-own (a .t .now) (a .f) (a .s) (a .page .0) (a .child) (entryMeant (a .e)) (i .is-gift .result) (a .hands) (r .in-turn .result) (i .is-gift .ensures) (r .in-turn .ensures) (s .pre .4) in
+    (re .packed, re .file, s .pre .1, s .pre .2, (λ l. own l ∙ sym left), shown-below (a .s) (a .page .0) (s .pre .0) (s .pre .4))
 
 returns : tie.Need-returns
 returns c =
-    let h = c .before .before .before .before in
-    let i = h .before .before .before in
-    let g = i .before in
-    let s = g .before .before .before .before in
+    let h = c .before .before in
+    let g = h .before .before .before .before .before .before in
+    let r = g .before .before .before in
+    let i = r .before .before in
+    let s = i .before .before .before .before in
     let a = s .args in
-    page-gift (a .s) (a .page .0) (g .is-gift .result) (a .hands) (g .is-gift .ensures) (i .if1 .taken) (h .hand-page .ensures)
-
-give-chain-requires : tie.Need-give-chain-requires
-give-chain-requires c κs =
-    let i = c .before .before in
-    let s = i .before .before .before .before .before in
-    (s .pre .0, s .pre .2, resolve-below (s .pre .0) (s .args .s) (s .args .page .0) (s .pre .4), omega arith)
-
-returns-2 : tie.Need-returns-2
-returns-2 c =
-    let h = c .before .before .before .before in
-    let i = h .before .before .before in
-    let g = i .before in
-    let s = g .before .before .before .before in
-    let a = s .args in
-    page-copied (a .s) (a .page .0) (g .is-gift .result) (a .hands) (g .is-gift .ensures) (a .child) (entryMeant (a .e)) (i .if1 .left) (s .pre .0) (s .pre .3) (s .pre .4) (h .give-chain .ensures)
+    page-given (a .s) (a .page .0) (a .child) (entryMeant (a .e)) (i .is-gift .result) (r .in-turn .result) (s .pre .0) (s .pre .3) (s .pre .4) (r .in-turn .ensures) (g .give-chain .ensures) (a .hands)
+    (i .is-gift .ensures) (h .hand-over .ensures)
 
 pub give-page-spec : {M : Type 1} → statement M
 give-page-spec =
     tie.close
     (tie.spec
-    (λ c κs. search needs) hand-page-requires (λ c. search needs) (λ c. search needs) returns give-chain-requires (λ c. search needs)
-    (λ c. search needs) returns-2)
+    (λ c κs. search needs) (λ c κs. search needs) give-chain-requires hand-over-requires (λ c. search needs)
+    (λ c. search needs) returns)

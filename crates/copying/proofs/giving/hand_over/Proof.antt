@@ -29,7 +29,7 @@ returns-2 c =
     let u = v .before .before .before .before in
     let s = u .before .before .before .before in
     let a = s .args in
-    moved (a .f) (a .s) (a .page .0) (a .c) (entryMeant (a .e)) (omega arith) (s .pre .4) (u .put-entry .ensures) (v .put-entry2 .ensures)
+    moved (a .f) (a .s) (a .page .0) (a .c) (entryMeant (a .e)) (omega arith) (s .pre .4 (omega arith)) (u .put-entry .ensures) (v .put-entry2 .ensures)
 
 pub hand-over-spec : {M : Type 1} → statement M
 hand-over-spec = tie.close (tie.spec returns put-entry-requires put-entry-requires-2 (λ c. search needs) returns-2)

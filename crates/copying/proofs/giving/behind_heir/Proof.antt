@@ -1,12 +1,12 @@
--- `copying::giving::find_heir` meets its contract. The loop's invariant: no set before c needs the page. Assumes nothing.
+-- `copying::giving::behind_heir` meets its contract. The loop's invariant: no set before c needs the page. Assumes nothing.
 use mathlib.Core.Logic.{inl, inr}
 use mathlib.Core.Path.{sym, _∙_}
 use Prim.Native.Nat.{_≤_}
 use native.Mathlib.Omega.{arith}
 use Rattle.tables.specs.Packed.{unpack}
 use Rattle.copying.proofs.Handed.{Searching, heir-first, heir-none, search-next, search-start}
-use Rattle.copying.proofs.giving.find_heir.Statement.{statement}
-use Rattle.copying.proofs.giving.find_heir.Tie as tie
+use Rattle.copying.proofs.giving.behind_heir.Statement.{statement}
+use Rattle.copying.proofs.giving.behind_heir.Tie as tie
 
 abbrev Inv-loop : tie.InvT-loop
 Inv-loop t f page child c₀ n₀ c n = (n ≤ 8) × Searching (unpack t) f (page .0) child n c
@@ -59,8 +59,8 @@ returns-3 c =
     let a = start l .args in
     heir-none (unpack (a .t .now)) (a .f) (a .page .0) (a .child) (l .loop .n) (l .loop .c) (l .loop .inv .1) (inr (omega arith))
 
-pub find-heir-spec : {M : Type 1} → statement M
-find-heir-spec =
+pub behind-heir-spec : {M : Type 1} → statement M
+behind-heir-spec =
     tie.close
     (tie.spec
     Inv-loop μ-loop loop-holds returns next-sibling-of-requires needs-requires (λ c. omega arith) returns-2
