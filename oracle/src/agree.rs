@@ -1,11 +1,12 @@
 //! Whether tables and pages agree with plain store and tally, as "Demand 3"
-//! compares them.
+//! compares them; and plain store and tally read off tables and pages.
 
 use crate::call::*;
 use crate::judge::Beside;
+use crate::plain::{Plain, PlainSet};
 use crate::state::*;
 use crate::store::read_bytes;
-use crate::tally::{Condition, TallyKind};
+use crate::tally::{Condition, Tally, TallyFile, TallyKind, TallySet};
 
 /// Says the first disagreement. The state is well formed.
 pub fn agree(state: &State, pages: &[u8], beside: &Beside) -> Result<(), String> {
@@ -56,13 +57,13 @@ fn condition(state: FileState) -> Condition {
     }
 }
 
-fn same_kind(kind: Kind, tally: TallyKind) -> bool {
-    matches!(
-        (kind, tally),
-        (Kind::Unmapped, TallyKind::Unmapped)
-            | (Kind::Hole, TallyKind::Hole)
-            | (Kind::Stored, TallyKind::Stored)
-    )
+fn tally_kind(kind: Kind) -> TallyKind {
+    match kind {
+        Kind::Unmapped => TallyKind::Unmapped,
+        Kind::Hole => TallyKind::Hole,
+        Kind::Stored => TallyKind::Stored,
+        Kind::Bad => unreachable!("a well-formed state has no kind 3"),
+    }
 }
 
 /// "which files are present; the size and bytes by reading of those not
@@ -84,7 +85,7 @@ fn agree_file(
         return Err(format!("{place} has size {}, by the tally {}", record.size, tally.size));
     }
     for page in 0..PAGES {
-        if !same_kind(record.entries[page].kind, tally.kinds[page]) {
+        if tally_kind(record.entries[page].kind) != tally.kinds[page] {
             return Err(format!(
                 "{place} page {page} is {:?}, by the tally {:?}",
                 record.entries[page].kind, tally.kinds[page]
@@ -124,4 +125,51 @@ fn agree_bytes(
     let at = (0..size).find(|at| bytes[*at] != list[*at]).expect("some byte differs");
     let (found, wanted) = (bytes[at], list[at]);
     Err(format!("set {set} file {file} byte {at} reads as {found}, by the plain store {wanted}"))
+}
+
+/// Plain store and tally that agree with a well-formed store, whether or not
+/// calls could bring it there. Of a marked file no bytes are compared, so its
+/// list is empty.
+pub fn read_off(state: &State, pages: &[u8]) -> Beside {
+    let plain = (0..SETS).map(|set| state.sets[set].used.then(|| plain_set(state, pages, set)));
+    let tally = (0..SETS).map(|set| state.sets[set].used.then(|| tally_set(state, set)));
+    Beside {
+        plain: Plain { sets: plain.collect() },
+        tally: Tally { free: state.free_blocks(), sets: tally.collect() },
+    }
+}
+
+fn parent(state: &State, set: usize) -> Option<usize> {
+    Some(state.sets[set].parent).filter(|parent| *parent != NONE)
+}
+
+fn plain_set(state: &State, pages: &[u8], set: usize) -> PlainSet {
+    PlainSet {
+        parent: parent(state, set),
+        level: state.sets[set].level,
+        writeable: state.sets[set].writeable,
+        children: state.children(set),
+        files: (0..FILES).map(|file| plain_file(state, pages, set, file)).collect(),
+    }
+}
+
+fn plain_file(state: &State, pages: &[u8], set: usize, file: usize) -> Option<Vec<u8>> {
+    match state.files[set][file].state {
+        FileState::Absent => None,
+        FileState::Marked => Some(Vec::new()),
+        FileState::Own | FileState::Virgin => {
+            let mut bytes = vec![0; state.size_by_reading(set, file)];
+            read_bytes(state, pages, set, file, 0, &mut bytes);
+            Some(bytes)
+        }
+    }
+}
+
+fn tally_set(state: &State, set: usize) -> TallySet {
+    let files = state.files[set].iter().map(|record| TallyFile {
+        condition: condition(record.state),
+        size: record.size,
+        kinds: record.entries.iter().map(|entry| tally_kind(entry.kind)).collect(),
+    });
+    TallySet { parent: parent(state, set), children: state.children(set), files: files.collect() }
 }

@@ -7,7 +7,7 @@ use crate::call::*;
 use crate::check::{check_state, Rule};
 use crate::judge::{format_blocks, Beside};
 use crate::lent::{check_unchanged, Buffer::*, Buffers, Guarded};
-use crate::state::State;
+use crate::state::{Kind, State};
 use crate::store;
 use std::collections::BTreeMap;
 use std::time::{Duration, Instant};
@@ -46,6 +46,9 @@ pub struct Counts {
     pub numbers: [u64; NUMBERS],
     pub copies: u64,
     pub files_marked: u64,
+    /// Blocks that deletes and truncates handed over, and calls that did so.
+    pub handed_over: u64,
+    pub handing_calls: u64,
     /// Reads whose second count was, and was not, the oracle's.
     pub maps_same: u64,
     pub maps_differ: u64,
@@ -116,7 +119,7 @@ impl Bench {
         let before = self.buffers_of(call);
         let mut after = before.clone();
         let answer = store::run(call.index(), &call.numbers(), after.lend());
-        self.count(call, &answer);
+        self.count(call, &answer, &before, &after);
         check_unchanged(call.row(), &answer, &before, &after)?;
         self.compare_other(call, &answer, &before, &mut after, other)?;
         self.compare_beside(call, &answer, &before, &after)?;
@@ -146,12 +149,20 @@ impl Bench {
         }
     }
 
-    fn count(&mut self, call: &Call, answer: &Answer) {
+    fn count(&mut self, call: &Call, answer: &Answer, before: &Buffers, after: &Buffers) {
         self.counts.calls[call.index()] += 1;
         self.counts.numbers[answer.number as usize] += 1;
         if matches!(call, Call::Write { .. } | Call::Truncate { .. } | Call::Delete { .. }) {
             self.counts.copies += u64::from(answer.second);
             self.counts.files_marked += u64::from(answer.third);
+        }
+        if let (Call::Truncate { set, file, .. } | Call::Delete { set, file }, 0) =
+            (call, answer.number)
+        {
+            let (before, after) = (State::unpack(&before[Tables]), State::unpack(&after[Tables]));
+            let handed = handed_over(&before, &after, *set as usize, *file as usize);
+            self.counts.handed_over += handed.len() as u64;
+            self.counts.handing_calls += u64::from(!handed.is_empty());
         }
     }
 
@@ -234,6 +245,28 @@ impl Bench {
             Err(format!("the answer is {found}; the oracle's is {answer}"))
         }
     }
+}
+
+/// A page whose block a child took over.
+#[derive(Clone, Copy, PartialEq, Eq, Debug)]
+pub struct Handed {
+    pub page: usize,
+    pub block: usize,
+    pub heir: usize,
+}
+
+/// The blocks handed over by a call on this file, as the tables show it: before
+/// they stand in its own map, afterwards in a child's.
+pub fn handed_over(before: &State, after: &State, set: usize, file: usize) -> Vec<Handed> {
+    let mut list = Vec::new();
+    for (page, entry) in before.files[set][file].entries.iter().enumerate() {
+        for heir in before.children(set) {
+            if entry.kind == Kind::Stored && after.files[heir][file].entries[page] == *entry {
+                list.push(Handed { page, block: entry.block, heir });
+            }
+        }
+    }
+    list
 }
 
 /// Pages read x (level + 1).

@@ -19,18 +19,25 @@ pub struct Style {
     pub pages: Vec<usize>,
     /// Percent of sets made from the deepest set.
     pub deep: usize,
+    /// Percent of the others made from a set with stored pages, so that there
+    /// are children that need them.
+    pub wide: usize,
     /// Percent of arguments out of range.
     pub wild: usize,
     /// How often each call of `CALL_NAMES` comes.
     pub weights: [usize; CALLS],
     /// Percent of writes of several pages.
     pub long: usize,
+    /// Percent of writes that leave no block free, or only one or two.
+    pub filling: usize,
 }
 
 /// Calls that begin a history, and the style of those that follow.
 pub struct Start {
     pub style: Style,
     pub calls: Vec<Call>,
+    /// Then calls that drop pages of a family, if one was made.
+    pub drops: Vec<Call>,
 }
 
 /// A store's size: mostly 1 to 12 blocks, sometimes 64, seldom 4,096.
@@ -51,26 +58,221 @@ fn style(rng: &mut Rng, block_count: usize) -> Style {
         [1, 40, 160, 40, 120, 50, 90, 40, 10, 10],
         [2, 30, 150, 60, 60, 30, 200, 60, 20, 10],
         [0, 60, 250, 20, 60, 70, 80, 20, 5, 5],
+        [0, 70, 140, 10, 100, 100, 120, 20, 5, 5],
     ]);
     Style {
         block_count,
         files: (0..fond_files).map(|_| rng.below(FILES) as u32).collect(),
         pages: (0..fond_pages).map(|_| rng.pick(&[0, 0, 0, 1, 1, 2, 3, 31, 62, 63])).collect(),
-        deep: rng.pick(&[0, 30, 60, 90]),
+        deep: rng.pick(&[0, 10, 30, 60, 90]),
+        wide: rng.pick(&[0, 50, 80]),
         wild: rng.pick(&[0, 2, 5, 12]),
         weights,
         long: rng.pick(&[5, 20, 60]),
+        filling: rng.pick(&[0, 0, 5, 20]),
     }
 }
 
-/// A format and, in larger stores, often calls that fill them nearly.
+/// A format, and often calls that make a family (see `family_calls` and
+/// `short_calls`) or, in larger stores, calls that fill them nearly.
 pub fn start(rng: &mut Rng, block_count: usize) -> Start {
     let style = style(rng, block_count);
+    let (more, drops) = match rng.below(100) {
+        0..=42 if block_count <= 64 => family_calls(rng, &style),
+        43..=64 if block_count <= 64 => short_calls(rng, &style),
+        _ if block_count > 12 && rng.percent(75) => (fill_calls(rng, block_count), Vec::new()),
+        _ => (Vec::new(), Vec::new()),
+    };
     let mut calls = vec![Call::Format { pages_length: block_count * PAGE_BYTES }];
-    if block_count > 12 && rng.percent(75) {
-        calls.extend(fill_calls(rng, block_count));
+    calls.extend(more);
+    Start { style, calls, drops }
+}
+
+/// Calls in the making, all of them accepted.
+struct Scene {
+    beside: Beside,
+    calls: Vec<Call>,
+    file: u32,
+    /// The pages written, ascending.
+    pages: Vec<usize>,
+    /// Numbers of sets not made yet.
+    unused: Vec<u32>,
+}
+
+impl Scene {
+    fn new(rng: &mut Rng, style: &Style) -> Scene {
+        let first = rng.pick(&style.pages).min(PAGES - 4);
+        let mut pages: Vec<usize> = (first..first + 4).filter(|_| rng.percent(60)).collect();
+        pages.push(first + rng.below(4));
+        pages.sort();
+        let mut unused: Vec<u32> = (1..SETS as u32).collect();
+        rng.shuffle(&mut unused);
+        Scene {
+            beside: Beside::format(style.block_count),
+            calls: Vec::new(),
+            file: rng.pick(&style.files),
+            pages,
+            unused,
+        }
     }
-    Start { style, calls }
+
+    /// Adds a call if it is accepted.
+    fn add(&mut self, call: Call) {
+        if self.beside.step(&call).0.number == 0 {
+            self.calls.push(call);
+        }
+    }
+
+    /// The start of one of the pages, often of the first.
+    fn start_of_a_page(&self, rng: &mut Rng) -> u32 {
+        let page = if rng.percent(40) { self.pages[0] } else { rng.pick(&self.pages) };
+        (page * PAGE_BYTES) as u32
+    }
+
+    fn write_a_page(&mut self, rng: &mut Rng, set: u32) {
+        let start = self.start_of_a_page(rng);
+        self.write(rng, set, start);
+    }
+
+    /// Writes the page that starts here, mostly whole.
+    fn write(&mut self, rng: &mut Rng, set: u32, start: u32) {
+        let (within, length) = rng.pick(&[(0, 512), (0, 512), (0, 100), (100, 412), (511, 1)]);
+        let seed = data_seed(rng);
+        self.add(Call::Write { set, file: self.file, offset: start + within, length, seed });
+    }
+
+    fn make(&mut self, parent: u32, writeable: u32) -> Option<u32> {
+        let set = self.unused.pop()?;
+        self.add(Call::Make { parent, set, writeable });
+        Some(set)
+    }
+}
+
+/// Calls that make a family: a file with stored pages in set 0 or in the middle
+/// of the tree, up to seven children of its set that need them, each with a
+/// life of its own, and few blocks free. Then calls that cut or delete this
+/// file, so that its blocks are handed over, and perhaps some other files of
+/// its number.
+fn family_calls(rng: &mut Rng, style: &Style) -> (Vec<Call>, Vec<Call>) {
+    let mut scene = Scene::new(rng, style);
+    let set = make_ancestors(rng, &mut scene);
+    make_children(rng, &mut scene, set);
+    let leave = rng.pick(&[0, 0, 0, 1, 2, 3, 6, 12, 24]);
+    fill_up(rng, &mut scene, leave);
+    let calls = std::mem::take(&mut scene.calls);
+    drop_pages(rng, &mut scene, set);
+    for _ in 0..rng.below(3) {
+        let set = rng.pick(&used_sets(&scene.beside));
+        drop_pages(rng, &mut scene, set);
+    }
+    (calls, scene.calls)
+}
+
+/// Deletes the file of a set or cuts it, often inside one of its pages.
+fn drop_pages(rng: &mut Rng, scene: &mut Scene, set: u32) {
+    let file = scene.file;
+    if rng.percent(50) {
+        scene.add(Call::Delete { set, file });
+    } else {
+        let size = scene.start_of_a_page(rng) + rng.pick(&[0, 0, 1, 100, 511]);
+        scene.add(Call::Truncate { set, file, size });
+    }
+}
+
+/// Sets from set 0 down, each page of the file written in one of them or in
+/// two; gives the last one.
+fn make_ancestors(rng: &mut Rng, scene: &mut Scene) -> u32 {
+    let depth = rng.pick(&[0, 0, 0, 1, 1, 2, 3]);
+    let levels: Vec<usize> = scene.pages.iter().map(|_| rng.between(0, depth)).collect();
+    let mut set = 0;
+    scene.add(Call::Create { set, file: scene.file });
+    for level in 0..=depth {
+        if level > 0 {
+            set = scene.make(set, 1).expect("an unused number");
+        }
+        for (page, its_level) in scene.pages.clone().into_iter().zip(&levels) {
+            if *its_level == level || rng.percent(15) {
+                scene.write(rng, set, (page * PAGE_BYTES) as u32);
+            }
+        }
+    }
+    scene.write_a_page(rng, set);
+    set
+}
+
+/// Children of the set: some read-only, some with pages of their own, with a
+/// file deleted or with children; and pages written in the set meanwhile.
+fn make_children(rng: &mut Rng, scene: &mut Scene, set: u32) {
+    let mut made = Vec::new();
+    for _ in 0..rng.pick(&[2, 2, 3, 3, 4, 5, 6, 7, 7, 7]) {
+        made.extend(scene.make(set, rng.pick(&[0, 1, 1])));
+        if rng.percent(15) {
+            scene.write_a_page(rng, set);
+        }
+    }
+    for child in made {
+        match rng.below(10) {
+            0..=3 => scene.write_a_page(rng, child),
+            4 => scene.add(Call::Delete { set: child, file: scene.file }),
+            5 | 6 => drop(scene.make(child, rng.pick(&[0, 1]))),
+            _ => {}
+        }
+    }
+}
+
+/// Another file of set 0 takes all free blocks but so many.
+fn fill_up(rng: &mut Rng, scene: &mut Scene, leave: usize) {
+    let file = (scene.file + 1) % FILES as u32;
+    let pages = scene.beside.tally.free.saturating_sub(leave).min(PAGES);
+    let (length, seed) = (pages * PAGE_BYTES, data_seed(rng));
+    scene.add(Call::Create { set: 0, file });
+    scene.add(Call::Write { set: 0, file, offset: 0, length, seed });
+}
+
+/// Calls that make a family short of blocks: children that lack one page, then
+/// one that has it, and all lack a later page. Then a call that cuts the file
+/// inside the first page, or, if it reads that page through its parent, deletes
+/// it: the first children are marked, and the block of the later page passes
+/// them over.
+fn short_calls(rng: &mut Rng, style: &Style) -> (Vec<Call>, Vec<Call>) {
+    let mut scene = Scene::new(rng, style);
+    let file = scene.file;
+    let start = (scene.pages[0] * PAGE_BYTES) as u32;
+    let reads_through = rng.percent(50);
+    let set = make_short_parent(rng, &mut scene, start, reads_through);
+    for _ in 0..rng.between(1, 3) {
+        scene.make(set, rng.pick(&[0, 1]));
+    }
+    let able = scene.make(set, 1).expect("an unused number");
+    scene.write(rng, able, start);
+    for _ in 0..rng.below(3) {
+        scene.make(set, rng.pick(&[0, 1]));
+    }
+    let leave = rng.pick(&[0, 0, 0, 1]);
+    fill_up(rng, &mut scene, leave);
+    let size = start + rng.pick(&[1, 100, 511]);
+    let drop = match reads_through {
+        true => Call::Delete { set, file },
+        false => Call::Truncate { set, file, size },
+    };
+    (scene.calls, vec![drop])
+}
+
+/// A set whose file has a later page stored, and the page that starts here
+/// stored too or read through the parent.
+fn make_short_parent(rng: &mut Rng, scene: &mut Scene, start: u32, reads_through: bool) -> u32 {
+    let mut set = 0;
+    scene.add(Call::Create { set, file: scene.file });
+    scene.write(rng, set, start);
+    if reads_through || rng.percent(20) {
+        set = scene.make(set, 1).expect("an unused number");
+    }
+    if !reads_through {
+        scene.write(rng, set, start);
+    }
+    let later = start + rng.pick(&[512, 512, 1_024]);
+    scene.write(rng, set, later);
+    set
 }
 
 /// Calls that leave few blocks free: full files, in set 0 and in sets made
@@ -150,28 +352,36 @@ fn any_file(rng: &mut Rng, style: &Style) -> u32 {
     }
 }
 
-/// The pages stored in a file's own map that a child needs: changing them
-/// takes copies, or marks.
+/// The pages stored in a file's own map.
+fn stored_pages(beside: &Beside, set: u32, file: u32) -> Vec<usize> {
+    let kinds = &beside.tally.file(set as usize, file as usize).kinds;
+    (0..PAGES).filter(|page| kinds[*page] == TallyKind::Stored).collect()
+}
+
+/// Those of them that a child needs: changing them takes copies, or marks, and
+/// dropping them hands them over.
 fn needed_pages(beside: &Beside, set: u32, file: u32) -> Vec<usize> {
     let tally = &beside.tally;
-    let kinds = &tally.file(set as usize, file as usize).kinds;
     let children = &tally.set(set as usize).children;
     let needs = |child: usize, page: usize| {
         let record = tally.file(child, file as usize);
         matches!(record.condition, Condition::Own | Condition::Virgin)
             && record.kinds[page] == TallyKind::Unmapped
     };
-    (0..PAGES)
-        .filter(|page| kinds[*page] == TallyKind::Stored)
+    stored_pages(beside, set, file)
+        .into_iter()
         .filter(|page| children.iter().any(|child| needs(*child, *page)))
         .collect()
 }
 
 /// A set and a file of it: mostly one that the call can work on, often one
-/// whose children need its pages.
-fn target(rng: &mut Rng, style: &Style, beside: &Beside) -> (u32, u32) {
+/// whose children need its pages, and for a truncate or delete sometimes one
+/// that has outlived its parent's.
+fn target(rng: &mut Rng, style: &Style, beside: &Beside, drops: bool) -> (u32, u32) {
     let mut list = if rng.percent(85) { changeable_files(beside) } else { present_files(beside) };
-    if rng.percent(50) {
+    if drops && rng.percent(15) {
+        prefer(&mut list, |(set, file)| has_outlived_its_parents(beside, set, file));
+    } else if rng.percent(if drops { 65 } else { 50 }) {
         prefer(&mut list, |(set, file)| !needed_pages(beside, set, file).is_empty());
     }
     if rng.percent(85) {
@@ -181,6 +391,15 @@ fn target(rng: &mut Rng, style: &Style, beside: &Beside) -> (u32, u32) {
         Some(target) if !rng.percent(style.wild) => target,
         _ => (any_set(rng, style, beside), any_file(rng, style)),
     }
+}
+
+/// A file with stored pages whose parent's file is absent: it may have got them
+/// when that one was deleted.
+fn has_outlived_its_parents(beside: &Beside, set: u32, file: u32) -> bool {
+    let tally = &beside.tally;
+    let parent = tally.set(set as usize).parent;
+    !stored_pages(beside, set, file).is_empty()
+        && parent.is_some_and(|p| tally.file(p, file as usize).condition == Condition::Absent)
 }
 
 /// Keeps those for which the condition holds, if there are any.
@@ -268,30 +487,57 @@ pub fn call_of(rng: &mut Rng, style: &Style, beside: &Beside, index: usize) -> C
         6 => make_call(rng, style, beside),
         7 => remove_call(rng, style, beside),
         9 => Call::Free {},
-        _ => {
-            let (set, file) = target(rng, style, beside);
-            let size = size_of(beside, set, file);
-            let mut offset = place(rng, style, size);
-            if let Some(page) = stored_page(rng, beside, set, file) {
-                offset = (page * PAGE_BYTES + rng.pick(&[0, 0, 1, 300, 511])) as u32;
-            }
-            file_call(rng, style, index, (set, file), offset, size)
+        2 if rng.percent(style.filling) => {
+            filling_write(rng, beside).unwrap_or_else(|| call_of_file(rng, style, beside, index))
         }
+        _ => call_of_file(rng, style, beside, index),
     }
 }
 
-/// Sometimes a page stored in the file's own map, if it has one: a write
-/// there needs no own block, but its children may need copies.
-fn stored_page(rng: &mut Rng, beside: &Beside, set: u32, file: u32) -> Option<usize> {
-    if size_of(beside, set, file) == 0 || !rng.percent(45) {
+/// A random call of this kind on a file that there is, mostly.
+fn call_of_file(rng: &mut Rng, style: &Style, beside: &Beside, index: usize) -> Call {
+    let drops = index == 4 || index == 5;
+    let (set, file) = target(rng, style, beside, drops);
+    let size = size_of(beside, set, file);
+    let mut offset = place(rng, style, size);
+    if let Some(page) = stored_page(rng, beside, set, file, drops) {
+        offset = (page * PAGE_BYTES + rng.pick(&[0, 0, 1, 300, 511])) as u32;
+    }
+    file_call(rng, style, index, (set, file), offset, size)
+}
+
+/// A write of whole pages not stored in the file's map that takes all free
+/// blocks, or all but one or two.
+fn filling_write(rng: &mut Rng, beside: &Beside) -> Option<Call> {
+    let free = beside.tally.free;
+    let pages = free.saturating_sub(rng.pick(&[0, 0, 0, 1, 2]));
+    if pages == 0 || pages > PAGES {
         return None;
     }
-    if let Some(page) = rng.pick_any(&needed_pages(beside, set, file)) {
-        return Some(page);
-    }
+    let (set, file) = rng.pick_any(&changeable_files(beside))?;
     let kinds = &beside.tally.file(set as usize, file as usize).kinds;
-    let stored: Vec<usize> = (0..PAGES).filter(|page| kinds[*page] == TallyKind::Stored).collect();
-    rng.pick_any(&stored)
+    let places: Vec<usize> = (0..=PAGES - pages)
+        .filter(|first| !kinds[*first..first + pages].contains(&TallyKind::Stored))
+        .collect();
+    // Mostly near the front, so that later writes meet these pages.
+    let place = if rng.percent(70) { *places.first()? } else { rng.pick_any(&places)? };
+    let (offset, length) = ((place * PAGE_BYTES) as u32, pages * PAGE_BYTES);
+    Some(Call::Write { set, file, offset, length, seed: data_seed(rng) })
+}
+
+/// Sometimes a page stored in the file's own map, if it has one: a write
+/// there needs no own block, but its children may need copies. For a truncate
+/// it is often the first, so that the others are dropped.
+fn stored_page(rng: &mut Rng, beside: &Beside, set: u32, file: u32, drops: bool) -> Option<usize> {
+    if size_of(beside, set, file) == 0 || !rng.percent(if drops { 70 } else { 45 }) {
+        return None;
+    }
+    let stored = stored_pages(beside, set, file);
+    if drops && rng.percent(50) {
+        return stored.first().copied();
+    }
+    let needed = rng.pick_any(&needed_pages(beside, set, file));
+    needed.or_else(|| rng.pick_any(&stored))
 }
 
 fn file_call(
@@ -312,7 +558,7 @@ fn file_call(
             Call::Read { set, file, offset, length }
         }
         4 => {
-            let size = if rng.percent(40) { shorter(rng, size) } else { offset };
+            let size = if rng.percent(30) { shorter(rng, size) } else { offset };
             Call::Truncate { set, file, size }
         }
         5 => Call::Delete { set, file },
@@ -342,7 +588,19 @@ fn make_call(rng: &mut Rng, style: &Style, beside: &Beside) -> Call {
         .into_iter()
         .max_by_key(|set| beside.plain.set(*set as usize).level)
         .unwrap_or(0);
-    let parent = if rng.percent(style.deep) { deepest } else { any_set(rng, style, beside) };
+    let with_stored: Vec<u32> = changeable_files(beside)
+        .into_iter()
+        .filter(|(set, file)| !stored_pages(beside, *set, *file).is_empty())
+        .map(|(set, _)| set)
+        .collect();
+    let parent = if rng.percent(style.deep) {
+        deepest
+    } else {
+        match rng.pick_any(&with_stored) {
+            Some(set) if rng.percent(style.wide) => set,
+            _ => any_set(rng, style, beside),
+        }
+    };
     let unused: Vec<u32> =
         (0..SETS as u32).filter(|set| beside.plain.sets[*set as usize].is_none()).collect();
     let set = match rng.pick_any(&unused) {
@@ -378,8 +636,19 @@ pub struct Made {
 /// A random well-formed state, made by a random history from format on.
 pub fn made(rng: &mut Rng) -> Made {
     let blocks = block_count(rng);
-    let length = rng.between(10, 90);
+    let length = made_length(rng);
     made_of(rng, blocks, length)
+}
+
+const FEW_CALLS: usize = 4;
+
+/// How many calls follow those that begin a history: sometimes few.
+pub fn made_length(rng: &mut Rng) -> usize {
+    if rng.percent(50) {
+        rng.below(FEW_CALLS + 1)
+    } else {
+        rng.between(10, 90)
+    }
 }
 
 /// A random well-formed state of this many blocks, after this many calls.
@@ -397,6 +666,10 @@ pub fn made_of(rng: &mut Rng, block_count: usize, length: usize) -> Made {
         made.style.weights[index] = 0;
     }
     for call in start.calls {
+        made.run(call);
+    }
+    // A few calls leave a family as it was made.
+    for call in start.drops.into_iter().filter(|_| length > FEW_CALLS) {
         made.run(call);
     }
     for _ in 0..length {
@@ -426,10 +699,11 @@ impl Made {
 
 /// Changes a well-formed store in ways that keep it well formed, whether or
 /// not calls could bring it there: other page bytes and next starts, marked
-/// files with any map and size, other kinds, sizes and writeabilities.
+/// files with any map and size, other states, kinds, sizes and writeabilities,
+/// further sets, blocks moved and taken.
 pub fn twist(rng: &mut Rng, tables: &mut [u8], pages: &mut [u8]) {
     let mut state = State::unpack(tables);
-    for _ in 0..rng.between(1, 12) {
+    for _ in 0..rng.pick(&[1, 2, 3, 5, 8, 12]) {
         let mut changed = state.clone();
         if twist_once(rng, &mut changed).is_some() && check_state(&changed, pages.len()).is_empty()
         {
@@ -445,8 +719,7 @@ pub fn twist(rng: &mut Rng, tables: &mut [u8], pages: &mut [u8]) {
 
 fn twist_once(rng: &mut Rng, state: &mut State) -> Option<()> {
     let present = files(state, |_, record| record.is_present());
-    let page = rng.below(PAGES);
-    match rng.below(8) {
+    match rng.below(14) {
         0 => state.next_start = rng.below(state.block_count),
         1 => {
             let set = rng.pick_any(&sets(state, |set, record| set != 0 && record.used))?;
@@ -467,18 +740,92 @@ fn twist_once(rng: &mut Rng, state: &mut State) -> Option<()> {
             let (set, file) = rng.pick_any(&marked)?;
             state.files[set][file].state = FileState::Own;
         }
-        _ => {
+        5 => {
+            // A file becomes virgin.
             let (set, file) = rng.pick_any(&present)?;
-            let old = state.files[set][file].entries[page];
+            state.drop_file(set, file);
+            state.files[set][file].state = FileState::Virgin;
+        }
+        6 => twist_new_set(rng, state)?,
+        7 => twist_fill(rng, state)?,
+        8 => twist_swap(rng, state)?,
+        _ => {
+            let place = twisted_place(rng, state)?;
+            let old = *entry_at(state, place);
             state.free_entry(old);
-            let block = free_block(rng, state)?;
-            let new = rng.pick(&[UNMAPPED, HOLE, stored(block)]);
+            let block = free_block(rng, state);
+            let new = rng.pick(&[UNMAPPED, HOLE, block.map_or(UNMAPPED, stored)]);
             if new.kind == Kind::Stored {
-                state.bits[block] = true;
+                state.bits[new.block] = true;
             }
-            state.files[set][file].entries[page] = new;
+            *entry_at(state, place) = new;
         }
     }
+    Some(())
+}
+
+/// An entry of a present file, mostly at a page that some file has stored.
+fn twisted_place(rng: &mut Rng, state: &State) -> Option<Place> {
+    let present = files(state, |_, record| record.is_present());
+    let (set, file) = rng.pick_any(&present)?;
+    let page = match rng.pick_any(&stored_entries(state)) {
+        Some((_, _, page)) if rng.percent(70) => page,
+        _ => rng.below(PAGES),
+    };
+    Some((set, file, page))
+}
+
+/// A set is made from another; some of its files may be absent.
+fn twist_new_set(rng: &mut Rng, state: &mut State) -> Option<()> {
+    let set = rng.pick_any(&sets(state, |_, record| !record.used))?;
+    // Mostly from a set with stored pages: the new set then needs them.
+    let mut list: Vec<usize> = stored_entries(state).iter().map(|place| place.0).collect();
+    if list.is_empty() || rng.percent(40) {
+        list = sets(state, |_, record| record.used);
+    }
+    let parent = rng.pick(&list);
+    add_child(state, parent, set);
+    state.sets[set].writeable = rng.percent(50);
+    for file in 0..FILES {
+        let made = match state.files[parent][file].state {
+            FileState::Own | FileState::Virgin => FileState::Virgin,
+            other => other,
+        };
+        if rng.percent(90) {
+            state.files[set][file].state = made;
+        }
+    }
+    Some(())
+}
+
+/// Entries of own and marked files take up to twelve free blocks, as far as the
+/// state stays well formed.
+fn twist_fill(rng: &mut Rng, state: &mut State) -> Option<()> {
+    let pages_length = state.block_count * PAGE_BYTES;
+    for _ in 0..12 {
+        let block = free_block(rng, state)?;
+        let list = entries(state, |record, page| {
+            let own = record.state == FileState::Own && page * PAGE_BYTES < record.size;
+            (own || record.state == FileState::Marked) && record.entries[page].kind != Kind::Stored
+        });
+        let mut filled = state.clone();
+        *entry_at(&mut filled, rng.pick_any(&list)?) = stored(block);
+        filled.bits[block] = true;
+        if check_state(&filled, pages_length).is_empty() {
+            *state = filled;
+        }
+    }
+    Some(())
+}
+
+/// A page's entries in a set and in its parent change places.
+fn twist_swap(rng: &mut Rng, state: &mut State) -> Option<()> {
+    let list: Vec<Place> = stored_entries(state).into_iter().filter(|place| place.0 != 0).collect();
+    let (set, file, page) = rng.pick_any(&list)?;
+    let above = (state.sets[set].parent, file, page);
+    let (entry, other) = (*entry_at(state, (set, file, page)), *entry_at(state, above));
+    *entry_at(state, (set, file, page)) = other;
+    *entry_at(state, above) = entry;
     Some(())
 }
 

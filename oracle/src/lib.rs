@@ -1,10 +1,10 @@
-//! A second implementation of the sweep store, written from document 01, Ask 1
-//! of document 02 and their readings (docs/DECISIONS.md) alone. Clarity goes
-//! before speed: each call unpacks the tables to a plain state, does the
+//! A second implementation of the sweep store, written from document 01, Asks 1
+//! and 2 of document 02 and their readings (docs/DECISIONS.md) alone. Clarity
+//! goes before speed: each call unpacks the tables to a plain state, does the
 //! paper's steps, and packs.
 //!
-//! The words are those of document 01: set, file, page, block, own, virgin,
-//! marked, hole, stored, unmapped, next start, needs.
+//! The words are those of the documents: set, file, page, block, own, virgin,
+//! marked, hole, stored, unmapped, next start, needs, hand over.
 
 // The remainder is what document 01 speaks of.
 #![allow(clippy::manual_is_multiple_of)]

@@ -119,4 +119,5 @@ fn show_counts(counts: &Counts) {
         println!("number {number} {calls}");
     }
     println!("copies {}, files marked {}", counts.copies, counts.files_marked);
+    println!("blocks handed over {} in {} calls", counts.handed_over, counts.handing_calls);
 }

@@ -77,6 +77,7 @@ impl State {
     /// bytes."
     pub fn free_entry(&mut self, entry: Entry) {
         if entry.kind == Kind::Stored {
+            assert!(self.bits[entry.block], "block {} is free already", entry.block);
             self.bits[entry.block] = false;
         }
     }
@@ -134,26 +135,47 @@ impl State {
         self.virgin_children_to_own(set, file);
     }
 
+    /// Whether a page is stored in this file's own map.
+    pub fn is_stored(&self, set: usize, file: usize, page: usize) -> bool {
+        self.files[set][file].entries[page].kind == Kind::Stored
+    }
+
     /// Step 4: "For each touched page ascending, for each child in order of
-    /// making that needs it". Gives copies made and files newly marked.
+    /// making that needs it". `dropped` are those of the touched pages that
+    /// the call drops whole. Gives copies made and files newly marked.
     pub fn step_4(
         &mut self,
         pages: &mut [u8],
         set: usize,
         file: usize,
         touched: &[usize],
+        dropped: &[usize],
     ) -> (u32, u32) {
         let (mut copies, mut marked) = (0, 0);
         for &page in touched {
+            // Looked up once for all children: handing the block over takes it
+            // out of this file's map, and the later children still copy it.
+            let resolved = self.resolve(set, file, page);
             for child in self.children(set) {
                 if !self.needs(child, file, page) {
                     continue;
                 }
-                match self.resolve(set, file, page) {
+                match resolved {
                     // "a page resolving to a hole becomes a hole there"
                     Resolved::Hole => self.files[child][file].entries[page] = HOLE,
+                    // Document 02: "When delete, or truncate dropping a whole
+                    // page, reaches a page stored in the file's own map, the
+                    // first child that needs it takes over the block itself."
+                    Resolved::Stored(_)
+                        if dropped.contains(&page) && self.is_stored(set, file, page) =>
+                    {
+                        self.hand_over(set, child, file, page)
+                    }
                     // "One resolving to stored is copied to a block taken;
-                    // with none free, the child's file is marked."
+                    // with none free, the child's file is marked." Document
+                    // 02: "Other children needing it still get copies. Pages
+                    // that the file only reads through its parent are copied
+                    // as before, and so is the part page of a truncate."
                     Resolved::Stored(source) => match self.take_block() {
                         Some(block) => {
                             copy_block(pages, source, block);
@@ -166,6 +188,14 @@ impl State {
             }
         }
         (copies, marked)
+    }
+
+    /// Gives a child the block of a page. The block leaves this file's map at
+    /// once. Document 02: "A block handed over counts as no copy, and the
+    /// delete or truncate itself does not free it."
+    fn hand_over(&mut self, set: usize, child: usize, file: usize, page: usize) {
+        self.files[child][file].entries[page] = self.files[set][file].entries[page];
+        self.files[set][file].entries[page] = HOLE;
     }
 }
 

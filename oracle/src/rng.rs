@@ -37,6 +37,14 @@ impl Rng {
         list[self.below(list.len())].clone()
     }
 
+    /// Puts a list in a random order.
+    pub fn shuffle<T>(&mut self, list: &mut [T]) {
+        for place in 0..list.len() {
+            let other = place + self.below(list.len() - place);
+            list.swap(place, other);
+        }
+    }
+
     /// One of the list, or none of an empty one.
     pub fn pick_any<T: Clone>(&mut self, list: &[T]) -> Option<T> {
         if list.is_empty() {

@@ -1,4 +1,5 @@
-//! Rows M1 to M12 of document 01, each done on a store of its own.
+//! Rows M1 to M12 of document 01, each done on a store of its own. Document 02:
+//! "M11 becomes 0; 0, 0, 0 and M12 becomes 0; 0, 0, 0 with no block free."
 
 use crate::call::*;
 use crate::store;
@@ -159,13 +160,13 @@ pub fn rows() -> Vec<Row> {
         row(
             "M11",
             "1,024 bytes stored, virgin child, room, truncate to 512",
-            "0; 0, 1, 0",
+            "0; 0, 0, 0",
             row_11().to_string(),
         ),
         row(
             "M12",
             "B = 2 full with one file, set 1 made, delete in set 0",
-            "0; 0, 0, 1, then 2 free",
+            "0; 0, 0, 0, then 0 free",
             row_12(),
         ),
     ]

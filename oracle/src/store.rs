@@ -232,14 +232,15 @@ fn try_write(
 
     // Step 1: "Own need is the touched pages not stored in this file's map."
     let own_pages: Vec<usize> =
-        touched.iter().copied().filter(|page| !is_stored(&state, set, file, *page)).collect();
+        touched.iter().copied().filter(|page| !state.is_stored(set, file, *page)).collect();
     room_for(&state, own_pages.len())?;
     state.step_2(set, file);
     // Step 3: "Own blocks are taken, pages ascending; they enter the map in
     // step 5."
     let own: Vec<(usize, usize)> =
         own_pages.iter().map(|page| (*page, take_own(&mut state))).collect();
-    let (copies, marked) = state.step_4(pages, set, file, &touched);
+    // A write drops no page.
+    let (copies, marked) = state.step_4(pages, set, file, &touched, &[]);
     // Step 5: "Old bytes are carried to own pages, new bytes laid over, size
     // raised to the write's end if larger."
     for (page, block) in &own {
@@ -250,10 +251,6 @@ fn try_write(
     record.size = record.size.max(end);
     state.pack(tables);
     Ok([own.len() as u32, copies, marked])
-}
-
-fn is_stored(state: &State, set: usize, file: usize, page: usize) -> bool {
-    state.files[set][file].entries[page].kind == Kind::Stored
 }
 
 /// Takes an own block; step 1 has seen to it that there is one.
@@ -384,26 +381,30 @@ fn truncate_below(
     // stored but is not stored in this map, else 0."
     let needs_own = has_part_page
         && state.resolve(set, file, first) != Resolved::Hole
-        && !is_stored(state, set, file, first);
+        && !state.is_stored(set, file, first);
+    // "All other touched pages become holes in this map": the call drops them
+    // whole, the old last page too, wherever in it the size ends.
+    let dropped: Vec<usize> =
+        touched.iter().copied().filter(|page| !(has_part_page && *page == first)).collect();
     // "Steps 1 to 4 follow."
     room_for(state, usize::from(needs_own))?;
     state.step_2(set, file);
     let own_block = needs_own.then(|| take_own(state));
-    let (copies, marked) = state.step_4(pages, set, file, &touched);
+    let (copies, marked) = state.step_4(pages, set, file, &touched, &dropped);
     // "An own block gets the old bytes and enters the map."
     if let Some(block) = own_block {
         enter_own_block(state, pages, set, file, first, block);
     }
-    for &page in &touched {
-        if has_part_page && page == first {
-            zero_from(state, pages, set, file, new_size);
-        } else {
-            // "All other touched pages become holes in this map, their blocks
-            // free."
-            let entry = state.files[set][file].entries[page];
-            state.free_entry(entry);
-            state.files[set][file].entries[page] = HOLE;
-        }
+    if has_part_page {
+        zero_from(state, pages, set, file, new_size);
+    }
+    // "All other touched pages become holes in this map, their blocks free."
+    // Document 02, of a block handed over: "the delete or truncate itself does
+    // not free it"; it is in this map no longer.
+    for page in dropped {
+        let entry = state.files[set][file].entries[page];
+        state.free_entry(entry);
+        state.files[set][file].entries[page] = HOLE;
     }
     Ok([u32::from(needs_own), copies, marked])
 }
@@ -430,8 +431,10 @@ fn try_delete(tables: &mut [u8], pages: &mut [u8], set: u32, file: u32) -> Outco
     if state.files[set][file].state != FileState::Marked {
         state.virgin_children_to_own(set, file);
         let all_pages: Vec<usize> = (0..PAGES).collect();
-        (copies, marked) = state.step_4(pages, set, file, &all_pages);
+        // Delete drops every page whole.
+        (copies, marked) = state.step_4(pages, set, file, &all_pages, &all_pages);
     }
+    // The blocks that are still in the map: those handed over are not.
     state.drop_file(set, file);
     state.pack(tables);
     Ok([0, copies, marked])

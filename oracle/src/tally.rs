@@ -63,11 +63,15 @@ pub struct Tally {
     pub sets: Vec<Option<TallySet>>,
 }
 
-/// Needed copies made and files newly marked by one call.
+/// What the children got in one call.
 #[derive(Default)]
 struct Given {
+    /// Needed copies made.
     copies: u32,
+    /// Files newly marked.
     marked: u32,
+    /// Blocks inherited: the call frees so many fewer.
+    inherited: usize,
 }
 
 impl Tally {
@@ -162,31 +166,61 @@ impl Tally {
 
     // Step 4 and marking.
 
-    /// "A needed copy is step 4's, of a needed page resolving to stored; it
-    /// finds none free if, at its turn, no block is free, own blocks and that
-    /// call's earlier copies being taken."
-    fn give_to_children(&mut self, set: usize, file: usize, touched: &[usize]) -> Given {
+    /// The children whose file waits for a page: it lives and is unmapped
+    /// there. In order of making.
+    fn waiting(&self, set: usize, file: usize, page: usize) -> Vec<usize> {
+        let waits = |child: &usize| {
+            let record = self.file(*child, file);
+            record.lives() && record.kinds[page] == Unmapped
+        };
+        self.set(set).children.iter().copied().filter(waits).collect()
+    }
+
+    /// Step 4. Of the touched pages, those from `first_dropped` on are dropped
+    /// whole.
+    fn give_to_children(
+        &mut self,
+        set: usize,
+        file: usize,
+        touched: &[usize],
+        first_dropped: usize,
+    ) -> Given {
         let mut given = Given::default();
-        let children = self.set(set).children.clone();
         for &page in touched {
+            let mut waiting = self.waiting(set, file, page).into_iter();
+            // Document 02: "When delete, or truncate dropping a whole page,
+            // reaches a page stored in the file's own map, the first child that
+            // needs it takes over the block itself. Other children needing it
+            // still get copies."
+            let stored_here = self.file(set, file).kinds[page] == Stored;
+            if page >= first_dropped && stored_here {
+                if let Some(heir) = waiting.next() {
+                    self.file_mut(heir, file).kinds[page] = Stored;
+                    given.inherited += 1;
+                }
+            }
             let (kind, _) = self.resolves(set, file, page);
-            for &child in &children {
-                let record = self.file(child, file);
-                if !record.lives() || record.kinds[page] != Unmapped {
-                    continue;
-                }
-                if kind == Stored && self.free == 0 {
-                    given.marked += self.mark(child, file);
-                    continue;
-                }
-                self.file_mut(child, file).kinds[page] = kind;
-                if kind == Stored {
-                    self.free -= 1;
-                    given.copies += 1;
-                }
+            for child in waiting {
+                self.give(child, file, page, kind, &mut given);
             }
         }
         given
+    }
+
+    /// What a waiting child gets at its turn, if it inherits nothing. "A needed
+    /// copy is step 4's, of a needed page resolving to stored; it finds none
+    /// free if, at its turn, no block is free, own blocks and that call's
+    /// earlier copies being taken."
+    fn give(&mut self, child: usize, file: usize, page: usize, kind: TallyKind, given: &mut Given) {
+        if kind == Stored && self.free == 0 {
+            given.marked += self.mark(child, file);
+            return;
+        }
+        self.file_mut(child, file).kinds[page] = kind;
+        if kind == Stored {
+            self.free -= 1;
+            given.copies += 1;
+        }
     }
 
     fn mark(&mut self, set: usize, file: usize) -> u32 {
@@ -219,7 +253,8 @@ impl Tally {
         self.settle_children(set, file);
         self.free -= own;
         let touched = Tally::pages_of(offset, end);
-        let given = self.give_to_children(set, file, &touched);
+        // Nothing is dropped.
+        let given = self.give_to_children(set, file, &touched, PAGES);
         let record = self.file_mut(set, file);
         for page in touched {
             record.kinds[page] = Stored;
@@ -242,14 +277,19 @@ impl Tally {
             let touched: Vec<usize> = (0..PAGES)
                 .filter(|page| *page >= size / PAGE_BYTES && page * PAGE_BYTES < old_size)
                 .collect();
-            given = self.give_to_children(set, file, &touched);
+            // The part page is not dropped, if there is one; all others are.
+            given = self.give_to_children(set, file, &touched, size.div_ceil(PAGE_BYTES));
             self.cut(set, file, size, own == 1, &touched);
+            // Document 02, of a block handed over: "the delete or truncate
+            // itself does not free it".
+            self.free -= given.inherited;
         }
         self.file_mut(set, file).size = size;
         [own as u32, given.copies, given.marked]
     }
 
-    /// The map after a truncate below the size.
+    /// The map after a truncate below the size, the blocks of the pages dropped
+    /// being free.
     fn cut(&mut self, set: usize, file: usize, size: usize, own: bool, touched: &[usize]) {
         let before = self.file(set, file).stored_pages();
         let record = self.file_mut(set, file);
@@ -270,9 +310,11 @@ impl Tally {
         if !self.is_marked(set, file) {
             self.settle_children(set, file);
             let all: Vec<usize> = (0..PAGES).collect();
-            given = self.give_to_children(set, file, &all);
+            given = self.give_to_children(set, file, &all, 0);
         }
-        self.free += self.file(set, file).stored_pages();
+        // Document 02, of a block handed over: "the delete or truncate itself
+        // does not free it".
+        self.free += self.file(set, file).stored_pages() - given.inherited;
         *self.file_mut(set, file) = TallyFile::new(Condition::Absent, Unmapped);
         [0, given.copies, given.marked]
     }

@@ -25,6 +25,7 @@ fn histories(block_counts: &[usize], rounds: usize, length: usize) -> Counts {
     println!("calls {:?}", counts.calls);
     println!("numbers {:?}", counts.numbers);
     println!("copies {}, files marked {}", counts.copies, counts.files_marked);
+    println!("blocks handed over {} in {} calls", counts.handed_over, counts.handing_calls);
     counts
 }
 
@@ -34,13 +35,15 @@ fn stores_of_1_to_12_blocks() {
     let counts = histories(&sizes, 30, 120);
     assert!(counts.numbers.iter().all(|count| *count > 0), "every number is given");
     assert!(counts.calls.iter().all(|count| *count > 0), "every call is done");
-    assert!(counts.copies > 900 && counts.files_marked > 450);
+    assert!(counts.copies > 600 && counts.files_marked > 800);
+    assert!(counts.handed_over > 1_000 && counts.handing_calls > 500);
 }
 
 #[test]
 fn stores_of_64_blocks() {
     let counts = histories(&[64], 60, 120);
-    assert!(counts.copies > 800 && counts.files_marked > 50);
+    assert!(counts.copies > 350 && counts.files_marked > 100);
+    assert!(counts.handed_over > 1_000 && counts.handing_calls > 120);
 }
 
 #[test]

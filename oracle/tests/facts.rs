@@ -1,55 +1,16 @@
-//! Facts about every store (docs/DECISIONS.md, "Readings of 01"), held after every call of random histories.
+//! Facts about every store (docs/DECISIONS.md, "Readings of 01", as Ask 2 of
+//! document 02 changes them), held after every call of random histories. Those
+//! of calls are held on random well-formed stores too.
 
 use oracle::call::*;
-use oracle::gen;
-use oracle::judge::Beside;
 use oracle::maps::{block_range, Resolved};
-use oracle::rng::Rng;
 use oracle::state::*;
-use oracle::store;
+use std::collections::BTreeSet;
+
+mod walk;
+use walk::{Change, Seen};
 
 const SEED: u64 = 16_000_016;
-
-struct Walk {
-    tables: Vec<u8>,
-    pages: Vec<u8>,
-    beside: Beside,
-}
-
-/// Runs random histories and shows each accepted call, with the store before
-/// and after it.
-fn walk(rounds: usize, mut see: impl FnMut(&Call, &Answer, &State, &State, &[u8])) {
-    println!("seed {SEED}");
-    let mut rng = Rng::new(SEED);
-    for round in 0..rounds {
-        let block_count = if round % 10 == 0 { 64 } else { rng.between(1, 12) };
-        let mut start = gen::start(&mut rng, block_count);
-        start.style.weights[0] = 0;
-        let mut walk = Walk {
-            tables: vec![0; TABLES_BYTES],
-            pages: vec![0; block_count * PAGE_BYTES],
-            beside: Beside::format(block_count),
-        };
-        store::format(&mut walk.tables, &mut walk.pages);
-        let mut calls = start.calls.into_iter().skip(1);
-        for _ in 0..calls.len() + 80 {
-            let call =
-                calls.next().unwrap_or_else(|| gen::call(&mut rng, &start.style, &walk.beside));
-            if walk.beside.number(&call) != 0 || !call.changes() {
-                continue;
-            }
-            let before = State::unpack(&walk.tables);
-            let mut bytes = match call {
-                Call::Write { length, seed, .. } => data_bytes(length, seed),
-                _ => Vec::new(),
-            };
-            let lent = Lent::store(&mut walk.tables, &mut walk.pages, &mut bytes);
-            let answer = store::run(call.index(), &call.numbers(), lent);
-            assert_eq!(walk.beside.step(&call).0, answer);
-            see(&call, &answer, &before, &State::unpack(&walk.tables), &walk.pages);
-        }
-    }
-}
 
 fn all_files(state: &State) -> Vec<(usize, usize)> {
     (0..SETS)
@@ -57,6 +18,8 @@ fn all_files(state: &State) -> Vec<(usize, usize)> {
         .filter(|(set, file)| state.files[*set][*file].is_present())
         .collect()
 }
+
+// Facts of states.
 
 /// Fact 1: "In an own or virgin file every byte at or past the size by reading
 /// is 0 in the page it resolves to."
@@ -71,12 +34,16 @@ fn zero_tail(state: &State, pages: &[u8], set: usize, file: usize) {
     }
 }
 
-/// Facts 2 to 5, of a marked file.
-fn marked_facts(state: &State, pages: &[u8], set: usize, file: usize) {
+/// Fact 2: "A marked file's own or virgin children have no unmapped entry".
+fn children_of_a_marked_file(state: &State, set: usize, file: usize) {
     for child in state.children(set) {
         let record = &state.files[child][file];
         assert!(!record.is_own_or_virgin() || !record.has_unmapped());
     }
+}
+
+/// Facts 3 to 5, of a marked file in a store that calls have led to.
+fn marked_facts(state: &State, pages: &[u8], set: usize, file: usize) {
     let record = &state.files[set][file];
     assert!(record.has_unmapped());
     assert_ne!(state.files[state.sets[set].parent][file].state, FileState::Virgin);
@@ -91,38 +58,133 @@ fn marked_facts(state: &State, pages: &[u8], set: usize, file: usize) {
 
 #[test]
 fn facts_of_states() {
-    walk(120, |_, _, _, state, pages| {
-        for (set, file) in all_files(state) {
-            if state.files[set][file].is_own_or_virgin() {
-                zero_tail(state, pages, set, file);
+    walk::histories(SEED, 120, |seen| {
+        for (set, file) in all_files(seen.after) {
+            if seen.after.files[set][file].is_own_or_virgin() {
+                zero_tail(seen.after, seen.pages_after, set, file);
             } else {
-                marked_facts(state, pages, set, file);
+                children_of_a_marked_file(seen.after, set, file);
+                marked_facts(seen.after, seen.pages_after, set, file);
+            }
+        }
+    });
+    walk::stores(SEED, 200, |seen| {
+        for (set, file) in all_files(seen.after) {
+            if seen.after.files[set][file].state == FileState::Marked {
+                children_of_a_marked_file(seen.after, set, file);
             }
         }
     });
 }
 
-/// The set, file and touched pages of a write, truncate or delete.
-fn touched(call: &Call, before: &State) -> Option<(usize, usize, Vec<usize>)> {
-    let (set, file, first, end) = match *call {
-        Call::Write { set, file, offset, length, .. } => {
-            (set, file, offset as usize, offset as usize + length)
+// Facts of an accepted write, truncate or delete of file F in set S.
+
+/// Fact 6: "Set records do not change. File records change only at (S,F), at
+/// (C,F) for children C of S, and deeper down only by state own or virgin
+/// becoming marked."
+fn fact_6(change: &Change) {
+    let (before, after) = (change.seen.before, change.seen.after);
+    assert_eq!(before.sets, after.sets);
+    assert_eq!(before.block_count, after.block_count);
+    let children = change.children();
+    for set in 0..SETS {
+        for file in 0..FILES {
+            let (old, new) = (&before.files[set][file], &after.files[set][file]);
+            let near = file == change.file && (set == change.set || children.contains(&set));
+            if near || old == new {
+                continue;
+            }
+            assert!(file == change.file && is_below(before, set, change.set));
+            assert!(old.is_own_or_virgin());
+            assert_eq!(*new, FileRecord { state: FileState::Marked, ..old.clone() });
         }
-        Call::Truncate { set, file, size } => {
-            let old = before.size_by_reading(set as usize, file as usize);
-            (set, file, size as usize / PAGE_BYTES * PAGE_BYTES, old)
+    }
+}
+
+/// Whether a set is a descendant of another.
+fn is_below(state: &State, set: usize, above: usize) -> bool {
+    let parent = state.sets[set].parent;
+    set != 0 && state.sets[set].used && (parent == above || is_below(state, parent, above))
+}
+
+/// Fact 7: "A child's entry changes only from unmapped and only at a touched
+/// page; afterwards no live child needs a touched page."
+fn fact_7(change: &Change) {
+    for child in change.children() {
+        for page in 0..PAGES {
+            let old = change.seen.before.files[child][change.file].entries[page];
+            let touched = change.touched.contains(&page);
+            assert!(old == change.entry_after(child, page) || (old == UNMAPPED && touched));
+            assert!(!(touched && change.seen.after.needs(child, change.file, page)));
         }
-        Call::Delete { set, file } => (set, file, 0, LARGEST_SIZE),
-        _ => return None,
+    }
+}
+
+/// The bytes of a page as it resolves; none for a hole.
+fn resolved<'a>(
+    state: &State,
+    pages: &'a [u8],
+    (set, file, page): (usize, usize, usize),
+) -> Option<&'a [u8]> {
+    match state.resolve(set, file, page) {
+        Resolved::Hole => None,
+        Resolved::Stored(block) => Some(&pages[block_range(block)]),
+    }
+}
+
+/// Fact 8: "In every other file of number F that is own or virgin afterwards,
+/// all 64 pages (also past the size) resolve to the same kind and the same 512
+/// bytes as before, and the size by reading is the same."
+fn fact_8(change: &Change) {
+    let Seen { before, after, .. } = *change.seen;
+    let file = change.file;
+    for set in (0..SETS).filter(|set| *set != change.set) {
+        if !after.files[set][file].is_own_or_virgin() {
+            continue;
+        }
+        assert_eq!(before.size_by_reading(set, file), after.size_by_reading(set, file));
+        for page in 0..PAGES {
+            let place = (set, file, page);
+            let old = resolved(before, change.seen.pages_before, place);
+            assert!(old == resolved(after, change.seen.pages_after, place), "{}", change.seen.call);
+        }
+    }
+}
+
+/// N: "pairs (child, touched page) with the child needing it and (S,F)
+/// resolving to stored", before the call.
+fn needed(change: &Change) -> usize {
+    let before = change.seen.before;
+    let stored = |page: &&usize| before.resolve(change.set, change.file, **page) != Resolved::Hole;
+    let needing = |page: &usize| {
+        let needs = |child: &usize| before.needs(*child, change.file, *page);
+        change.children().into_iter().filter(needs).count()
     };
-    let grows = match *call {
-        Call::Truncate { size, .. } => size as usize >= end,
-        Call::Write { length, .. } => length == 0,
-        _ => false,
+    change.touched.iter().filter(stored).map(needing).sum()
+}
+
+/// H: "pages dropped whole, stored in (S,F)'s map, needed by some child",
+/// before the call.
+fn to_hand_over(change: &Change) -> usize {
+    let before = change.seen.before;
+    let needed = |page: &&usize| {
+        change.children().into_iter().any(|child| before.needs(child, change.file, **page))
     };
-    let pages =
-        if grows { vec![] } else { (first / PAGE_BYTES..end.div_ceil(PAGE_BYTES)).collect() };
-    Some((set as usize, file as usize, pages))
+    let stored = |page: &&usize| before.is_stored(change.set, change.file, **page);
+    change.whole.iter().filter(stored).filter(needed).count()
+}
+
+/// Facts 9 and 10: "Copies = min(N - H, free - own)", and "some file is marked
+/// exactly when N - H > free - own". Fact 20: "handed <= H, and = H if nothing
+/// is marked."
+fn facts_9_10_and_20(change: &Change) {
+    let Seen { answer, before, call, .. } = *change.seen;
+    let (needed, to_hand_over) = (needed(change), to_hand_over(change));
+    let room = before.free_blocks() - answer.first as usize;
+    assert_eq!(answer.second as usize, (needed - to_hand_over).min(room), "{call}");
+    assert_eq!(answer.third > 0, needed - to_hand_over > room, "{call}");
+    assert!(change.handed.len() <= to_hand_over, "{call}");
+    assert!(answer.third > 0 || change.handed.len() == to_hand_over, "{call}");
 }
 
 fn marked_count(state: &State) -> usize {
@@ -130,43 +192,142 @@ fn marked_count(state: &State) -> usize {
     all_files(state).iter().filter(marked).count()
 }
 
-/// Facts 7, 9, 10, 11 and 13.
+/// Fact 11: "Marked files after = before + third count (less a marked file
+/// deleted)." Fact 23: "A file marked by a call was live with an unmapped entry
+/// before it."
+fn facts_11_and_23(change: &Change) {
+    let Seen { answer, before, after, .. } = *change.seen;
+    let was_marked = before.files[change.set][change.file].state == FileState::Marked;
+    let gone = usize::from(was_marked && after.files[change.set][change.file] == ABSENT_FILE);
+    assert_eq!(marked_count(after) + gone, marked_count(before) + answer.third as usize);
+    for set in (0..SETS).filter(|set| change.marks(*set)) {
+        let record = &before.files[set][change.file];
+        assert!(record.is_own_or_virgin() && record.has_unmapped());
+    }
+}
+
+/// The blocks in (S,F)'s own map.
+fn own_blocks(change: &Change, state: &State) -> BTreeSet<usize> {
+    let entries = state.files[change.set][change.file].entries;
+    entries.iter().filter(|e| e.kind == Kind::Stored).map(|e| e.block).collect()
+}
+
+/// Fact 12: "Bytes change only in blocks that were free or were stored in
+/// (S,F)'s own map. Bits fall only for blocks of (S,F)'s own map", and neither
+/// is so of a block handed over.
+fn fact_12(change: &Change) {
+    let Seen { before, after, pages_before, pages_after, call, .. } = *change.seen;
+    let mut own = own_blocks(change, before);
+    for handed in &change.handed {
+        assert!(own.remove(&handed.block), "{call}");
+    }
+    for block in 0..before.block_count {
+        let same = pages_before[block_range(block)] == pages_after[block_range(block)];
+        assert!(same || !before.bits[block] || own.contains(&block), "{call}: block {block}");
+        let falls = before.bits[block] && !after.bits[block];
+        assert!(!falls || own.contains(&block), "{call}: block {block}");
+    }
+}
+
+/// Fact 13: "Free after = free before - own - copies + blocks dropped from
+/// (S,F)'s map", less those handed over. "Own + copies <= free before, and <=
+/// touched x (1 + children). Next start stays when own + copies = 0. After a
+/// write that marks, no block is free."
+fn fact_13(change: &Change) {
+    let Seen { answer, before, after, call, .. } = *change.seen;
+    let gone = own_blocks(change, before).difference(&own_blocks(change, after)).count();
+    let taken = (answer.first + answer.second) as usize;
+    let left = after.free_blocks() + taken + change.handed.len();
+    assert_eq!(left, before.free_blocks() + gone, "{call}");
+    assert!(taken <= before.free_blocks(), "{call}");
+    assert!(taken <= change.touched.len() * (1 + change.children().len()), "{call}");
+    assert!(taken > 0 || after.next_start == before.next_start, "{call}");
+    let write = matches!(call, Call::Write { .. });
+    assert!(!write || answer.third == 0 || after.free_blocks() == 0, "{call}");
+    assert!(!write || change.handed.is_empty(), "{call}");
+}
+
+/// Fact 14: "After a nonempty write every touched page is stored in (S,F)'s
+/// map. A write with own need 0 in a set without children changes nothing in
+/// the tables but the size."
+fn fact_14(change: &Change) {
+    let Seen { answer, before, after, call, .. } = *change.seen;
+    if !matches!(call, Call::Write { .. }) {
+        return;
+    }
+    for page in &change.touched {
+        assert!(after.is_stored(change.set, change.file, *page), "{call}");
+    }
+    if answer.first == 0 && change.children().is_empty() {
+        let mut same = before.clone();
+        same.files[change.set][change.file].size = after.files[change.set][change.file].size;
+        assert!(same == *after, "{call}");
+    }
+}
+
+/// Fact 16: "Create changes its record alone. Make changes no bit, byte or next
+/// start; remove no byte or next start."
+fn fact_16(seen: &Seen) {
+    let Seen { before, after, call, .. } = *seen;
+    assert!(seen.pages_before == seen.pages_after, "{call}");
+    assert_eq!(before.next_start, after.next_start, "{call}");
+    match *call {
+        Call::Create { set, file } => {
+            let (set, file) = (set as usize, file as usize);
+            let mut same = before.clone();
+            same.files[set][file] = after.files[set][file].clone();
+            assert!(same == *after, "{call}");
+        }
+        Call::Make { .. } => assert_eq!(before.bits, after.bits, "{call}"),
+        _ => {}
+    }
+}
+
+/// All facts of one call; gives its counts and the blocks handed over.
+fn facts_of_call(seen: &Seen) -> [usize; 4] {
+    let Some(change) = Change::of(seen) else {
+        fact_16(seen);
+        return [0; 4];
+    };
+    fact_6(&change);
+    fact_7(&change);
+    fact_8(&change);
+    facts_9_10_and_20(&change);
+    facts_11_and_23(&change);
+    fact_12(&change);
+    fact_13(&change);
+    fact_14(&change);
+    let Answer { first, second, third, .. } = seen.answer;
+    [first as usize, second as usize, third as usize, change.handed.len()]
+}
+
+#[derive(Default)]
+struct Sums([usize; 4]);
+
+impl Sums {
+    fn add(&mut self, counts: [usize; 4]) {
+        for (sum, count) in self.0.iter_mut().zip(counts) {
+            *sum += count;
+        }
+    }
+
+    fn check(&self) {
+        let [own, copies, marked, handed] = self.0;
+        println!("own {own}, copies {copies}, marked {marked}, handed over {handed}");
+        assert!(self.0.iter().all(|sum| *sum > 100));
+    }
+}
+
 #[test]
-fn facts_of_calls() {
-    let mut seen = [0; 3];
-    walk(150, |call, answer, before, after, _| {
-        let Some((set, file, pages)) = touched(call, before) else { return };
-        let was_marked = before.files[set][file].state == FileState::Marked;
-        let mut needed = 0;
-        for page in &pages {
-            for child in before.children(set) {
-                let copied = before.needs(child, file, *page) && !was_marked;
-                if copied && before.resolve(set, file, *page) != Resolved::Hole {
-                    needed += 1;
-                }
-                // Fact 7: afterwards no live child needs a touched page.
-                assert!(!after.needs(child, file, *page));
-            }
-        }
-        // Facts 9 and 10.
-        let room = before.free_blocks() - answer.first as usize;
-        assert_eq!(answer.second as usize, needed.min(room), "{call}");
-        assert_eq!(answer.third > 0, needed > room, "{call}");
-        // Fact 11.
-        let gone = usize::from(was_marked && after.files[set][file] == ABSENT_FILE);
-        assert_eq!(marked_count(after) + gone, marked_count(before) + answer.third as usize);
-        // Fact 13.
-        let stored_in = |state: &State| {
-            state.files[set][file].entries.iter().filter(|e| e.kind == Kind::Stored).count()
-        };
-        let dropped = stored_in(before) + answer.first as usize - stored_in(after);
-        let taken = (answer.first + answer.second) as usize;
-        assert_eq!(after.free_blocks() + taken, before.free_blocks() + dropped);
-        assert!(taken > 0 || after.next_start == before.next_start);
-        for (count, value) in seen.iter_mut().zip([answer.first, answer.second, answer.third]) {
-            *count += value;
-        }
-    });
-    println!("own {}, copies {}, marked {}", seen[0], seen[1], seen[2]);
-    assert!(seen.iter().all(|count| *count > 100));
+fn facts_of_calls_in_histories() {
+    let mut sums = Sums::default();
+    walk::histories(SEED ^ 1, 150, |seen| sums.add(facts_of_call(&seen)));
+    sums.check();
+}
+
+#[test]
+fn facts_of_calls_on_well_formed_stores() {
+    let mut sums = Sums::default();
+    walk::stores(SEED ^ 2, 800, |seen| sums.add(facts_of_call(&seen)));
+    sums.check();
 }

@@ -1,5 +1,6 @@
 //! Rows M1 to M12, the worked session to the byte, what the session program
-//! does with bad and odd calls, and how it lists holes (Ask 1 of document 02).
+//! does with bad and odd calls, how it lists holes (Ask 1 of document 02) and
+//! blocks handed over (Ask 2).
 
 use oracle::rows::rows;
 use oracle::session::session;
@@ -240,22 +241,82 @@ ext 64 -1
 
 #[test]
 fn holes_given_by_a_delete_in_the_parent() {
-    // Page 1 is copied to the read-only set 1, all others become holes there.
+    // Page 1's block is handed to the read-only set 1, all other pages become
+    // holes there.
     let input = "1000000000000000 2000020002004100 5001000000000000 4000000000000000";
     let wanted = "\
 call 1 1 0 0 0 0
 call 2 2 0 1 0 0
 call 3 5 0 0 0 0
-call 4 4 0 0 1 0
+call 4 4 0 0 0 0
 set 0 0 8 1
 set 1 1 0 0
 file 1 0 1 1024
 ext 0 -2
-ext 1 1
+ext 1 0
 ext 2 -2
 ext 64 -1
 ";
     assert_eq!(run(input), wanted);
+}
+
+#[test]
+fn blocks_handed_over_by_a_truncate_and_a_delete() {
+    // Pages 0 to 2 are in blocks 0 to 2. Sets 1 (read-only) and 2 (writeable)
+    // are made, then the file is cut to 600. Page 1 is the part page: it is
+    // copied to blocks 3 and 4. Page 2 goes to set 1 itself and is copied to
+    // block 5 for set 2.
+    let cut = "1000000000000000 2000000006004100 5001000000000000 6002000000000000 \
+        3000025800000000";
+    let calls = "\
+call 1 1 0 0 0 0
+call 2 2 0 3 0 0
+call 3 5 0 0 0 0
+call 4 6 0 0 0 0
+call 5 3 0 0 3 0
+";
+    let wanted = "\
+set 0 0 8 1
+file 0 0 1 600
+ext 0 0
+ext 2 -1
+ext 64 -1
+set 1 1 0 0
+file 1 0 1 1536
+ext 0 -1
+ext 1 3
+ext 2 2
+ext 3 -1
+ext 64 -1
+set 2 1 0 1
+file 2 0 1 1536
+ext 0 -1
+ext 1 4
+ext 3 -1
+ext 64 -1
+";
+    assert_eq!(run(cut), [calls, wanted].concat());
+    // Then the file is deleted: page 0 goes to set 1 and is copied to block 6
+    // for set 2. Nobody needs page 1, so block 1 is free. All pages from 3 on
+    // become holes.
+    let wanted = "\
+call 6 4 0 0 1 0
+set 0 0 8 1
+set 1 1 0 0
+file 1 0 1 1536
+ext 0 0
+ext 1 3
+ext 2 2
+ext 3 -2
+ext 64 -1
+set 2 1 0 1
+file 2 0 1 1536
+ext 0 6
+ext 1 4
+ext 3 -2
+ext 64 -1
+";
+    assert_eq!(run(&format!("{cut} 4000000000000000")), [calls, wanted].concat());
 }
 
 #[test]

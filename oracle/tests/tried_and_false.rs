@@ -68,23 +68,24 @@ fn a_childs_size_is_at_least_the_parents() {
     assert!(after.size(1) < after.size(0));
 }
 
-const MARKED: &str = "format 512; create 0 0; write 0 0 0 1 1; make 0 1 0";
+const FULL: &str = "format 512; create 0 0; write 0 0 0 1 1; make 0 1 0";
 
+/// Set 1 takes the block over, so set 2 is marked.
 #[test]
 fn the_parents_file_of_a_marked_file_is_present() {
-    let after = after(&format!("{MARKED}; delete 0 0"));
-    assert!(after.is_marked(1) && !after.file(0).is_present());
+    let after = after(&format!("{FULL}; make 0 2 0; delete 0 0"));
+    assert!(after.is_marked(2) && !after.file(0).is_present());
 }
 
 #[test]
 fn an_own_parents_file_of_a_marked_file_has_a_stored_page() {
-    let after = after(&format!("{MARKED}; truncate 0 0 0"));
-    assert!(after.is_marked(1) && after.file(0).state == FileState::Own && !after.has_stored(0));
+    let after = after(&format!("{FULL}; make 0 2 0; truncate 0 0 0"));
+    assert!(after.is_marked(2) && after.file(0).state == FileState::Own && !after.has_stored(0));
 }
 
 #[test]
 fn a_present_child_of_a_marked_file_is_marked() {
-    let after = after(&format!("{MARKED}; make 1 2 1; write 0 0 0 1 1; delete 2 0; create 2 0"));
+    let after = after(&format!("{FULL}; make 1 2 1; write 0 0 0 1 1; delete 2 0; create 2 0"));
     assert!(after.is_marked(1) && after.file(2).state == FileState::Own);
     assert_eq!(after.state.sets[2].parent, 1);
 }
@@ -123,15 +124,18 @@ fn no_live_child_is_unmapped_over_a_parents_hole() {
 
 #[test]
 fn a_marked_file_has_recorded_size_0() {
-    let after = after(&format!("{MARKED}; write 0 0 0 1 1"));
+    let after = after(&format!("{FULL}; write 0 0 0 1 1"));
     assert!(after.is_marked(1) && after.file(1).size == 1);
 }
 
+/// Page 0 becomes a hole in set 1, and page 1 finds no block free.
 #[test]
 fn a_marked_file_has_a_stored_page_or_is_all_unmapped() {
-    let after = after("format 512; create 0 0; write 0 0 512 1 1; make 0 1 0; truncate 0 0 0");
+    let after = after("format 1024; create 0 0; write 0 0 512 1 1; make 0 1 0; write 0 0 0 513 2");
+    assert_eq!(after.answer, Answer::accepted([1, 0, 1]));
     assert!(after.is_marked(1) && !after.has_stored(1));
     assert_eq!(after.file(1).entries[0], HOLE);
+    assert_eq!(after.file(1).entries[1], UNMAPPED);
 }
 
 #[test]
@@ -144,16 +148,43 @@ fn siblings_ascend_and_a_childs_number_is_above_its_parents() {
 
 #[test]
 fn the_third_count_is_at_most_the_number_of_children() {
-    let after = after(&format!("{MARKED}; make 1 2 0; write 0 0 0 1 1"));
+    let after = after(&format!("{FULL}; make 1 2 0; write 0 0 0 1 1"));
     assert_eq!(after.state.children(0).len(), 1);
     assert_eq!(after.answer, Answer::accepted([0, 0, 2]));
 }
 
+/// The only child is marked at the part page, and the block of page 1, dropped
+/// whole and needed by a child before the call, is freed.
+const PART_PAGE: &str = "format 1024; create 0 0; write 0 0 0 1024 1; make 0 1 0; truncate 0 0 1";
+
 #[test]
 fn no_block_is_free_after_a_call_that_marked() {
-    let after = after(&format!("{MARKED}; truncate 0 0 0"));
+    let after = after(PART_PAGE);
     assert_eq!(after.answer, Answer::accepted([0, 0, 1]));
     assert_eq!(after.state.free_blocks(), 1);
+}
+
+#[test]
+fn every_block_that_a_child_needs_before_the_call_is_handed_over() {
+    let after = after(PART_PAGE);
+    assert!(after.is_marked(1) && !after.has_stored(1) && !after.state.bits[1]);
+}
+
+/// Claims about a block handed over.
+#[test]
+fn the_heir_of_a_block_is_not_marked_by_the_call() {
+    let after = after(
+        "format 1024; create 0 0; write 0 0 512 512 1; make 0 1 1; write 1 0 0 512 2; make 1 2 0; \
+        delete 1 0",
+    );
+    assert_eq!(after.answer, Answer::accepted([0, 0, 1]));
+    assert!(after.is_marked(2) && after.has_stored(2) && after.state.bits[1]);
+}
+
+#[test]
+fn in_a_full_store_delete_of_an_own_file_marks_nothing() {
+    let after = after(&format!("{FULL}; make 0 2 0; delete 0 0"));
+    assert_eq!(after.answer, Answer::accepted([0, 0, 1]));
 }
 
 #[test]

@@ -1,10 +1,12 @@
 //! Each rule of the well-formed check, broken by a damage aimed at it.
 
+use oracle::agree::{agree, read_off};
 use oracle::bench::{Bench, NoOther};
 use oracle::call::*;
 use oracle::check::{check_all, is_well_formed, Rule};
 use oracle::gen::{self, Made};
 use oracle::rng::Rng;
+use oracle::state::State;
 use std::collections::BTreeSet;
 
 const SEED: u64 = 20_260_101;
@@ -22,6 +24,25 @@ fn made_states_are_well_formed() {
     }
 }
 
+/// Plain store and tally read off a store agree with it; of a store that calls
+/// made they are those beside, but for the bytes of marked files.
+#[test]
+fn plain_store_and_tally_are_read_off() {
+    println!("seed {SEED}");
+    let mut rng = Rng::new(SEED ^ 3);
+    for made in pool(&mut rng, 30) {
+        let state = State::unpack(&made.tables);
+        let beside = read_off(&state, &made.pages);
+        assert_eq!(beside.tally, made.beside.tally);
+        assert_eq!(agree(&state, &made.pages, &beside), Ok(()));
+        assert_eq!(agree(&state, &made.pages, &made.beside), Ok(()));
+        let (mut tables, mut pages) = (made.tables, made.pages);
+        gen::twist(&mut rng, &mut tables, &mut pages);
+        let state = State::unpack(&tables);
+        assert_eq!(agree(&state, &pages, &read_off(&state, &pages)), Ok(()));
+    }
+}
+
 /// Well formed is kept by every call, also from states that no history need
 /// reach.
 #[test]
@@ -34,9 +55,10 @@ fn well_formed_is_kept_from_any_well_formed_state() {
         let (mut tables, mut pages) = (made.tables.clone(), made.pages.clone());
         gen::twist(&mut rng, &mut tables, &mut pages);
         assert!(is_well_formed(&tables, pages.len()));
+        let beside = read_off(&State::unpack(&tables), &pages);
         let mut bench = Bench::with(tables, pages);
         for _ in 0..10 {
-            let call = gen::call(&mut rng, &made.style, &made.beside);
+            let call = gen::call(&mut rng, &made.style, &beside);
             let answer = bench.call(&call, &mut NoOther).unwrap();
             assert_ne!(answer.number, 1);
             let broken = check_all(bench.tables(), bench.pages().len());

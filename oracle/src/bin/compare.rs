@@ -77,11 +77,13 @@ mod sweep {
 mod linked {
     use super::sweep::{linked, Sweep};
     use super::ExitCode;
+    use oracle::agree::read_off;
     use oracle::bench::{replay, report, Bench, Counts};
     use oracle::call::*;
     use oracle::check::{check_all, Rule};
-    use oracle::gen::{self, Made};
+    use oracle::gen::{self, Made, Style};
     use oracle::history::{any_history, Failure};
+    use oracle::judge::Beside;
     use oracle::rng::Rng;
     use oracle::state::State;
     use std::fs::File;
@@ -285,7 +287,7 @@ exit status: 0 no difference, 1 a difference, 2 bad usage
                 let item = Item::Length { buffer: Buffer::Pages, length };
                 self.do_item(&mut bench, &mut script, item)?;
             }
-            let calls = self.calls(&made);
+            let calls = self.calls(&made.style, &made.beside);
             self.calls_on(bench, script, calls)
         }
 
@@ -304,21 +306,23 @@ exit status: 0 no difference, 1 a difference, 2 bad usage
                 at,
                 value: pages[at],
             }));
+            let beside = read_off(&State::unpack(&tables), &pages);
             let mut calls = Vec::new();
             for _ in 0..3 {
-                calls.extend(self.calls(&made));
+                calls.extend(self.calls(&made.style, &beside));
                 calls.retain(|call| !matches!(call, Call::Format { .. }));
             }
+            self.rng.shuffle(&mut calls);
             self.calls_on(Bench::with(tables, pages), script, calls)
         }
 
         /// One call of each linked kind, format last, with numbers in range
         /// and out of it.
-        fn calls(&mut self, made: &Made) -> Vec<Call> {
-            let mut style = made.style.clone();
+        fn calls(&mut self, style: &Style, beside: &Beside) -> Vec<Call> {
+            let mut style = style.clone();
             style.wild = self.rng.pick(&[0, 0, 10, 50, 100]);
             let indices = (1..CALLS).chain([0]).filter(|index| linked(*index));
-            indices.map(|index| gen::call_of(&mut self.rng, &style, &made.beside, index)).collect()
+            indices.map(|index| gen::call_of(&mut self.rng, &style, beside, index)).collect()
         }
 
         /// (c) Wrong lengths of tables and pages, and the largest numbers.
@@ -341,8 +345,8 @@ exit status: 0 no difference, 1 a difference, 2 bad usage
                         self.do_item(&mut bench, &mut script, item)?;
                     }
                 }
-                let mut calls = self.calls(&made);
-                calls.extend(self.calls(&made));
+                let mut calls = self.calls(&made.style, &made.beside);
+                calls.extend(self.calls(&made.style, &made.beside));
                 if linked(0) {
                     calls.push(Call::Format { pages_length });
                 }
@@ -395,6 +399,7 @@ exit status: 0 no difference, 1 a difference, 2 bad usage
                 println!("number {number} {calls}");
             }
             println!("copies {}, files marked {}", counts.copies, counts.files_marked);
+            println!("blocks handed over {} in {} calls", counts.handed_over, counts.handing_calls);
             for rule in Rule::ALL {
                 println!("damage {} {}", rule.name(), self.damages_of(*rule));
             }

@@ -1,0 +1,197 @@
+//! Random histories and random well-formed stores, shown call by call. All of
+//! it is done with plain store and tally beside.
+
+// Not every test uses all of it.
+#![allow(dead_code)]
+
+use oracle::agree::read_off;
+use oracle::bench::{handed_over, Bench, Handed, NoOther};
+use oracle::call::*;
+use oracle::gen::{self, Made};
+use oracle::rng::Rng;
+use oracle::state::*;
+
+/// An accepted call that can change the store, with the store before and after
+/// it.
+pub struct Seen<'a> {
+    pub call: &'a Call,
+    pub answer: Answer,
+    pub before: &'a State,
+    pub pages_before: &'a [u8],
+    pub after: &'a State,
+    pub pages_after: &'a [u8],
+    /// Whether this is the first call shown of its store.
+    pub first: bool,
+}
+
+/// A write, truncate or delete.
+pub struct Change<'a> {
+    pub seen: &'a Seen<'a>,
+    pub set: usize,
+    pub file: usize,
+    /// Touched pages. There are none if nothing is written or cut, or if a
+    /// marked file is deleted.
+    pub touched: Vec<usize>,
+    /// Those of them that the call drops whole.
+    pub whole: Vec<usize>,
+    /// The blocks handed over, as the tables show it.
+    pub handed: Vec<Handed>,
+}
+
+impl<'a> Change<'a> {
+    pub fn of(seen: &'a Seen<'a>) -> Option<Change<'a>> {
+        let (set, file) = match *seen.call {
+            Call::Write { set, file, .. }
+            | Call::Truncate { set, file, .. }
+            | Call::Delete { set, file } => (set as usize, file as usize),
+            _ => return None,
+        };
+        let old_size = match seen.before.files[set][file].state {
+            FileState::Marked => 0,
+            _ => seen.before.size_by_reading(set, file),
+        };
+        let (touched, first_whole) = match *seen.call {
+            Call::Write { length: 0, .. } => (0..0, 0),
+            Call::Write { offset, length, .. } => {
+                let first = offset as usize / PAGE_BYTES;
+                (first..(offset as usize + length).div_ceil(PAGE_BYTES), PAGES)
+            }
+            Call::Truncate { size, .. } if size as usize >= old_size => (0..0, 0),
+            Call::Truncate { size, .. } => {
+                let first = size as usize / PAGE_BYTES;
+                (first..old_size.div_ceil(PAGE_BYTES), (size as usize).div_ceil(PAGE_BYTES))
+            }
+            _ if seen.before.files[set][file].state == FileState::Marked => (0..0, 0),
+            _ => (0..PAGES, 0),
+        };
+        let handed = handed_over(seen.before, seen.after, set, file);
+        let whole = touched.clone().filter(|page| *page >= first_whole).collect();
+        Some(Change { seen, set, file, touched: touched.collect(), whole, handed })
+    }
+
+    pub fn children(&self) -> Vec<usize> {
+        self.seen.before.children(self.set)
+    }
+
+    /// Whether the file of a set became marked by the call.
+    pub fn marks(&self, set: usize) -> bool {
+        let state = |state: &State| state.files[set][self.file].state;
+        state(self.seen.before) != FileState::Marked && state(self.seen.after) == FileState::Marked
+    }
+
+    pub fn entry_after(&self, child: usize, page: usize) -> Entry {
+        self.seen.after.files[child][self.file].entries[page]
+    }
+}
+
+/// A store, and what has been shown of it.
+struct Walk {
+    bench: Bench,
+    first: bool,
+}
+
+impl Walk {
+    fn new(bench: Bench) -> Walk {
+        Walk { bench, first: true }
+    }
+
+    fn step(&mut self, call: &Call, see: &mut dyn FnMut(Seen)) {
+        let (before, pages_before) = self.store();
+        let answer = self.bench.call(call, &mut NoOther);
+        let answer = answer.unwrap_or_else(|text| panic!("{call}: {text}"));
+        if answer.number != 0 || !call.changes() || matches!(call, Call::Format { .. }) {
+            return;
+        }
+        let (after, pages_after) = self.store();
+        see(Seen {
+            call,
+            answer,
+            before: &before,
+            pages_before: &pages_before,
+            after: &after,
+            pages_after: &pages_after,
+            first: self.first,
+        });
+        self.first = false;
+    }
+
+    fn store(&self) -> (State, Vec<u8>) {
+        (State::unpack(self.bench.tables()), self.bench.pages().to_vec())
+    }
+}
+
+/// Shows the calls of random histories from format on.
+pub fn histories(seed: u64, rounds: usize, mut see: impl FnMut(Seen)) {
+    println!("seed {seed}");
+    let mut rng = Rng::new(seed);
+    for round in 0..rounds {
+        let block_count = if round % 10 == 0 { 64 } else { rng.between(1, 12) };
+        let mut start = gen::start(&mut rng, block_count);
+        start.style.weights[0] = 0;
+        let mut walk = Walk::new(Bench::with(vec![0; TABLES_BYTES], Vec::new()));
+        for call in start.calls.into_iter().chain(start.drops) {
+            match call {
+                Call::Format { .. } => drop(walk.bench.call(&call, &mut NoOther).unwrap()),
+                _ => walk.step(&call, &mut see),
+            }
+        }
+        for _ in 0..80 {
+            let beside = walk.bench.beside.as_ref().expect("a history begins with format");
+            let call = gen::call(&mut rng, &start.style, beside);
+            walk.step(&call, &mut see);
+        }
+    }
+}
+
+/// Shows calls on random well-formed stores, whether or not calls could bring
+/// them there. Plain store and tally are read off before each call.
+pub fn stores(seed: u64, rounds: usize, mut see: impl FnMut(Seen)) {
+    println!("seed {seed}");
+    let mut rng = Rng::new(seed);
+    let mut pool: Vec<Made> = Vec::new();
+    for round in 0..rounds {
+        if round % 4 == 0 {
+            let block_count = match rng.below(10) {
+                0 => rng.between(1, 2),
+                9 => 64,
+                _ => rng.between(3, 12),
+            };
+            let length = gen::made_length(&mut rng);
+            pool.push(gen::made_of(&mut rng, block_count, length));
+        }
+        let made = rng.pick(&pool);
+        let (mut tables, mut pages) = (made.tables, made.pages);
+        gen::twist(&mut rng, &mut tables, &mut pages);
+        let mut walk = Walk::new(Bench::with(tables, pages));
+        for _ in 0..5 {
+            let (state, pages) = walk.store();
+            walk.bench.beside = Some(read_off(&state, &pages));
+            let beside = walk.bench.beside.as_ref().expect("read off");
+            // Most of them are truncates and deletes.
+            let call = match rng.below(6) {
+                0 | 1 => gen::call_of(&mut rng, &made.style, beside, 4),
+                2 | 3 => gen::call_of(&mut rng, &made.style, beside, 5),
+                _ => gen::call(&mut rng, &made.style, beside),
+            };
+            if !grows_over_a_gap(&state, &call) {
+                walk.step(&call, &mut see);
+            }
+        }
+    }
+}
+
+/// A truncate above the size, or a write that starts past it: it shows bytes
+/// past the size, which a well-formed store may hold.
+fn grows_over_a_gap(state: &State, call: &Call) -> bool {
+    let size = |set: u32, file: u32| {
+        let there = set < 8 && file < 16 && state.files[set as usize][file as usize].is_present();
+        there.then(|| state.size_by_reading(set as usize, file as usize))
+    };
+    match *call {
+        Call::Truncate { set, file, size: t } => size(set, file).is_some_and(|s| t as usize > s),
+        Call::Write { set, file, offset, .. } => {
+            size(set, file).is_some_and(|s| offset as usize > s)
+        }
+        _ => false,
+    }
+}
