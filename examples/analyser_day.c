@@ -1,5 +1,5 @@
-/* An analyser's day with the sweep store: format, store a sweep, take the reference copy, recalibrate, read both, and
- * handle a full store and a marked file by name. What it prints is in analyser_day.out.
+/* An analyser's day with the sweep store: format, store a sweep, take the reference copy, recalibrate, read both, handle a
+ * full store and a marked file by name, and delete an old sweep in the full store. What it prints is in analyser_day.out.
  *     cc -std=c99 -Wall -Wextra -Wpedantic analyser_day.c $(pkg-config --cflags --libs sweep) */
 #include <stdio.h>
 #include <string.h>
@@ -55,6 +55,17 @@ static uint32_t print_sweep(uint32_t set, uint32_t file)
     return got.number;
 }
 
+/* Deletes a sweep. Copies that still read it take over its blocks, also in a full store. */
+static uint32_t delete_sweep(uint32_t file)
+{
+    sweep_answer done = sweep_delete(STORE, WORK, file);
+    if (done.number == SWEEP_OK)
+        printf("file %u: deleted, %u copies, %u out of sync\n", (unsigned)file, (unsigned)done.second, (unsigned)done.third);
+    else
+        printf("file %u: not deleted, number %u\n", (unsigned)file, (unsigned)done.number);
+    return done.number;
+}
+
 int main(void)
 {
     if (sweep_format(STORE).number != SWEEP_OK || sweep_create(STORE, WORK, ANTENNA).number != SWEEP_OK)
@@ -87,5 +98,11 @@ int main(void)
     }
     print_sweep(EVENING, CABLE);
     print_sweep(REFERENCE, ANTENNA); /* the morning's reference still stands */
+
+    print_free();
+    if (delete_sweep(CABLE) != SWEEP_OK) /* no block is free, and none is needed: the evening's copy takes the blocks over */
+        return 1;
+    print_sweep(EVENING, CABLE);
+    print_free();
     return 0;
 }

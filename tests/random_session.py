@@ -4,7 +4,8 @@
 
 A session first fills the 64 blocks of the store, then makes copies and changes files, mostly with numbers for which the
 call can be accepted. It keeps only the tree of sets, writeability and which files are present; room and marks are not
-looked at, so that full stores, refusals and marked files come by themselves.
+looked at, so that full stores, refusals and marked files come by themselves. Many truncates and deletes are of files that
+a child has too, so that blocks are handed over.
 """
 import os
 import random
@@ -56,6 +57,18 @@ class Maker:
             return self.dice.choice(fits)
         return self.any_set(), self.dice.randrange(self.files if self.dice.random() < 0.8 else FILES)
 
+    def place_above(self):
+        """Often a set and a file that a child has too; else any with the file."""
+        fits = [
+            (entry.parent, file)
+            for entry in self.sets.values()
+            if entry.parent is not None and self.sets[entry.parent].writeable
+            for file in sorted(entry.files & self.sets[entry.parent].files)
+        ]
+        if fits and self.dice.random() < 0.6:
+            return self.dice.choice(fits)
+        return self.place(present=True)
+
     def offset(self):
         edge = self.dice.randrange(self.pages) * PAGE
         near = max(0, edge + self.dice.choice((-1, 0, 0, 0, 1, self.dice.randrange(PAGE))))
@@ -71,25 +84,27 @@ class Maker:
         self.add(1, set=number, file=file)
         if number in self.sets and self.sets[number].writeable:
             self.sets[number].files.add(file)
+        return number, file
 
     def write(self):
         number, file = self.place(present=True)
         self.add(2, set=number, file=file, offset=self.offset(), length=self.length(), fill=self.dice.randrange(256))
 
-    def truncate(self):
-        number, file = self.place(present=True)
+    def truncate(self, place=None):
+        number, file = place or self.place_above()
         self.add(3, set=number, file=file, offset=self.offset())
 
-    def delete(self):
-        number, file = self.place(present=True)
+    def delete(self, place=None):
+        number, file = place or self.place_above()
         self.add(4, set=number, file=file)
         if number in self.sets and self.sets[number].writeable:
             self.sets[number].files.discard(file)
 
-    def make(self):
+    def make(self, parent=None):
         deepest = max(entry.level for entry in self.sets.values())
         lowest = self.dice.choice((0, 0, 0, deepest - 1, deepest))
-        parent = self.any_set(lambda entry: lowest <= entry.level < LEVEL)
+        if parent is None:
+            parent = self.any_set(lambda entry: lowest <= entry.level < LEVEL)
         unused = [number for number in range(SETS) if number not in self.sets]
         new = self.dice.choice(unused) if unused and self.dice.random() < 0.95 else self.dice.randrange(16)
         writeable = self.dice.random() < 0.7
@@ -116,6 +131,21 @@ class Maker:
             at = self.dice.randrange(8) * 4096 if self.dice.random() < 0.7 else self.offset()
             self.add(2, set=0, file=self.dice.choice(names), offset=at, length=4096, fill=self.dice.randrange(256))
 
+    def sweep(self):
+        """A new file, written in pieces of eight pages."""
+        number, file = self.create()
+        for _ in range(self.dice.choice((1, 2, 4))):
+            self.add(2, set=number, file=file, offset=self.dice.randrange(4) * 4096, length=4096, fill=self.dice.randrange(256))
+
+    def retire(self):
+        """Copies of a set are made, some pages written, and then a file of the set is cut or deleted."""
+        number, file = self.place(present=True)
+        for _ in range(min(self.dice.choice((1, 2, 3)), SETS - len(self.sets))):
+            self.make(number)
+        for _ in range(self.dice.randrange(4)):
+            self.write()
+        self.dice.choice((self.truncate, self.delete))((number, file))
+
     def end(self):
         """Bytes that end the session, or none."""
         if self.dice.random() < 0.7:
@@ -126,9 +156,10 @@ class Maker:
             self.add(1)
 
 
-# Two mixtures of calls: one that keeps the store full and its copies young, one that changes everything.
-NAMES = ("write", "truncate", "delete", "create", "make", "remove")
-FULL, MIXED = (52, 3, 1, 6, 24, 18), (45, 14, 6, 9, 12, 5)
+# Three mixtures of calls: one that keeps the store full and its copies young, one that changes everything, and one that deletes and
+# cuts files that have copies, and stores new ones.
+NAMES = ("write", "truncate", "delete", "create", "make", "remove", "sweep", "retire")
+FULL, MIXED, HANDING = (52, 3, 1, 6, 24, 18, 0, 0), (45, 14, 6, 9, 12, 5, 0, 0), (24, 8, 6, 3, 4, 22, 14, 19)
 
 
 def session(seed, place):
@@ -137,7 +168,10 @@ def session(seed, place):
     maker = Maker(dice)
     maker.fill()
     count = LONG_CALLS if int(place) == LONG_PLACE else dice.choice((20, 60, 150, 400))
-    for name in dice.choices(NAMES, dice.choice((FULL, FULL, MIXED)), k=count):
+    most = len(maker.data) + count * calls.CALL_BYTES
+    for name in dice.choices(NAMES, dice.choice((FULL, FULL, MIXED, HANDING, HANDING)), k=count):
+        if len(maker.data) >= most:
+            break
         getattr(maker, name)()
     maker.end()
     return maker.data

@@ -27,7 +27,7 @@ FIELDS = [
 ]
 ENDS = SHORTS + OPS + [("length", 2)] + FIELDS
 
-LAST_BLOCK = 63
+LAST_BLOCK, PAGE_BYTES = 63, 512
 
 # What an `ext` line of a copy says of its pages: a block, or one of the two marks of document 02, Ask 1. In set 0, -1 is a hole.
 UNMAPPED, HOLE = -1, -2
@@ -63,6 +63,44 @@ IN_COPIES = (
 )
 ALL_HOLES_IN_ROOT = "a file of set 0 that is all holes"
 
+# What an accepted delete or truncate does with blocks of the file's map (document 02, Ask 2). A block is handed over if a child's map
+# has it afterwards, at the same page. What a child marked in the same call took over is in no listing.
+HANDING = (
+    *(
+        f"{name} {does}"
+        for name in ("delete", "truncate")
+        for does in (
+            "hands over",
+            "hands over, copies nothing and marks nothing",
+            "hands over and copies",
+            "hands over and marks",
+            "hands over, copies and marks",
+            "hands over and copies for the same child",
+            "hands over and frees",
+            "frees what its live children do not need",
+            "hands over with all 64 blocks used",
+            "hands over with all 64 blocks used and marks",
+            *(f"hands over, children with the file: {number}" for number in range(1, 8)),
+            *(f"hands over to a set of level {level}" for level in range(1, 6)),
+            "hands over to a read-only set",
+            "hands over to a writeable set",
+            "hands over to a virgin file",
+            "hands over to an own file",
+            "hands over to several children",
+            "hands over to another child than the first",
+            "hands over to the next child, since it marks the first",
+            "hands over what was handed over before",
+            "frees what was handed over before",
+        )
+    ),
+    "truncate takes own blocks, hands over, copies and marks",
+    "truncate to 0 hands over",
+    "truncate to a page's edge hands over",
+    "truncate inside a page hands over",
+    "truncate hands over a last page that is not full",
+    "remove frees what was handed over",
+)
+
 
 def wanted():
     """The names of all that must occur."""
@@ -77,7 +115,8 @@ def wanted():
     names += ["a read-only set", "a writeable set", "two children of a set", "a child with a lower number listed later"]
     names += ["an own file", "a virgin file", "a marked file"]
     names += [f"extents: {shape}" for shape in SHAPES]
-    return names + [f"extents of copies: {shape}" for shape in IN_COPIES] + [ALL_HOLES_IN_ROOT]
+    names += [f"extents of copies: {shape}" for shape in IN_COPIES] + [ALL_HOLES_IN_ROOT]
+    return names + list(HANDING)
 
 
 def seen(data, output):
@@ -195,6 +234,112 @@ def count_in_copy(number, level, state, extents, count):
         add("a hole of one page" if end == first + 1 else "holes of several pages", hole)
         add(f"holes in a set of level {level}", hole)
         add(f"holes in set {number}", hole)
+
+
+# Handing over, counted call by call from the listings before and after
+
+Held = collections.namedtuple("Held", "state size blocks")  # of one file; blocks: page -> block
+Tree = collections.namedtuple("Tree", "sets files")  # set -> (level, parent, writeable), as listed; (set, file) -> Held
+ABSENT, VIRGIN, MARKED = Held(0, 0, {}), 2, 3
+
+
+def tree_of(listing):
+    tree = Tree({}, {})
+    for word, numbers in listing:
+        if word == "set":
+            tree.sets[numbers[0]] = tuple(numbers[1:])
+        elif word == "file":
+            blocks, run = {}, None
+            tree.files[tuple(numbers[:2])] = Held(*numbers[2:], blocks)
+        else:
+            if run and run[1] >= 0:
+                blocks.update({page: run[1] + page - run[0] for page in range(run[0], numbers[0])})
+            run = numbers
+    return tree
+
+
+def used(tree):
+    return {block for held in tree.files.values() for block in held.blocks.values()}
+
+
+def seen_by_calls(data, output, listing_after):
+    """Counts of what the calls of one session hand over. `listing_after` gives the listing after so many calls."""
+    count = collections.Counter()
+    taken = set()  # what was handed over: (set, file, page, block)
+    for answer in output.calls:
+        call = calls.unpack(data[(answer.count - 1) * calls.CALL_BYTES:answer.count * calls.CALL_BYTES])
+        drops, removes = call.op in (3, 4), call.op == 7 and any(call.set == number for number, *_ in taken)
+        if answer.number == 0 and (drops or removes):
+            before, after = (tree_of(listing_after(number)) for number in (answer.count - 1, answer.count))
+            (count_dropped if drops else count_removed)(call, answer, before, after, taken, count)
+    return count
+
+
+def count_removed(call, _, before, after, taken, count):
+    """Counts that removing a set frees what was handed over to it."""
+    held = {(*place, page, block) for place, file in before.files.items() for page, block in file.blocks.items()}
+    gone = {block for number, *_, block in held & taken if number == call.set}
+    count["remove frees what was handed over"] += bool(gone - used(after))
+
+
+def count_dropped(call, answer, before, after, taken, count):
+    """Counts what an accepted delete or truncate does with the blocks that it drops; `taken` gets what is handed over."""
+    name = calls.TEXTS[call.op][0]
+
+    def add(does, holds):
+        assert f"{name} {does}" in HANDING, does
+        count[f"{name} {does}"] += bool(holds)
+
+    def was(number):
+        return before.files.get((number, call.file), ABSENT)
+
+    def now(number):
+        return after.files.get((number, call.file), ABSENT)
+
+    dropped = {page: block for page, block in was(call.set).blocks.items() if page not in now(call.set).blocks}
+    children = [number for number, (_, parent, _) in before.sets.items() if parent == call.set and was(number).state]
+    given = {number: {page for page, block in dropped.items() if now(number).blocks.get(page) == block} for number in children}
+    heirs = [number for number in children if given[number]]
+    old = {page for page, block in dropped.items() if (call.set, call.file, page, block) in taken}
+    taken.update((number, call.file, page, dropped[page]) for number in heirs for page in given[number])
+    # A block that no file lists is free, if no file is marked.
+    sure = all(held.state != MARKED for held in after.files.values())
+    freed = {page for page, block in dropped.items() if sure and block not in used(after)}
+    own, copies, marked = answer.counts
+
+    add("frees what was handed over before", freed & old)
+    add("frees what its live children do not need", freed and children and not (heirs or copies or marked))
+    add("hands over", heirs)
+    if not heirs:
+        return
+    add("hands over, copies nothing and marks nothing", not (own or copies or marked))
+    add("hands over and copies", copies and not marked)
+    add("hands over and marks", marked and not copies)
+    add("hands over, copies and marks", copies and marked)
+    add("hands over and copies for the same child", copies and len(children) == 1)
+    add("hands over and frees", freed)
+    full = len(used(before)) == LAST_BLOCK + 1
+    add("hands over with all 64 blocks used", full)
+    add("hands over with all 64 blocks used and marks", full and marked)
+    add(f"hands over, children with the file: {len(children)}", True)
+    for number in heirs:
+        level, _, writeable = before.sets[number]
+        add(f"hands over to a set of level {level}", True)
+        add("hands over to a writeable set" if writeable else "hands over to a read-only set", True)
+        add("hands over to a virgin file" if was(number).state == VIRGIN else "hands over to an own file", True)
+    add("hands over to several children", len(heirs) > 1)
+    add("hands over to another child than the first", heirs != children[:1])
+    # A virgin file needs every page, so only its marking lets another child take one over.
+    lost = (was(children[0]).state, now(children[0]).state) == (VIRGIN, MARKED)
+    add("hands over to the next child, since it marks the first", lost)
+    pages = set().union(*given.values())
+    add("hands over what was handed over before", pages & old)
+    if call.op == 3:
+        size = was(call.set).size
+        add("takes own blocks, hands over, copies and marks", own and copies and marked)
+        add("to 0 hands over", call.offset == 0)
+        add("inside a page hands over" if call.offset % PAGE_BYTES else "to a page's edge hands over", True)
+        add("hands over a last page that is not full", size % PAGE_BYTES and size // PAGE_BYTES in pages)
 
 
 def out_of_table(count):

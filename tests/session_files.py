@@ -1,7 +1,7 @@
 """The session files (tests/sessions), the session program's output, and both put in words.
 
 A session file is hexadecimal as tools/calls.py writes it. It begins with comment lines that say what the session shows.
-Every later line is one call, and its comment is the call's text and the answer that document 01 asks for:
+Every later line is one call, and its comment is the call's text and the answer that documents 01 and 02 ask for:
 
     2000000004004100  # write set 0 file 0 at 0 length 1024 fill 0x41 => 0; 2, 0, 0: a remark
 

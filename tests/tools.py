@@ -1,5 +1,6 @@
 #!/usr/bin/env python3
-"""Tests of tools/calls.py, tools/picture.py, tools/moved.py, tests/trace.py, tests/places.py and the readers of session files. Run: python3 tests/tools.py"""
+"""Tests of tools/calls.py, tools/picture.py, tools/moved.py, tests/trace.py, tests/places.py, the readers of session files, and what
+is counted as handed over. Run: python3 tests/tools.py"""
 import os
 import random
 import re
@@ -15,6 +16,7 @@ HERE = os.path.dirname(os.path.abspath(__file__))
 sys.path.insert(0, HERE)
 import places  # noqa: E402
 import random_session  # noqa: E402
+import session_coverage as coverage  # noqa: E402
 import session_files as files  # noqa: E402
 from session_files import ROOT, calls  # noqa: E402
 import picture  # noqa: E402
@@ -344,6 +346,65 @@ class SessionFiles(unittest.TestCase):
         self.assertEqual(random_session.session("3", "0"), random_session.session(3, 0))
         self.assertGreater(len(random_session.session(3, 0)), 20000 * calls.CALL_BYTES)
         self.assertNotEqual(random_session.session(3, 4), random_session.session(3, 5))
+
+
+class HandedOver(unittest.TestCase):
+    """What session_coverage.py counts of one call, from its answer and the listings before and after."""
+
+    ROOT_LINE = "set 0 0 8 1\n"
+    VIRGIN = "set 1 1 0 0\nfile 1 0 2 1024\next 0 -1\next 64 -1\n"
+
+    def counted(self, text, counts, before, after):
+        """The names counted for a call that comes first, as if the listing before it were the start's."""
+        data = calls.from_text(text)
+        output = files.read_output("call 1 {} 0 {}\n".format(data[0] >> 4, " ".join(map(str, counts))))
+        listings = [files.read_output(listing).listing for listing in (before, after)]
+        found = coverage.seen_by_calls(data, output, lambda number: listings[number])
+        self.assertLessEqual(set(found), set(coverage.HANDING))
+        return {name for name, times in found.items() if times}
+
+    def test_a_delete_that_hands_over(self):
+        after = self.ROOT_LINE + "set 1 1 0 0\nfile 1 0 1 1024\next 0 7\next 2 -2\next 64 -1\n"
+        found = self.counted("delete set 0 file 0", (0, 0, 0), ROOT_FILE + self.VIRGIN, after)
+        to = ("hands over", "hands over to a read-only set", "hands over to a set of level 1", "hands over to a virgin file", "hands over, children with the file: 1")
+        self.assertEqual(found, {"delete hands over, copies nothing and marks nothing", *(f"delete {name}" for name in to)})
+
+    def test_copies_are_not_handed_over(self):
+        after = self.ROOT_LINE + "set 1 1 0 0\nfile 1 0 1 1024\next 0 9\next 2 -2\next 64 -1\n"
+        self.assertEqual(self.counted("delete set 0 file 0", (0, 2, 0), ROOT_FILE + self.VIRGIN, after), set())
+        moved = after.replace("ext 0 9\next 2 -2\n", "ext 0 8\next 1 7\next 2 -2\n")  # the same blocks, each at the other page
+        self.assertEqual(self.counted("delete set 0 file 0", (0, 2, 0), ROOT_FILE + self.VIRGIN, moved), set())
+        other = after.replace("file 1 0 1", "file 1 3 1").replace("ext 0 9", "ext 0 7")  # in another file
+        self.assertEqual(self.counted("delete set 0 file 0", (0, 0, 0), ROOT_FILE + self.VIRGIN, other), set())
+
+    def test_a_truncate_that_hands_over_one_page_and_keeps_the_other(self):
+        before = ROOT_FILE.replace("1024", "1000") + self.VIRGIN
+        after = "set 0 0 8 1\nfile 0 0 1 512\next 0 7\next 1 -1\next 64 -1\nset 1 1 0 0\nfile 1 0 1 1000\next 0 -1\next 1 8\next 2 -1\next 64 -1\n"
+        found = self.counted("truncate set 0 file 0 to 512", (0, 0, 0), before, after)
+        self.assertIn("truncate to a page's edge hands over", found)
+        self.assertIn("truncate hands over a last page that is not full", found)
+        self.assertNotIn("truncate hands over and frees", found)
+
+    def test_blocks_that_nobody_needs_are_freed(self):
+        child = copy_file(1, 0, "ext 0 20\next 2 -1\n")
+        after = self.ROOT_LINE + child.replace("ext 2 -1", "ext 2 -2")
+        found = self.counted("delete set 0 file 0", (0, 0, 0), ROOT_FILE + child, after)
+        self.assertEqual(found, {"delete frees what its live children do not need"})
+        marked = after + "set 2 1 0 0\nfile 2 3 3 0\n"  # which may hold them, for all that is listed
+        self.assertEqual(self.counted("delete set 0 file 0", (0, 0, 0), ROOT_FILE + child, marked), set())
+
+    def test_the_first_child_is_marked_and_the_next_takes_over(self):
+        before = ROOT_FILE + self.VIRGIN + copy_file(2, 0, "ext 0 20\next 1 -1\n")
+        after = "set 0 0 8 1\nfile 0 0 1 100\next 0 7\next 1 -1\next 64 -1\nset 1 1 0 0\nfile 1 0 3 0\n"
+        after += copy_file(2, 0, "ext 0 20\next 1 8\next 2 -1\n")
+        found = self.counted("truncate set 0 file 0 to 100", (0, 0, 1), before, after)
+        for name in ("hands over and marks", "hands over to another child than the first", "hands over to the next child, since it marks the first"):
+            self.assertIn(f"truncate {name}", found)
+
+    def test_every_name_is_wanted_once(self):
+        wanted = coverage.wanted()
+        self.assertEqual(len(wanted), len(set(wanted)))
+        self.assertLess(set(coverage.HANDING), set(wanted))
 
 
 class SessionPrograms(unittest.TestCase):

@@ -3,7 +3,7 @@
 use mathlib.Core.Bool.{false, true}
 use mathlib.Core.Option.{some}
 use mathlib.Core.Path.{_≡_}
-use Prim.Native.Nat.{_<_, ℕ}
+use Prim.Native.Nat.{_*_, _<_, ℕ}
 use lib.ListN.{length}
 use Rattle.history.specs.Demand3.{MarksRightly}
 use Rattle.history.specs.Image.{Image, after, storeIn}
@@ -11,7 +11,7 @@ use Rattle.packing.specs.Words.{Bytes}
 use Rattle.rules.specs.Calls.{Store, byteByReading, treeIn}
 use Rattle.rules.specs.Numbers.{Call, delete, truncate}
 use Rattle.rules.specs.Reading.{sizeByReading}
-use Rattle.rules.specs.State.{isAbsent, isMarked}
+use Rattle.rules.specs.State.{isAbsent, isMarked, pageBytes, pageCount}
 use Rattle.rules.specs.Storage.{real}
 use Rattle.tables.specs.Packed.{wellFormed}
 
@@ -20,18 +20,19 @@ pub data Drops (s f : ℕ) : Call → Type 0 where
   by-delete : Drops s f (delete s f)
   by-truncate : (n : ℕ) → Drops s f (truncate s f n)
 
--- file f of set s reads in st′ as in st: it is absent in both or in neither, was not marked, has the same size by reading, and the same bytes
+-- file f of set s reads in st′ as in st: it is absent in both or in neither; it was not marked; it has the same size by reading; and, if it is present, the same bytes in its
+-- 64 pages: all that a read gives, and those past the size too, which it shows when it grows
 pub record ReadsAs (st st′ : Store real) (f s : ℕ) : Type 0 where
   pub present : isAbsent (st′ .files f s .state) ≡ isAbsent (st .files f s .state)
   pub unmarked : isMarked (st .files f s .state) ≡ false
   pub size : sizeByReading (treeIn real st′) (st′ .files f) s ≡ sizeByReading (treeIn real st) (st .files f) s
-  pub bytes : (i : ℕ) → i < sizeByReading (treeIn real st) (st .files f) s → byteByReading st′ s f i ≡ byteByReading st s f i
+  pub bytes : isAbsent (st .files f s .state) ≡ false → (i : ℕ) → i < pageCount * pageBytes → byteByReading st′ s f i ≡ byteByReading st s f i
 
 -- what a call c that changes file f of set s leaves, from m on
 pub record OthersKept (s f : ℕ) (c : Call) (m : Image) : Type 0 where
-  -- every other file that is left unmarked, of whatever number and set, reads as before
+  -- every other file x of a set y that is left unmarked reads as before
   pub reads : (x y : ℕ) → (x ≡ f → y ≡ s → ⊥) → isMarked (storeIn (after c m) .files x y .state) ≡ false → ReadsAs (storeIn m) (storeIn (after c m)) x y
-  -- and a file becomes marked exactly as in demand 3: by a needed copy that finds, at its turn, no block free
+  -- and a file becomes marked exactly as in demand 3: by a needed copy that finds, at its turn, no block free (this is `formed` of Claims for one call)
   pub marks : MarksRightly m (some c) (after c m)
 
 -- all well-formed bytes, whoever made them; a call that is refused changes nothing

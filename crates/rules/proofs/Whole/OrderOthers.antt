@@ -2,11 +2,10 @@
 -- Assumes nothing.
 use mathlib.Core.Bool.{false, true}
 use mathlib.Core.Path.{ap, subst, sym, _∙_, _≡_}
-use Prim.Native.Nat.{_%_, _/_, _<_, ℕ, _≤_}
+use Prim.Native.Nat.{_%_, _*_, _/_, _<_, ℕ, _≤_}
 use native.Mathlib.Omega.{arith}
 use Rattle.base.specs.Logic.{test?}
 use Rattle.rules.proofs.Agreement.OthersRead.{OthersIn, StillIn, delete-others, truncate-others}
-use Rattle.rules.proofs.Formed.Shape.{size-most}
 use Rattle.rules.proofs.Steps.States.{absent-is, live-of, live-unmarked}
 use Rattle.rules.proofs.Steps.WriterSteps.{bytes, size-absent}
 use Rattle.rules.proofs.Storages.CountCalls.{modelOf}
@@ -52,11 +51,8 @@ module _ (B : ℕ) (r r′ : Store real) (o : InOrder B r) (o′ : InOrder B r�
       (λ e. size-model r′ s f ∙ k .size (live-of (r′ .files f s .state) e u) ∙ sym (size-model r s f))
 
   -- its bytes
-  pub same-bytes : (i : ℕ) → i < sizeByReading (treeIn real r) (r .files f) s → byteByReading r′ s f i ≡ byteByReading r s f i
-  same-bytes i l =
-      test? (isAbsent (r′ .files f s .state))
-      (λ e. absurd (let z = absent-size B r o f s (sym (k .presence) ∙ e) in omega arith))
-      (λ e. let z = size-most (treeIn real r) (modelOf r .files f) (o .formed .files-ok f .shape) s in
+  pub same-bytes : isAbsent (r .files f s .state) ≡ false → (i : ℕ) → i < 64 * 512 → byteByReading r′ s f i ≡ byteByReading r s f i
+  same-bytes e i l =
       byte-model r′ s f i
-      ∙ ap (λ x. bytes x (i % 512)) (k .page (i / 512) (omega (arith, size-model r s f)) (live-of (r′ .files f s .state) e u))
-      ∙ sym (byte-model r s f i))
+      ∙ ap (λ x. bytes x (i % 512)) (k .page (i / 512) (omega arith) (live-of (r′ .files f s .state) (k .presence ∙ e) u))
+      ∙ sym (byte-model r s f i)
