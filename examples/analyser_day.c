@@ -55,7 +55,7 @@ static uint32_t print_sweep(uint32_t set, uint32_t file)
     return got.number;
 }
 
-/* Deletes a sweep. Copies that still read it take over its blocks, also in a full store. */
+/* Deletes a sweep. The first copy that still needs its pages takes over the blocks, also in a full store. */
 static uint32_t delete_sweep(uint32_t file)
 {
     sweep_answer done = sweep_delete(STORE, WORK, file);

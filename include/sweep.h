@@ -83,13 +83,16 @@ sweep_answer sweep_write(uint8_t *tables, size_t tables_length, uint8_t *pages, 
 sweep_answer sweep_read(const uint8_t *tables, size_t tables_length, const uint8_t *pages, size_t pages_length,
                         uint32_t set, uint32_t file, uint32_t offset, uint8_t *buffer, size_t buffer_length);
 
-/* Cuts the file to size bytes, or fills it up with zeros. The block of a page that is cut off whole goes to the first child that
- * still reads it, which is no copy; others get copies. Counts: own blocks taken, copies, files newly marked. */
+/* Cuts the file to size bytes, or fills it up with zeros. Of a page that is cut off whole, a block of the file's own map goes to the
+ * first child that needs it, which counts as no copy; other children that need it get copies. So does every child that needs
+ * a page which the file reads through its parent, or the page in which the cut ends. Blocks that no child needs are freed.
+ * Counts: own blocks taken, copies, files newly marked. */
 sweep_answer sweep_truncate(uint8_t *tables, size_t tables_length, uint8_t *pages, size_t pages_length,
                             uint32_t set, uint32_t file, uint32_t size);
 
-/* Deletes the file. Each of its blocks goes to the first child that still reads it, which is no copy; others get copies. What no
- * child reads is freed. Counts: 0, copies, files newly marked. */
+/* Deletes the file. Each block of its own map goes to the first child that needs it, which counts as no copy; other children that
+ * need it get copies, and so does every child that needs a page which the file reads through its parent. Blocks that no
+ * child needs are freed. Counts: 0, copies, files newly marked. */
 sweep_answer sweep_delete(uint8_t *tables, size_t tables_length, uint8_t *pages, size_t pages_length,
                           uint32_t set, uint32_t file);
 

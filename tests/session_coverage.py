@@ -290,56 +290,79 @@ def count_dropped(call, answer, before, after, taken, count):
         assert f"{name} {does}" in HANDING, does
         count[f"{name} {does}"] += bool(holds)
 
-    def was(number):
-        return before.files.get((number, call.file), ABSENT)
+    drop = dropped_by(call, before, after, taken)
+    taken.update((number, call.file, page, drop.blocks[page]) for number in drop.heirs for page in drop.given[number])
+    _, copies, marked = answer.counts
+    add("frees what was handed over before", drop.freed & drop.old)
+    add("frees what its live children do not need", drop.freed and drop.children and not (drop.heirs or copies or marked))
+    add("hands over", drop.heirs)
+    if drop.heirs:
+        count_handing_over(drop, answer, len(used(before)) == LAST_BLOCK + 1, add)
+        count_heirs(drop, before.sets, add)
+        if call.op == 3:
+            count_cut(call.offset, drop, answer, add)
 
-    def now(number):
-        return after.files.get((number, call.file), ABSENT)
 
-    dropped = {page: block for page, block in was(call.set).blocks.items() if page not in now(call.set).blocks}
-    children = [number for number, (_, parent, _) in before.sets.items() if parent == call.set and was(number).state]
-    given = {number: {page for page, block in dropped.items() if now(number).blocks.get(page) == block} for number in children}
+# What a delete or truncate drops. blocks: page -> block; children: the child sets that have the file, in order of making;
+# given: child -> pages handed over to it; heirs: the children with any; old: pages whose block was handed over to this file
+# before; freed: pages whose block is free afterwards; was and now: the file before and after, by set; size: before the call
+Drop = collections.namedtuple("Drop", "blocks children given heirs old freed was now size")
+
+
+def dropped_by(call, before, after, taken):
+    was, now = ({number: tree.files.get((number, call.file), ABSENT) for number in before.sets} for tree in (before, after))
+    blocks = {page: block for page, block in was[call.set].blocks.items() if page not in now[call.set].blocks}
+    children = [number for number, (_, parent, _) in before.sets.items() if parent == call.set and was[number].state]
+    given = {number: {page for page, block in blocks.items() if now[number].blocks.get(page) == block} for number in children}
     heirs = [number for number in children if given[number]]
-    old = {page for page, block in dropped.items() if (call.set, call.file, page, block) in taken}
-    taken.update((number, call.file, page, dropped[page]) for number in heirs for page in given[number])
+    old = {page for page, block in blocks.items() if (call.set, call.file, page, block) in taken}
     # A block that no file lists is free, if no file is marked.
     sure = all(held.state != MARKED for held in after.files.values())
-    freed = {page for page, block in dropped.items() if sure and block not in used(after)}
-    own, copies, marked = answer.counts
+    freed = {page for page, block in blocks.items() if sure and block not in used(after)}
+    return Drop(blocks, children, given, heirs, old, freed, was, now, was[call.set].size)
 
-    add("frees what was handed over before", freed & old)
-    add("frees what its live children do not need", freed and children and not (heirs or copies or marked))
-    add("hands over", heirs)
-    if not heirs:
-        return
+
+def pages_given(drop):
+    return set().union(*drop.given.values())
+
+
+def count_handing_over(drop, answer, full, add):
+    """Counts what else a call does that hands blocks over."""
+    own, copies, marked = answer.counts
     add("hands over, copies nothing and marks nothing", not (own or copies or marked))
     add("hands over and copies", copies and not marked)
     add("hands over and marks", marked and not copies)
     add("hands over, copies and marks", copies and marked)
-    add("hands over and copies for the same child", copies and len(children) == 1)
-    add("hands over and frees", freed)
-    full = len(used(before)) == LAST_BLOCK + 1
+    add("hands over and copies for the same child", copies and len(drop.children) == 1)
+    add("hands over and frees", drop.freed)
     add("hands over with all 64 blocks used", full)
     add("hands over with all 64 blocks used and marks", full and marked)
-    add(f"hands over, children with the file: {len(children)}", True)
-    for number in heirs:
-        level, _, writeable = before.sets[number]
+    add("hands over what was handed over before", pages_given(drop) & drop.old)
+
+
+def count_heirs(drop, sets, add):
+    """Counts to whom a call hands blocks over."""
+    add(f"hands over, children with the file: {len(drop.children)}", True)
+    for number in drop.heirs:
+        level, _, writeable = sets[number]
         add(f"hands over to a set of level {level}", True)
         add("hands over to a writeable set" if writeable else "hands over to a read-only set", True)
-        add("hands over to a virgin file" if was(number).state == VIRGIN else "hands over to an own file", True)
-    add("hands over to several children", len(heirs) > 1)
-    add("hands over to another child than the first", heirs != children[:1])
+        add("hands over to a virgin file" if drop.was[number].state == VIRGIN else "hands over to an own file", True)
+    add("hands over to several children", len(drop.heirs) > 1)
+    add("hands over to another child than the first", drop.heirs != drop.children[:1])
     # A virgin file needs every page, so only its marking lets another child take one over.
-    lost = (was(children[0]).state, now(children[0]).state) == (VIRGIN, MARKED)
+    first = drop.children[0]
+    lost = (drop.was[first].state, drop.now[first].state) == (VIRGIN, MARKED)
     add("hands over to the next child, since it marks the first", lost)
-    pages = set().union(*given.values())
-    add("hands over what was handed over before", pages & old)
-    if call.op == 3:
-        size = was(call.set).size
-        add("takes own blocks, hands over, copies and marks", own and copies and marked)
-        add("to 0 hands over", call.offset == 0)
-        add("inside a page hands over" if call.offset % PAGE_BYTES else "to a page's edge hands over", True)
-        add("hands over a last page that is not full", size % PAGE_BYTES and size // PAGE_BYTES in pages)
+
+
+def count_cut(size, drop, answer, add):
+    """Counts where a truncate that hands blocks over cuts the file."""
+    add("takes own blocks, hands over, copies and marks", all(answer.counts))
+    add("to 0 hands over", size == 0)
+    add("inside a page hands over" if size % PAGE_BYTES else "to a page's edge hands over", True)
+    last_is_given = drop.size // PAGE_BYTES in pages_given(drop)
+    add("hands over a last page that is not full", drop.size % PAGE_BYTES and last_is_given)
 
 
 def out_of_table(count):

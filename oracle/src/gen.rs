@@ -149,10 +149,10 @@ impl Scene {
 }
 
 /// Calls that make a family: a file with stored pages in set 0 or in the middle
-/// of the tree, up to seven children of its set that need them, each with a
-/// life of its own, and few blocks free. Then calls that cut or delete this
-/// file, so that its blocks are handed over, and perhaps some other files of
-/// its number.
+/// of the tree, up to seven children of its set that need them, changed in
+/// different ways, and few blocks free. Then calls that cut or delete this file,
+/// so that its blocks are handed over, and perhaps some other files of its
+/// number.
 fn family_calls(rng: &mut Rng, style: &Style) -> (Vec<Call>, Vec<Call>) {
     let mut scene = Scene::new(rng, style);
     let set = make_ancestors(rng, &mut scene);
@@ -376,11 +376,11 @@ fn needed_pages(beside: &Beside, set: u32, file: u32) -> Vec<usize> {
 
 /// A set and a file of it: mostly one that the call can work on, often one
 /// whose children need its pages, and for a truncate or delete sometimes one
-/// that has outlived its parent's.
+/// with stored pages whose parent's file is absent.
 fn target(rng: &mut Rng, style: &Style, beside: &Beside, drops: bool) -> (u32, u32) {
     let mut list = if rng.percent(85) { changeable_files(beside) } else { present_files(beside) };
     if drops && rng.percent(15) {
-        prefer(&mut list, |(set, file)| has_outlived_its_parents(beside, set, file));
+        prefer(&mut list, |(set, file)| is_stored_but_absent_in_parent(beside, set, file));
     } else if rng.percent(if drops { 65 } else { 50 }) {
         prefer(&mut list, |(set, file)| !needed_pages(beside, set, file).is_empty());
     }
@@ -395,7 +395,7 @@ fn target(rng: &mut Rng, style: &Style, beside: &Beside, drops: bool) -> (u32, u
 
 /// A file with stored pages whose parent's file is absent: it may have got them
 /// when that one was deleted.
-fn has_outlived_its_parents(beside: &Beside, set: u32, file: u32) -> bool {
+fn is_stored_but_absent_in_parent(beside: &Beside, set: u32, file: u32) -> bool {
     let tally = &beside.tally;
     let parent = tally.set(set as usize).parent;
     !stored_pages(beside, set, file).is_empty()
@@ -718,56 +718,78 @@ pub fn twist(rng: &mut Rng, tables: &mut [u8], pages: &mut [u8]) {
 }
 
 fn twist_once(rng: &mut Rng, state: &mut State) -> Option<()> {
-    let present = files(state, |_, record| record.is_present());
     match rng.below(14) {
         0 => state.next_start = rng.below(state.block_count),
-        1 => {
-            let set = rng.pick_any(&sets(state, |set, record| set != 0 && record.used))?;
-            state.sets[set].writeable = !state.sets[set].writeable;
-        }
-        2 => {
-            let (set, file) = rng.pick_any(&present)?;
-            state.files[set][file].state = FileState::Marked;
-        }
-        3 => {
-            let (set, file) = rng.pick_any(&present)?;
-            let random = rng.below(LARGEST_SIZE + 1);
-            state.files[set][file].size = rng.pick(&[0, 512, LARGEST_SIZE, random, random]);
-        }
-        4 => {
-            // A marked file becomes own again.
-            let marked = files(state, |_, record| record.state == FileState::Marked);
-            let (set, file) = rng.pick_any(&marked)?;
-            state.files[set][file].state = FileState::Own;
-        }
-        5 => {
-            // A file becomes virgin.
-            let (set, file) = rng.pick_any(&present)?;
-            state.drop_file(set, file);
-            state.files[set][file].state = FileState::Virgin;
-        }
+        1 => twist_writeable(rng, state)?,
+        2 => twist_mark(rng, state)?,
+        3 => twist_size(rng, state)?,
+        4 => twist_unmark(rng, state)?,
+        5 => twist_to_virgin(rng, state)?,
         6 => twist_new_set(rng, state)?,
         7 => twist_fill(rng, state)?,
         8 => twist_swap(rng, state)?,
-        _ => {
-            let place = twisted_place(rng, state)?;
-            let old = *entry_at(state, place);
-            state.free_entry(old);
-            let block = free_block(rng, state);
-            let new = rng.pick(&[UNMAPPED, HOLE, block.map_or(UNMAPPED, stored)]);
-            if new.kind == Kind::Stored {
-                state.bits[new.block] = true;
-            }
-            *entry_at(state, place) = new;
-        }
+        _ => twist_entry(rng, state)?,
     }
     Some(())
 }
 
+/// A set other than set 0 becomes writeable or read-only.
+fn twist_writeable(rng: &mut Rng, state: &mut State) -> Option<()> {
+    let set = rng.pick_any(&sets(state, |set, record| set != 0 && record.used))?;
+    state.sets[set].writeable = !state.sets[set].writeable;
+    Some(())
+}
+
+fn twist_mark(rng: &mut Rng, state: &mut State) -> Option<()> {
+    let (set, file) = any_present(rng, state)?;
+    state.files[set][file].state = FileState::Marked;
+    Some(())
+}
+
+fn twist_size(rng: &mut Rng, state: &mut State) -> Option<()> {
+    let (set, file) = any_present(rng, state)?;
+    let random = rng.below(LARGEST_SIZE + 1);
+    state.files[set][file].size = rng.pick(&[0, 512, LARGEST_SIZE, random, random]);
+    Some(())
+}
+
+/// A marked file becomes own again.
+fn twist_unmark(rng: &mut Rng, state: &mut State) -> Option<()> {
+    let marked = files(state, |_, record| record.state == FileState::Marked);
+    let (set, file) = rng.pick_any(&marked)?;
+    state.files[set][file].state = FileState::Own;
+    Some(())
+}
+
+/// A file becomes virgin.
+fn twist_to_virgin(rng: &mut Rng, state: &mut State) -> Option<()> {
+    let (set, file) = any_present(rng, state)?;
+    state.drop_file(set, file);
+    state.files[set][file].state = FileState::Virgin;
+    Some(())
+}
+
+/// An entry becomes unmapped, a hole or stored in a free block.
+fn twist_entry(rng: &mut Rng, state: &mut State) -> Option<()> {
+    let place = twisted_place(rng, state)?;
+    let old = *entry_at(state, place);
+    state.free_entry(old);
+    let block = free_block(rng, state);
+    let new = rng.pick(&[UNMAPPED, HOLE, block.map_or(UNMAPPED, stored)]);
+    if new.kind == Kind::Stored {
+        state.bits[new.block] = true;
+    }
+    *entry_at(state, place) = new;
+    Some(())
+}
+
+fn any_present(rng: &mut Rng, state: &State) -> Option<(usize, usize)> {
+    rng.pick_any(&files(state, |_, record| record.is_present()))
+}
+
 /// An entry of a present file, mostly at a page that some file has stored.
 fn twisted_place(rng: &mut Rng, state: &State) -> Option<Place> {
-    let present = files(state, |_, record| record.is_present());
-    let (set, file) = rng.pick_any(&present)?;
+    let (set, file) = any_present(rng, state)?;
     let page = match rng.pick_any(&stored_entries(state)) {
         Some((_, _, page)) if rng.percent(70) => page,
         _ => rng.below(PAGES),

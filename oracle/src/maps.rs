@@ -160,34 +160,45 @@ impl State {
                 if !self.needs(child, file, page) {
                     continue;
                 }
-                match resolved {
+                let Resolved::Stored(source) = resolved else {
                     // "a page resolving to a hole becomes a hole there"
-                    Resolved::Hole => self.files[child][file].entries[page] = HOLE,
-                    // Document 02: "When delete, or truncate dropping a whole
-                    // page, reaches a page stored in the file's own map, the
-                    // first child that needs it takes over the block itself."
-                    Resolved::Stored(_)
-                        if dropped.contains(&page) && self.is_stored(set, file, page) =>
-                    {
-                        self.hand_over(set, child, file, page)
-                    }
-                    // "One resolving to stored is copied to a block taken;
-                    // with none free, the child's file is marked." Document
-                    // 02: "Other children needing it still get copies. Pages
-                    // that the file only reads through its parent are copied
-                    // as before, and so is the part page of a truncate."
-                    Resolved::Stored(source) => match self.take_block() {
-                        Some(block) => {
-                            copy_block(pages, source, block);
-                            self.files[child][file].entries[page] = stored(block);
-                            copies += 1;
-                        }
-                        None => marked += self.mark(child, file),
-                    },
+                    self.files[child][file].entries[page] = HOLE;
+                    continue;
+                };
+                // Document 02: "When delete, or truncate dropping a whole page,
+                // reaches a page stored in the file's own map, the first child
+                // that needs it takes over the block itself."
+                if dropped.contains(&page) && self.is_stored(set, file, page) {
+                    self.hand_over(set, child, file, page);
+                } else if self.copy_to_child(pages, source, child, file, page) {
+                    copies += 1;
+                } else {
+                    marked += self.mark(child, file);
                 }
             }
         }
         (copies, marked)
+    }
+
+    /// "One resolving to stored is copied to a block taken; with none free, the
+    /// child's file is marked." Document 02: "Other children needing it still
+    /// get copies. Pages that the file only reads through its parent are copied
+    /// as before, and so is the part page of a truncate." Gives false, and
+    /// changes nothing, if none is free.
+    fn copy_to_child(
+        &mut self,
+        pages: &mut [u8],
+        source: usize,
+        child: usize,
+        file: usize,
+        page: usize,
+    ) -> bool {
+        let Some(block) = self.take_block() else {
+            return false;
+        };
+        copy_block(pages, source, block);
+        self.files[child][file].entries[page] = stored(block);
+        true
     }
 
     /// Gives a child the block of a page. The block leaves this file's map at

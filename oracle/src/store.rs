@@ -398,15 +398,19 @@ fn truncate_below(
     if has_part_page {
         zero_from(state, pages, set, file, new_size);
     }
-    // "All other touched pages become holes in this map, their blocks free."
-    // Document 02, of a block handed over: "the delete or truncate itself does
-    // not free it"; it is in this map no longer.
-    for page in dropped {
-        let entry = state.files[set][file].entries[page];
-        state.free_entry(entry);
-        state.files[set][file].entries[page] = HOLE;
-    }
+    turn_to_holes(state, set, file, &dropped);
     Ok([u32::from(needs_own), copies, marked])
+}
+
+/// "All other touched pages become holes in this map, their blocks free."
+/// Document 02, of a block handed over: "the delete or truncate itself does not
+/// free it"; it is in this map no longer.
+fn turn_to_holes(state: &mut State, set: usize, file: usize, dropped: &[usize]) {
+    for page in dropped {
+        let entry = state.files[set][file].entries[*page];
+        state.free_entry(entry);
+        state.files[set][file].entries[*page] = HOLE;
+    }
 }
 
 /// "If t is no multiple of 512, its page, where stored, is zeroed from t on,

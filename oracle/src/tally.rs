@@ -70,8 +70,8 @@ struct Given {
     copies: u32,
     /// Files newly marked.
     marked: u32,
-    /// Blocks inherited: the call frees so many fewer.
-    inherited: usize,
+    /// Blocks handed over: the call frees so many fewer.
+    handed_over: usize,
 }
 
 impl Tally {
@@ -196,7 +196,7 @@ impl Tally {
             if page >= first_dropped && stored_here {
                 if let Some(heir) = waiting.next() {
                     self.file_mut(heir, file).kinds[page] = Stored;
-                    given.inherited += 1;
+                    given.handed_over += 1;
                 }
             }
             let (kind, _) = self.resolves(set, file, page);
@@ -207,10 +207,10 @@ impl Tally {
         given
     }
 
-    /// What a waiting child gets at its turn, if it inherits nothing. "A needed
-    /// copy is step 4's, of a needed page resolving to stored; it finds none
-    /// free if, at its turn, no block is free, own blocks and that call's
-    /// earlier copies being taken."
+    /// What a waiting child gets at its turn, if no block is handed over to it.
+    /// "A needed copy is step 4's, of a needed page resolving to stored; it
+    /// finds none free if, at its turn, no block is free, own blocks and that
+    /// call's earlier copies being taken."
     fn give(&mut self, child: usize, file: usize, page: usize, kind: TallyKind, given: &mut Given) {
         if kind == Stored && self.free == 0 {
             given.marked += self.mark(child, file);
@@ -282,7 +282,7 @@ impl Tally {
             self.cut(set, file, size, own == 1, &touched);
             // Document 02, of a block handed over: "the delete or truncate
             // itself does not free it".
-            self.free -= given.inherited;
+            self.free -= given.handed_over;
         }
         self.file_mut(set, file).size = size;
         [own as u32, given.copies, given.marked]
@@ -314,7 +314,7 @@ impl Tally {
         }
         // Document 02, of a block handed over: "the delete or truncate itself
         // does not free it".
-        self.free += self.file(set, file).stored_pages() - given.inherited;
+        self.free += self.file(set, file).stored_pages() - given.handed_over;
         *self.file_mut(set, file) = TallyFile::new(Condition::Absent, Unmapped);
         [0, given.copies, given.marked]
     }

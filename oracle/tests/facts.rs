@@ -1,6 +1,6 @@
-//! Facts about every store (docs/DECISIONS.md, "Readings of 01", as Ask 2 of
-//! document 02 changes them), held after every call of random histories. Those
-//! of calls are held on random well-formed stores too.
+//! Facts found by running the store, which follow from documents 01 and 02 (Ask
+//! 2). Each is checked after every call of random histories, and those of calls
+//! on random well-formed stores too.
 
 use oracle::call::*;
 use oracle::maps::{block_range, Resolved};
@@ -21,8 +21,8 @@ fn all_files(state: &State) -> Vec<(usize, usize)> {
 
 // Facts of states.
 
-/// Fact 1: "In an own or virgin file every byte at or past the size by reading
-/// is 0 in the page it resolves to."
+/// In an own or virgin file every byte at or past the size by reading is 0 in
+/// the page it resolves to.
 fn zero_tail(state: &State, pages: &[u8], set: usize, file: usize) {
     let size = state.size_by_reading(set, file);
     for page in size / PAGE_BYTES..PAGES {
@@ -34,7 +34,7 @@ fn zero_tail(state: &State, pages: &[u8], set: usize, file: usize) {
     }
 }
 
-/// Fact 2: "A marked file's own or virgin children have no unmapped entry".
+/// The own or virgin children of a marked file have no unmapped entry.
 fn children_of_a_marked_file(state: &State, set: usize, file: usize) {
     for child in state.children(set) {
         let record = &state.files[child][file];
@@ -42,8 +42,10 @@ fn children_of_a_marked_file(state: &State, set: usize, file: usize) {
     }
 }
 
-/// Facts 3 to 5, of a marked file in a store that calls have led to.
-fn marked_facts(state: &State, pages: &[u8], set: usize, file: usize) {
+/// In a store that calls have led to, a marked file has an unmapped entry, its
+/// parent's file is not virgin, its stored pages begin before its recorded size,
+/// and their bytes past that size are 0.
+fn maps_of_marked_files(state: &State, pages: &[u8], set: usize, file: usize) {
     let record = &state.files[set][file];
     assert!(record.has_unmapped());
     assert_ne!(state.files[state.sets[set].parent][file].state, FileState::Virgin);
@@ -64,7 +66,7 @@ fn facts_of_states() {
                 zero_tail(seen.after, seen.pages_after, set, file);
             } else {
                 children_of_a_marked_file(seen.after, set, file);
-                marked_facts(seen.after, seen.pages_after, set, file);
+                maps_of_marked_files(seen.after, seen.pages_after, set, file);
             }
         }
     });
@@ -77,12 +79,12 @@ fn facts_of_states() {
     });
 }
 
-// Facts of an accepted write, truncate or delete of file F in set S.
+// Facts of an accepted write, truncate or delete. "This file" is the file that
+// the call names, and its children are the files of its number in child sets.
 
-/// Fact 6: "Set records do not change. File records change only at (S,F), at
-/// (C,F) for children C of S, and deeper down only by state own or virgin
-/// becoming marked."
-fn fact_6(change: &Change) {
+/// No set record changes. File records change only for this file and its
+/// children, and deeper down only by state own or virgin becoming marked.
+fn records_change_here_and_below(change: &Change) {
     let (before, after) = (change.seen.before, change.seen.after);
     assert_eq!(before.sets, after.sets);
     assert_eq!(before.block_count, after.block_count);
@@ -107,9 +109,9 @@ fn is_below(state: &State, set: usize, above: usize) -> bool {
     set != 0 && state.sets[set].used && (parent == above || is_below(state, parent, above))
 }
 
-/// Fact 7: "A child's entry changes only from unmapped and only at a touched
-/// page; afterwards no live child needs a touched page."
-fn fact_7(change: &Change) {
+/// A child's entry changes only from unmapped and only at a touched page.
+/// Afterwards no own or virgin child needs a touched page.
+fn children_no_longer_need_touched_pages(change: &Change) {
     for child in change.children() {
         for page in 0..PAGES {
             let old = change.seen.before.files[child][change.file].entries[page];
@@ -132,10 +134,10 @@ fn resolved<'a>(
     }
 }
 
-/// Fact 8: "In every other file of number F that is own or virgin afterwards,
-/// all 64 pages (also past the size) resolve to the same kind and the same 512
-/// bytes as before, and the size by reading is the same."
-fn fact_8(change: &Change) {
+/// In every other file of this number that is own or virgin afterwards, all 64
+/// pages (also past the size) resolve to the same kind and the same 512 bytes as
+/// before, and the size by reading is the same.
+fn others_resolve_as_before(change: &Change) {
     let Seen { before, after, .. } = *change.seen;
     let file = change.file;
     for set in (0..SETS).filter(|set| *set != change.set) {
@@ -151,8 +153,8 @@ fn fact_8(change: &Change) {
     }
 }
 
-/// N: "pairs (child, touched page) with the child needing it and (S,F)
-/// resolving to stored", before the call.
+/// How many pairs there are, before the call, of a child and a touched page that
+/// it needs and that resolves to stored in this file.
 fn needed(change: &Change) -> usize {
     let before = change.seen.before;
     let stored = |page: &&usize| before.resolve(change.set, change.file, **page) != Resolved::Hole;
@@ -163,8 +165,8 @@ fn needed(change: &Change) -> usize {
     change.touched.iter().filter(stored).map(needing).sum()
 }
 
-/// H: "pages dropped whole, stored in (S,F)'s map, needed by some child",
-/// before the call.
+/// How many pages dropped whole are, before the call, stored in this file's own
+/// map and needed by some child.
 fn to_hand_over(change: &Change) -> usize {
     let before = change.seen.before;
     let needed = |page: &&usize| {
@@ -174,10 +176,11 @@ fn to_hand_over(change: &Change) -> usize {
     change.whole.iter().filter(stored).filter(needed).count()
 }
 
-/// Facts 9 and 10: "Copies = min(N - H, free - own)", and "some file is marked
-/// exactly when N - H > free - own". Fact 20: "handed <= H, and = H if nothing
-/// is marked."
-fn facts_9_10_and_20(change: &Change) {
+/// The copies called for are the pages needed less those to hand over. All are
+/// made, or as many as blocks are free besides the own blocks if those are too
+/// few; exactly then some file is marked. At most the pages to hand over are
+/// handed over, and all of them if nothing is marked.
+fn copies_marking_and_handing_over(change: &Change) {
     let Seen { answer, before, call, .. } = *change.seen;
     let (needed, to_hand_over) = (needed(change), to_hand_over(change));
     let room = before.free_blocks() - answer.first as usize;
@@ -192,10 +195,9 @@ fn marked_count(state: &State) -> usize {
     all_files(state).iter().filter(marked).count()
 }
 
-/// Fact 11: "Marked files after = before + third count (less a marked file
-/// deleted)." Fact 23: "A file marked by a call was live with an unmapped entry
-/// before it."
-fn facts_11_and_23(change: &Change) {
+/// The marked files grow by the third count, less a marked file deleted. A file
+/// marked by a call was own or virgin with an unmapped entry before it.
+fn third_count_is_files_newly_marked(change: &Change) {
     let Seen { answer, before, after, .. } = *change.seen;
     let was_marked = before.files[change.set][change.file].state == FileState::Marked;
     let gone = usize::from(was_marked && after.files[change.set][change.file] == ABSENT_FILE);
@@ -206,16 +208,16 @@ fn facts_11_and_23(change: &Change) {
     }
 }
 
-/// The blocks in (S,F)'s own map.
+/// The blocks in this file's own map.
 fn own_blocks(change: &Change, state: &State) -> BTreeSet<usize> {
     let entries = state.files[change.set][change.file].entries;
     entries.iter().filter(|e| e.kind == Kind::Stored).map(|e| e.block).collect()
 }
 
-/// Fact 12: "Bytes change only in blocks that were free or were stored in
-/// (S,F)'s own map. Bits fall only for blocks of (S,F)'s own map", and neither
-/// is so of a block handed over.
-fn fact_12(change: &Change) {
+/// Bytes change only in blocks that were free or were stored in this file's own
+/// map. Bits become 0 only for blocks of this file's own map. Neither happens to
+/// a block handed over.
+fn other_used_blocks_stay(change: &Change) {
     let Seen { before, after, pages_before, pages_after, call, .. } = *change.seen;
     let mut own = own_blocks(change, before);
     for handed in &change.handed {
@@ -229,11 +231,12 @@ fn fact_12(change: &Change) {
     }
 }
 
-/// Fact 13: "Free after = free before - own - copies + blocks dropped from
-/// (S,F)'s map", less those handed over. "Own + copies <= free before, and <=
-/// touched x (1 + children). Next start stays when own + copies = 0. After a
-/// write that marks, no block is free."
-fn fact_13(change: &Change) {
+/// Own blocks and copies come from the free blocks, and the blocks that leave
+/// this file's map become free, except those handed over. Own blocks and copies
+/// are at most the blocks free before, and at most the touched pages times one
+/// more than the children. Without any, next start stays. After a write that
+/// marks, no block is free. A write hands nothing over.
+fn free_blocks_add_up(change: &Change) {
     let Seen { answer, before, after, call, .. } = *change.seen;
     let gone = own_blocks(change, before).difference(&own_blocks(change, after)).count();
     let taken = (answer.first + answer.second) as usize;
@@ -247,10 +250,10 @@ fn fact_13(change: &Change) {
     assert!(!write || change.handed.is_empty(), "{call}");
 }
 
-/// Fact 14: "After a nonempty write every touched page is stored in (S,F)'s
-/// map. A write with own need 0 in a set without children changes nothing in
-/// the tables but the size."
-fn fact_14(change: &Change) {
+/// After a write every touched page is stored in this file's map. A write with
+/// own need 0 in a set without children changes nothing in the tables but the
+/// size.
+fn written_pages_are_stored(change: &Change) {
     let Seen { answer, before, after, call, .. } = *change.seen;
     if !matches!(call, Call::Write { .. }) {
         return;
@@ -265,9 +268,9 @@ fn fact_14(change: &Change) {
     }
 }
 
-/// Fact 16: "Create changes its record alone. Make changes no bit, byte or next
-/// start; remove no byte or next start."
-fn fact_16(seen: &Seen) {
+/// Create changes its record alone. Make changes no bit, page byte or next start,
+/// and remove no page byte or next start.
+fn create_make_and_remove(seen: &Seen) {
     let Seen { before, after, call, .. } = *seen;
     assert!(seen.pages_before == seen.pages_after, "{call}");
     assert_eq!(before.next_start, after.next_start, "{call}");
@@ -286,17 +289,17 @@ fn fact_16(seen: &Seen) {
 /// All facts of one call; gives its counts and the blocks handed over.
 fn facts_of_call(seen: &Seen) -> [usize; 4] {
     let Some(change) = Change::of(seen) else {
-        fact_16(seen);
+        create_make_and_remove(seen);
         return [0; 4];
     };
-    fact_6(&change);
-    fact_7(&change);
-    fact_8(&change);
-    facts_9_10_and_20(&change);
-    facts_11_and_23(&change);
-    fact_12(&change);
-    fact_13(&change);
-    fact_14(&change);
+    records_change_here_and_below(&change);
+    children_no_longer_need_touched_pages(&change);
+    others_resolve_as_before(&change);
+    copies_marking_and_handing_over(&change);
+    third_count_is_files_newly_marked(&change);
+    other_used_blocks_stay(&change);
+    free_blocks_add_up(&change);
+    written_pages_are_stored(&change);
     let Answer { first, second, third, .. } = seen.answer;
     [first as usize, second as usize, third as usize, change.handed.len()]
 }

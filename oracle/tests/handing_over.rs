@@ -1,8 +1,8 @@
-//! Ask 2 of document 02, "Delete hands its blocks to the copy", reading by
-//! reading (docs/DECISIONS.md, readings 2 to 8 of document 02). The expected
-//! answers, maps and bytes were worked out by hand from the papers. Each script
-//! runs with plain store and tally beside. All files have number 0; in the
-//! comments "set 1" is short for the file of set 1.
+//! Ask 2 of document 02, "Delete hands its blocks to the copy", as it is read
+//! in docs/DECISIONS.md, "Readings of 02", Ask 2. The expected answers, maps and
+//! bytes were worked out by hand from the papers. Each script runs with plain
+//! store and tally beside. All files have number 0; in the comments "set 1" is
+//! short for the file of set 1.
 
 use oracle::bench::{Bench, NoOther};
 use oracle::call::*;
@@ -89,7 +89,7 @@ fn pages(seeds: &[u32]) -> Vec<u8> {
 /// File 0 with page 0 of seed 1 in block 0 and page 1 of seed 2 in block 1.
 const TWO_PAGES: &str = "create 0 0; write 0 0 0 512 1; write 0 0 512 512 2";
 
-// Reading 2: which pages.
+// What is handed over.
 
 /// "M12 becomes 0; 0, 0, 0 with no block free."
 #[test]
@@ -281,7 +281,7 @@ fn nothing_else_hands_over() {
     assert_eq!((store.file(1).state, store.file(1).size), (FileState::Own, 512));
 }
 
-// Reading 3: the heir.
+// Who the heir is.
 
 /// The heir is first in order of making, not of number.
 #[test]
@@ -326,8 +326,8 @@ fn the_pages_of_one_call_may_have_different_heirs() {
     assert_eq!(store.free(), 0);
 }
 
-/// The list of reading 3. The first child is marked at the part page, so the
-/// next one takes page 1 over.
+/// The first child is marked at the part page, so the next one takes page 1
+/// over.
 #[test]
 fn a_child_marked_earlier_in_the_call_is_passed_over() {
     let script = "create 0 0; write 0 0 0 1024 1; make 0 1 1; make 0 2 1; write 2 0 0 512 7";
@@ -397,7 +397,7 @@ fn a_block_of_an_heir_marked_later_is_not_free_for_this_calls_copies() {
     assert_eq!(store.free(), 0);
 }
 
-// Reading 4: the other children.
+// The children behind the heir.
 
 /// "Other children needing it still get copies."
 #[test]
@@ -415,7 +415,7 @@ fn the_later_children_get_copies_of_the_same_block() {
     assert_eq!(store.free(), 0);
 }
 
-/// "with none free each is marked": set 2 at page 1, after it got a copy of
+/// With no block free each is marked: set 2 at page 1, after it got a copy of
 /// page 0; set 3 at page 0.
 #[test]
 fn the_later_children_are_marked_with_no_block_free() {
@@ -489,7 +489,7 @@ fn the_dependents_of_heir_and_marked_child() {
     assert_eq!(store.reads(4), pages(&[1]));
 }
 
-// Reading 5: with or without free blocks.
+// Free blocks or not.
 
 #[test]
 fn blocks_are_handed_over_in_a_store_with_room() {
@@ -500,7 +500,7 @@ fn blocks_are_handed_over_in_a_store_with_room() {
     assert_eq!((store.free(), store.state().next_start), (60, 4));
 }
 
-// Reading 6: when blocks are freed.
+// When blocks are freed.
 
 /// Both children have a hole at page 0, which set 0 wrote later. Its block 1
 /// comes free after step 4, so page 1 finds no block for set 2.
@@ -580,7 +580,7 @@ fn a_page_written_anew_after_a_truncate_is_another() {
     assert_eq!(store.reads(1), pages(&[1, 2]));
 }
 
-// Reading 7: what stays as in document 01.
+// What stays as in document 01.
 
 #[test]
 fn own_need_and_refusal_8_stay() {
@@ -608,8 +608,8 @@ fn virgin_children_become_own_with_their_size_first() {
     }
 }
 
-/// Fact 20: the only child is marked at the part page, so page 1's block has no
-/// heir and is freed.
+/// The only child is marked at the part page, so page 1's block has no heir and
+/// is freed.
 #[test]
 fn a_page_whose_only_heir_was_marked_is_freed() {
     let mut store = Store::after(2, "create 0 0; write 0 0 0 1024 1; make 0 1 0");
@@ -641,7 +641,7 @@ fn delete_of_a_marked_file_hands_nothing_over() {
     assert_eq!(store.free(), 1);
 }
 
-// Reading 8: to read-only sets too, and only to children.
+// Read-only sets take blocks over too; only children do.
 
 #[test]
 fn a_read_only_set_takes_blocks_over() {

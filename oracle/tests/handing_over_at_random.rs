@@ -104,7 +104,7 @@ struct Met {
     cases: BTreeMap<&'static str, usize>,
     by_children: [usize; SETS],
     /// Blocks handed over that the heir still has, with its set and file.
-    inherited: BTreeMap<usize, (usize, usize)>,
+    taken_over: BTreeMap<usize, (usize, usize)>,
 }
 
 impl Met {
@@ -114,7 +114,7 @@ impl Met {
 
     fn see(&mut self, seen: &Seen) {
         if seen.first {
-            self.inherited.clear();
+            self.taken_over.clear();
         }
         if let Some(change) = drops(seen) {
             self.see_drop(&change);
@@ -192,17 +192,17 @@ impl Met {
     /// What becomes later of blocks handed over.
     fn see_heirs(&mut self, seen: &Seen) {
         let delete = matches!(seen.call, Call::Delete { .. });
-        let freed = self.inherited.keys().any(|block| !seen.after.bits[*block]);
+        let freed = self.taken_over.keys().any(|block| !seen.after.bits[*block]);
         self.count("an heir's delete frees blocks handed over", freed && delete);
         self.count("an heir's truncate or removal frees blocks handed over", freed && !delete);
         if let Some(change) = Change::of(seen) {
-            let again = |handed: &Handed| self.inherited.contains_key(&handed.block);
+            let again = |handed: &Handed| self.taken_over.contains_key(&handed.block);
             let on = change.handed.iter().any(again);
             self.count("an heir hands blocks on", on);
             let places = change.handed.iter().map(|h| (h.block, (h.heir, change.file)));
-            self.inherited.extend(places);
+            self.taken_over.extend(places);
         }
-        self.inherited.retain(|block, (set, file)| {
+        self.taken_over.retain(|block, (set, file)| {
             seen.after.files[*set][*file].entries.contains(&stored(*block))
         });
     }

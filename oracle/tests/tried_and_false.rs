@@ -170,7 +170,8 @@ fn every_block_that_a_child_needs_before_the_call_is_handed_over() {
     assert!(after.is_marked(1) && !after.has_stored(1) && !after.state.bits[1]);
 }
 
-/// Claims about a block handed over.
+// Claims about a block handed over.
+
 #[test]
 fn the_heir_of_a_block_is_not_marked_by_the_call() {
     let after = after(
@@ -186,6 +187,8 @@ fn in_a_full_store_delete_of_an_own_file_marks_nothing() {
     let after = after(&format!("{FULL}; make 0 2 0; delete 0 0"));
     assert_eq!(after.answer, Answer::accepted([0, 0, 1]));
 }
+
+// Other claims.
 
 #[test]
 fn a_marked_child_got_no_copy_in_that_call() {

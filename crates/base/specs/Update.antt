@@ -29,6 +29,14 @@ module _ {A : Type 0} where
       (λ e. subst (λ x. upd (upd f i v) i w x ≡ upd f i w x) e (upd-same (upd f i v) i w ∙ sym (upd-same f i w)))
       (λ n. upd-other (upd f i v) i w j n ∙ upd-other f i v j n ∙ sym (upd-other f i w j n)))
 
+  -- values at two places: either may be put first
+  pub upd-swap : (f : ℕ → A) (i j : ℕ) (v w : A) → (i ≡ j → ⊥) → upd (upd f i v) j w ≡ upd (upd f j w) i v
+  unfolding upd
+  upd-swap f i j v w apart =
+      fun-ext (λ x. same? i x
+      (λ a. rw (eq-eqb i x a, ne-eqb j x (λ b. apart (a ∙ sym b))))
+      (λ a. rw (ne-eqb i x a)))
+
   -- what the new value and every old one have, every value has
   pub upd-all : (P : A → Type 0) (f : ℕ → A) (i : ℕ) (v : A) → P v → ((j : ℕ) → P (f j)) → (j : ℕ) → P (upd f i v j)
   upd-all P f i v a b j =

@@ -19,7 +19,7 @@ use setchanges::remove;
 use tables::files;
 use tables::header;
 
-// "frees the file's blocks, leaves it absent": file f of set s.
+// "frees the file's blocks", those still in its map, "leaves it absent": file f of set s.
 fn erase_file(t: &mut [u8], f: usize, s: usize)
     requires { ⌜ PackedTables (now t) × AnyBlockIn f (unpack (now t)) × (f < 16) × (s < 8) ⌝ }
     ensures { λ _. ⌜ OnTables (now (t .entry)) (now (t .exit)) f (Rules.eraseFile real (treeOf (unpack (now (t .entry)) .sets)) s) ⌝ }
@@ -28,7 +28,8 @@ fn erase_file(t: &mut [u8], f: usize, s: usize)
     remove::erase_record(t, f, s);
 }
 
-// "Delete does step 2 for the children and step 4 for all 64 pages, frees the file's blocks, leaves it absent."
+// "Delete does step 2 for the children and step 4 for all 64 pages, frees the file's blocks, leaves it absent." Every page is dropped whole, so
+// one that the file's own map stores is handed over.
 fn delete_live(t: &mut [u8], p: &mut [u8], f: usize, s: usize, k: Counts) -> Totals
     requires { ⌜ Ready (now t) (now p) f k × (s < 8) × (unpack (now t) .sets s .used ≡ true) ⌝ }
     ensures { λ r. ⌜ Changed (now (t .entry)) (now (p .entry)) (now (t .exit)) (now (p .exit)) f k r (Rules.deleteAs real (treeOf (unpack (now (t .entry)) .sets)) true s) ⌝ }

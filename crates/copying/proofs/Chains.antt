@@ -8,7 +8,7 @@ use borrow.Author.Tests.{le-ltb, lt-ltb}
 use Rattle.copying.proofs.Settled.{settled-step}
 use Rattle.copying.proofs.Steps.{going-as, going-more, going-sets, going-start}
 use Rattle.copying.specs.Changes.{settled}
-use Rattle.copying.specs.Work.{Going, Ready, Step}
+use Rattle.copying.specs.Work.{FirstChild, Going, Ready, Step}
 use Rattle.rules.specs.Rules.{Work, each, from, settle}
 use Rattle.rules.specs.State.{SetRecord, chain, childrenOf, treeOf}
 use Rattle.rules.specs.Storage.{real}
@@ -23,6 +23,11 @@ along g sets n c = each (g sets) (chain sets n c)
 -- and for each child of set s
 abbrev pub overChildren : ((ℕ → SetRecord) → ℕ → Work real → Work real) → (ℕ → SetRecord) → ℕ → Work real → Work real
 overChildren g sets s = each (g sets) (childrenOf sets s)
+
+-- LAW: the children of set s are the chain from its first child on
+pub children-are : (sets : ℕ → SetRecord) (s c : ℕ) → FirstChild sets s c → childrenOf sets s ≡ chain sets 8 c
+unfolding childrenOf
+children-are sets s c h = rw (h .used, h .first)
 
 module _ (g : (ℕ → SetRecord) → ℕ → Work real → Work real) (sets : ℕ → SetRecord) where
   pub chain-more : (n c : ℕ) → (n ≡ 0 → ⊥) → c < 8 → (w : Work real) → along g sets n c w ≡ along g sets (n - 1) (sets c .nextSibling) (g sets c w)
@@ -41,9 +46,8 @@ module _ (g : (ℕ → SetRecord) → ℕ → Work real → Work real) (sets : �
   unfolding chain each
   chain-out n c e w = rw e
 
-  pub children-chain : (s c : ℕ) → sets s .used ≡ true → c ≡ sets s .firstChild → (w : Work real) → overChildren g sets s w ≡ along g sets 8 c w
-  unfolding childrenOf
-  children-chain s c u e w = rw (u, e)
+  children-chain : (s c : ℕ) → sets s .used ≡ true → c ≡ sets s .firstChild → (w : Work real) → overChildren g sets s w ≡ along g sets 8 c w
+  children-chain s c u e w = ap (λ (cs : List ℕ). each (g sets) cs w) (children-are sets s c (record { used = u; first = e }))
 
 module _ (g : (ℕ → SetRecord) → ℕ → Work real → Work real) where
   -- LAW: the loop starts at the first child

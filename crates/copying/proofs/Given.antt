@@ -7,9 +7,10 @@ use native.Mathlib.Omega.{arith}
 use lib.Dec.{eqb}
 use borrow.Author.Tests.{eq-eqb, le-ltb, ne-eqb}
 use Rattle.base.specs.Logic.{and-left, test?}
+use Rattle.copying.proofs.Chains.{children-are}
 use Rattle.copying.proofs.Kept.{entered}
 use Rattle.copying.proofs.Steps.{step-as, step-none}
-use Rattle.copying.specs.Work.{Going, Ready, Rest, Step, giveAs, work}
+use Rattle.copying.specs.Work.{FirstChild, Going, Ready, Rest, Step, giveAs, work}
 use Rattle.rules.proofs.Blocks.GoodWork.{not-stored}
 use Rattle.rules.proofs.Steps.OneStep.{TreeOk, putEntry-other}
 use Rattle.rules.proofs.Blocks.Tidy.{resolve-named}
@@ -140,9 +141,9 @@ unfolding each
 each-none f h [] w = refl
 each-none f h (x ∷ xs) w = each-none f h xs w ∙ ap (each f xs) (sym (h x w))
 
-no-children : (sets : ℕ → SetRecord) (s c : ℕ) → sets s .used ≡ true → c ≡ sets s .firstChild → 8 ≤ c → childrenOf sets s ≡ []
-unfolding childrenOf chain
-no-children sets s c u e l = rw (u, ← e, le-ltb c 8 l)
+no-children : (sets : ℕ → SetRecord) (s c : ℕ) → FirstChild sets s c → 8 ≤ c → childrenOf sets s ≡ []
+unfolding chain
+no-children sets s c h l = children-are sets s c h ∙ rw (le-ltb c 8 l)
 
 page-none : (tr : Tree) (how : Giving) (s : ℕ) → tr .children s ≡ [] → (q : ℕ) (w : Work real) → givePage real tr how s q w ≡ w
 unfolding givePage hand each
@@ -150,10 +151,10 @@ page-none tr copied s e q w = rw e
 page-none tr handed s e q w = test? (isStored (w .files s .map q)) (λ d. rw (d, e)) (λ d. rw (d, e))
 
 -- LAW: set s has no child
-pub give-none : {t p : List ℕ} {f : ℕ} {k : Counts} (how : Giving) (s c : ℕ) (qs : List ℕ) → Ready t p f k → unpack t .sets s .used ≡ true → c ≡ unpack t .sets s .firstChild → 8 ≤ c
+pub give-none : {t p : List ℕ} {f : ℕ} {k : Counts} (how : Giving) (s c : ℕ) (qs : List ℕ) → Ready t p f k → FirstChild (unpack t .sets) s c → 8 ≤ c
     → Step t p t p f k k (giveAll real (treeOf (unpack t .sets)) how s qs)
 unfolding giveAll
-give-none {t} how s c qs re u e l =
+give-none {t} how s c qs re h l =
     let sets = unpack t .sets in
     step-as (giveAll real (treeOf sets) how s qs)
-    (λ h. each-none (givePage real (treeOf sets) how s) (page-none (treeOf sets) how s (no-children sets s c u e l)) qs _) (step-none re)
+    (λ i. each-none (givePage real (treeOf sets) how s) (page-none (treeOf sets) how s (no-children sets s c h l)) qs _) (step-none re)

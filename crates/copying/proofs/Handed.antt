@@ -8,12 +8,12 @@ use native.Mathlib.Numerals.{sub-one}
 use native.Mathlib.Omega.{arith}
 use borrow.Author.Tests.{le-ltb, lt-ltb}
 use Rattle.base.specs.Logic.{and-right, test?}
-use Rattle.copying.proofs.Chains.{pages-turn, upPages}
+use Rattle.copying.proofs.Chains.{children-are, pages-turn, upPages}
 use Rattle.copying.proofs.Given.{give-none, give-shown, given-as, resolve-below}
 use Rattle.copying.proofs.Kept.{entered}
 use Rattle.copying.proofs.Steps.{going-start, step-as, step-none, step-sets, step-then}
 use Rattle.copying.specs.Work.{Alone, FirstChild, Going, Ready, Step, ShownKept, giveBoth, giveChain, givingOf, handIf, shown, work}
-use Rattle.copying.specs.Turns.{BehindHeir, TurnsFound, handedOr}
+use Rattle.copying.specs.Heirs.{TurnsFound, handedOr}
 use Rattle.masks.specs.Pages.{pages}
 use Rattle.rules.proofs.Blocks.GoodWork.{not-stored}
 use Rattle.rules.proofs.Steps.Handing.{some-self}
@@ -21,7 +21,7 @@ use Rattle.rules.proofs.Steps.WriterSteps.{resolve-here}
 use Rattle.rules.proofs.Steps.OneStep.{TreeOk, putEntry-page, resolve-same}
 use Rattle.rules.specs.Reading.{needs, resolve}
 use Rattle.rules.specs.Rules.{Giving, Work, copied, each, from, give, giveAll, givePage, hand, handOver, handed, putEntry}
-use Rattle.rules.specs.State.{Entry, File, Files, SetRecord, Tables, Tree, chain, childrenOf, hole, isStored, stored, treeOf, unmapped}
+use Rattle.rules.specs.State.{Entry, File, Files, SetRecord, Tables, Tree, chain, hole, isStored, stored, treeOf, unmapped}
 use Rattle.rules.specs.Storage.{real}
 use Rattle.tables.specs.Calls.{pagesOf}
 use Rattle.tables.specs.OneReading.{blockFits}
@@ -66,12 +66,12 @@ module _ (sets : ℕ → SetRecord) (s q : ℕ) where
   abbrev handing : ℕ → ℕ → Work real → Work real
   handing n c = hand real (treeOf sets) s q (chain sets n c)
 
-  pub hand-end : (n c : ℕ) → 8 ≤ c → (w : Work real) → handing n c w ≡ w
+  hand-end : (n c : ℕ) → 8 ≤ c → (w : Work real) → handing n c w ≡ w
   unfolding chain hand
   hand-end zero c l w = refl
   hand-end (suc n) c l w = rw (le-ltb c 8 l)
 
-  pub hand-out : (n c : ℕ) → n ≡ 0 → (w : Work real) → handing n c w ≡ w
+  hand-out : (n c : ℕ) → n ≡ 0 → (w : Work real) → handing n c w ≡ w
   unfolding chain hand
   hand-out n c e w = rw e
 
@@ -112,23 +112,23 @@ module _ (tb : Tables) (f q first : ℕ) where
 
   module _ (n c : ℕ) (x : Searching tb f q first n c) where
     -- LAW: no set needs it
-    pub heir-none : (8 ≤ c) ⊎ (n ≡ 0) → BehindHeir tb f q first (record { heir = 8; next = 8; most = 0 })
+    pub heir-none : (8 ≤ c) ⊎ (n ≡ 0) → TurnsFound tb f q first true (record { heir = 8; next = 8; most = 0 })
     heir-none o = record {
       rule = λ s w h. x .rule s w h ∙ ⊎-elim (λ l. hand-end (tb .sets) s q n c l w) (λ z. hand-out (tb .sets) s q n c z w) o ∙ sym (no-turns s 8 w);
       within = none-within;
       few = omega arith;
-      heir-of-gift = λ l. refl;
+      heir-if-over = λ l. refl;
     }
 
     module _ (d : ℕ) (pos : n ≡ 0 → ⊥) (l : c < 8) (e : d ≡ tb .sets c .nextSibling) where
       -- LAW: set c is the first that needs it
-      pub heir-first : n ≤ 8 → needs (tb .files f) c q ≡ true → BehindHeir tb f q first (record { heir = c; next = d; most = n - 1 })
-      heir-first few nd = subst (λ i. BehindHeir tb f q first (record { heir = c; next = i; most = n - 1 })) (sym e) (record {
+      pub heir-first : n ≤ 8 → needs (tb .files f) c q ≡ true → TurnsFound tb f q first true (record { heir = c; next = d; most = n - 1 })
+      heir-first few nd = subst (λ i. TurnsFound tb f q first true (record { heir = c; next = i; most = n - 1 })) (sym e) (record {
         rule = λ s w h. x .rule s w h ∙ hand-take (tb .sets) s q n c pos l w (ap (λ (y : Files ℕ). needs y c q) h ∙ nd)
             ∙ ap (λ (b : Bool). cond b (handOver real (treeOf (tb .sets)) s q c (each (give real (treeOf (tb .sets)) s q) (chain (tb .sets) (n - 1) (tb .sets c .nextSibling)) w)) (each (give real (treeOf (tb .sets)) s q) (chain (tb .sets) (n - 1) (tb .sets c .nextSibling)) w)) (sym (lt-ltb c 8 l));
         within = λ y m. x .within y (rest-within (tb .sets) n c pos l y m);
         few = omega arith;
-        heir-of-gift = λ i. refl;
+        heir-if-over = λ i. refl;
       })
 
       -- LAW: set c does not need it
@@ -139,24 +139,17 @@ module _ (tb : Tables) (f q first : ℕ) where
       })
 
 -- LAW: nothing is handed over
-pub turns-all : (tb : Tables) (f q c : ℕ) (gift : Bool) → gift ≡ false → TurnsFound tb f q c gift (record { heir = 8; next = c; most = 8 })
-turns-all tb f q c gift g = record {
+pub turns-all : (tb : Tables) (f q c : ℕ) (over : Bool) → over ≡ false → TurnsFound tb f q c over (record { heir = 8; next = c; most = 8 })
+turns-all tb f q c over g = record {
   rule = λ s w h. ap (λ (b : Bool). handedOr b (treeOf (tb .sets)) s q (chain (tb .sets) 8 c) w) g;
   within = λ x m. m;
   few = omega arith;
-  heir-of-gift = λ l. absurd (omega arith);
+  heir-if-over = λ l. absurd (omega arith);
 }
 
 -- LAW: it is
-pub turns-heir : (tb : Tables) (f q c : ℕ) (gift : Bool) (r : InTurn) → gift ≡ true → BehindHeir tb f q c r → TurnsFound tb f q c gift r
-turns-heir tb f q c gift r g x = subst (λ (b : Bool). TurnsFound tb f q c b r) (sym g) x
-
--- ---- the children of a set
-
--- LAW: they are the chain from its first child on
-first-children : (sets : ℕ → SetRecord) (s c : ℕ) → FirstChild sets s c → childrenOf sets s ≡ chain sets 8 c
-unfolding childrenOf
-first-children sets s c h = rw (h .used, h .first)
+pub turns-heir : (tb : Tables) (f q c : ℕ) (over : Bool) (r : InTurn) → over ≡ true → TurnsFound tb f q c true r → TurnsFound tb f q c over r
+turns-heir tb f q c over r g x = subst (λ (b : Bool). TurnsFound tb f q c b r) (sym g) x
 
 -- ---- a page
 
@@ -172,10 +165,10 @@ chain-given : {t p t′ p′ : List ℕ} {f : ℕ} {k k′ : Counts} (s q n c fi
 chain-given {t} {p} {t′} {p′} {f} {k} s q n c first e re ee ch within x =
     step-as (each (give real (treeOf (unpack t .sets)) s q) (chain (unpack t .sets) n c))
     (λ h. given-as (treeOf (unpack t .sets)) (re .sound .tree) s q e (chain (unpack t .sets) n c)
-    (λ y m. subst (List·Memᴰ y) (sym (first-children (unpack t .sets) s first ch)) (within y m)) (work (unpack t) (pagesOf p) f h k) (sym ee)) x
+    (λ y m. subst (List·Memᴰ y) (sym (children-are (unpack t .sets) s first ch)) (within y m)) (work (unpack t) (pagesOf p) f h k) (sym ee)) x
 
-module _ {t p t₁ p₁ : List ℕ} {f : ℕ} {k k₁ : Counts} (s q first : ℕ) (e : Entry ℕ) (gift : Bool) (r : InTurn) (re : Ready t p f k) (ch : FirstChild (unpack t .sets) s first) (ee : e ≡ shown t f s q)
-    (found : TurnsFound (unpack t) f q first gift r) (x : Step t p t₁ p₁ f k k₁ (giveChain (unpack t .sets) e q (r .most) (r .next))) where
+module _ {t p t₁ p₁ : List ℕ} {f : ℕ} {k k₁ : Counts} (s q first : ℕ) (e : Entry ℕ) (over : Bool) (r : InTurn) (re : Ready t p f k) (ch : FirstChild (unpack t .sets) s first) (ee : e ≡ shown t f s q)
+    (found : TurnsFound (unpack t) f q first over r) (x : Step t p t₁ p₁ f k k₁ (giveChain (unpack t .sets) e q (r .most) (r .next))) where
   turns-done : Step t p t₁ p₁ f k k₁ (each (give real (treeOf (unpack t .sets)) s q) (chain (unpack t .sets) (r .most) (r .next)))
   turns-done = chain-given s q (r .most) (r .next) first e re ee ch (found .within) x
 
@@ -184,21 +177,21 @@ module _ {t p t₁ p₁ : List ℕ} {f : ℕ} {k k₁ : Counts} (s q first : ℕ
   map-left y =
       ap (λ (w : Work real). w .files s .map y) (turns-done .step .does (λ i. unmapped))
       ∙ ap (λ (z : File ℕ). z .map y) (some-self real (treeOf (unpack t .sets)) (re .sound .tree) s q (chain (unpack t .sets) (r .most) (r .next))
-      (λ z m. subst (List·Memᴰ z) (sym (first-children (unpack t .sets) s first ch)) (found .within z m)) (work (unpack t) (pagesOf p) f (λ i. unmapped) k))
+      (λ z m. subst (List·Memᴰ z) (sym (children-are (unpack t .sets) s first ch)) (found .within z m)) (work (unpack t) (pagesOf p) f (λ i. unmapped) k))
 
   -- LAW: a page's turns, and then the block moves
-  pub page-given : {t₂ : List ℕ} (hands : Bool) → gift ≡ (hands && isStored (unpack t .files f s .map q)) → Alone t₁ t₂ f (handIf (treeOf (unpack t₁ .sets)) s q (r .heir))
+  pub page-given : {t₂ : List ℕ} (hands : Bool) → over ≡ (hands && isStored (unpack t .files f s .map q)) → Alone t₁ t₂ f (handIf (treeOf (unpack t₁ .sets)) s q (r .heir))
       → Step t p t₂ p₁ f k k₁ (givePage real (treeOf (unpack t .sets)) (givingOf hands) s q)
   page-given {t₂} hands eg a =
       let tr = treeOf (unpack t .sets) in
       let z : Step t₁ p₁ t₂ p₁ f k₁ k₁ (handIf tr s q (r .heir)) = subst (λ (i : ℕ → SetRecord). Step t₁ p₁ t₂ p₁ f k₁ k₁ (handIf (treeOf i) s q (r .heir))) (step-sets x) (a p₁ k₁ (x .ready)) in
       step-as (givePage real tr (givingOf hands) s q)
       (λ h. let w = work (unpack t) (pagesOf p) f h k in
-      sym (found .rule s w refl) ∙ ap (λ (cs : List ℕ). handedOr gift tr s q cs w) (sym (first-children (unpack t .sets) s first ch))
+      sym (found .rule s w refl) ∙ ap (λ (cs : List ℕ). handedOr over tr s q cs w) (sym (children-are (unpack t .sets) s first ch))
       ∙ ap (λ (b : Bool). handedOr b tr s q (tr .children s) w) eg ∙ sym (page-how tr hands s q w)) (step-then turns-done z)
 
 -- LAW: a page that the set's own map stores resolves to that
-pub own-shown : (t : List ℕ) (f s q : ℕ) → isStored (unpack t .files f s .map q) ≡ true → shown t f s q ≡ unpack t .files f s .map q
+own-shown : (t : List ℕ) (f s q : ℕ) → isStored (unpack t .files f s .map q) ≡ true → shown t f s q ≡ unpack t .files f s .map q
 own-shown t f s q h = go (unpack t .files f s .map q) refl h
   where
     go : (x : Entry ℕ) → unpack t .files f s .map q ≡ x → isStored x ≡ true → shown t f s q ≡ x
@@ -207,10 +200,10 @@ own-shown t f s q h = go (unpack t .files f s .map q) refl h
     go (stored b) e i = resolve-here (treeOf (unpack t .sets)) (unpack t .files f) s q (stored b) e refl
 
 -- LAW: so an heir takes over what the page resolves to
-pub heir-own : (t : List ℕ) (f s q c : ℕ) (e : Entry ℕ) (gift hands : Bool) (r : InTurn) → gift ≡ (hands && isStored (unpack t .files f s .map q)) → TurnsFound (unpack t) f q c gift r → e ≡ shown t f s q
+pub heir-own : (t : List ℕ) (f s q c : ℕ) (e : Entry ℕ) (over hands : Bool) (r : InTurn) → over ≡ (hands && isStored (unpack t .files f s .map q)) → TurnsFound (unpack t) f q c over r → e ≡ shown t f s q
     → r .heir < 8 → e ≡ unpack t .files f s .map q
-heir-own t f s q c e gift hands r eg found ee l =
-    ee ∙ own-shown t f s q (and-right hands (isStored (unpack t .files f s .map q)) (sym eg ∙ found .heir-of-gift l))
+heir-own t f s q c e over hands r eg found ee l =
+    ee ∙ own-shown t f s q (and-right hands (isStored (unpack t .files f s .map q)) (sym eg ∙ found .heir-if-over l))
 
 -- LAW: a page resolves to a block of the bitmap
 pub shown-below : {t p : List ℕ} {f : ℕ} {k : Counts} {e : Entry ℕ} (s q : ℕ) → Ready t p f k → e ≡ shown t f s q → (b : ℕ) → e ≡ stored b → b < 4096
@@ -297,6 +290,5 @@ both-given {t} {p} {t₁} {p₁} {t₂} {p₂} {f} {k} {k₁} {k₂} s ps ds a b
     step-then a (subst (λ (i : ℕ → SetRecord). Step t₁ p₁ t₂ p₂ f k₁ k₂ (giveAll real (treeOf i) handed s ds)) (step-sets a) b)
 
 -- LAW: set s has no child
-pub both-none : {t p : List ℕ} {f : ℕ} {k : Counts} (s c : ℕ) (ps ds : List ℕ) → Ready t p f k → unpack t .sets s .used ≡ true → c ≡ unpack t .sets s .firstChild → 8 ≤ c
-    → Step t p t p f k k (giveBoth (unpack t .sets) s ps ds)
-both-none s c ps ds re u e l = both-given s ps ds (give-none copied s c ps re u e l) (give-none handed s c ds re u e l)
+pub both-none : {t p : List ℕ} {f : ℕ} {k : Counts} (s c : ℕ) (ps ds : List ℕ) → Ready t p f k → FirstChild (unpack t .sets) s c → 8 ≤ c → Step t p t p f k k (giveBoth (unpack t .sets) s ps ds)
+both-none s c ps ds re h l = both-given s ps ds (give-none copied s c ps re h l) (give-none handed s c ds re h l)

@@ -84,9 +84,6 @@ module _ {t₀ p₀ t p : List ℕ} {f : ℕ} {k₀ k : Counts} {op todo : Work 
   pub going-sets : unpack t .sets ≡ unpack t₀ .sets
   going-sets = ap (λ (r : Rest). r .sets) (g .same)
 
-  pub going-used : (s : ℕ) → unpack t₀ .sets s .used ≡ true → unpack t .sets s .used ≡ true
-  going-used s u = ap (λ (y : ℕ → SetRecord). y s .used) going-sets ∙ u
-
   pub going-first : (s c : ℕ) → FirstChild (unpack t₀ .sets) s c → FirstChild (unpack t .sets) s c
   going-first s c h = subst (λ (y : ℕ → SetRecord). FirstChild y s c) (sym going-sets) h
 

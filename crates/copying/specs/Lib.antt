@@ -1,3 +1,3 @@
 pub mod Work
-pub mod Turns
+pub mod Heirs
 pub mod Changes

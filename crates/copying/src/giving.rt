@@ -12,7 +12,7 @@ ghost use Rattle.tables.specs.Packed.{unpack};
 ghost use Rattle.tables.specs.Meaning.{entryMeant};
 ghost use Rattle.tables.specs.Views.{PackedTables};
 ghost use Rattle.copying.specs.Work.{Alone, FirstChild, Ready, ShownKept, Step, giveAs, giveBoth, giveChain, givingOf, handIf, shown};
-ghost use Rattle.copying.specs.Turns.{BehindHeir, TurnsFound};
+ghost use Rattle.copying.specs.Heirs.{TurnsFound};
 use crate::marking;
 use maps::resolving;
 use tables::entries;
@@ -105,7 +105,7 @@ fn give(t: &mut [u8], p: &mut [u8], f: usize, page: Page, e: Entry, c: usize, k:
     supply(t, p, f, c, page, e, k)
 }
 
-// The turns of set c and the sets behind it in its chain, n at most, for a page that resolves to e.
+// The turns of set `first` and the sets behind it in its chain, `most` at most, for a page that resolves to e.
 fn give_chain(
     t: &mut [u8],
     p: &mut [u8],
@@ -133,8 +133,8 @@ fn give_chain(
     w
 }
 
-// Whose turns a page's are: those of set `next` and the sets behind it in its chain, `most` at most; then set `heir` takes the page over, where
-// that is a set.
+// Who has a turn at a page: set `next` and the sets behind it in its chain, `most` at most; then set `heir` takes the page over, where that is
+// a set.
 struct InTurn {
     heir: usize,
     next: usize,
@@ -142,7 +142,7 @@ struct InTurn {
 }
 
 // Is a page of set s handed over, where pages are: is it "stored in the file's own map"?
-fn is_gift(t: &[u8], f: usize, s: usize, page: Page, hands: bool) -> bool
+fn is_handed(t: &[u8], f: usize, s: usize, page: Page, hands: bool) -> bool
     requires { ⌜ (length (now t) ≡ tableBytes) × (f < 16) × (s < 8) × (page .0 < 64) ⌝ }
     ensures { λ r. ⌜ r ≡ (hands && isStored (unpack (now (t .entry)) .files f s .map (page .0))) ⌝ }
 {
@@ -155,7 +155,7 @@ fn is_gift(t: &[u8], f: usize, s: usize, page: Page, hands: bool) -> bool
 // The heir is the first of set `child` and the sets behind it in its chain that needs the page; those behind the heir have turns.
 fn behind_heir(t: &[u8], f: usize, page: Page, child: usize) -> InTurn
     requires { ⌜ (length (now t) ≡ tableBytes) × (f < 16) × (page .0 < 64) ⌝ }
-    ensures { λ r. ⌜ BehindHeir (unpack (now (t .entry))) f (page .0) child r ⌝ }
+    ensures { λ r. ⌜ TurnsFound (unpack (now (t .entry))) f (page .0) child true r ⌝ }
 {
     let mut c = child;
     let mut n: usize = 8;
@@ -186,11 +186,11 @@ fn behind_heir(t: &[u8], f: usize, page: Page, child: usize) -> InTurn
 }
 
 // All children have turns, or, where the page is handed over, those behind the heir; the first child is `child`.
-fn in_turn(t: &[u8], f: usize, page: Page, child: usize, gift: bool) -> InTurn
+fn in_turn(t: &[u8], f: usize, page: Page, child: usize, over: bool) -> InTurn
     requires { ⌜ (length (now t) ≡ tableBytes) × (f < 16) × (page .0 < 64) ⌝ }
-    ensures { λ r. ⌜ TurnsFound (unpack (now (t .entry))) f (page .0) child gift r ⌝ }
+    ensures { λ r. ⌜ TurnsFound (unpack (now (t .entry))) f (page .0) child over r ⌝ }
 {
-    if !gift {
+    if !over {
         return InTurn {
             heir: 8,
             next: child,
@@ -228,8 +228,8 @@ fn give_page(
     requires { ⌜ Ready (now t) (now p) f k × (s < 8) × (page .0 < 64) × FirstChild (unpack (now t) .sets) s child × (entryMeant e ≡ shown (now t) f s (page .0)) ⌝ }
     ensures { λ r. ⌜ Step (now (t .entry)) (now (p .entry)) (now (t .exit)) (now (p .exit)) f k r (Rules.givePage real (treeOf (unpack (now (t .entry)) .sets)) (givingOf hands) s (page .0)) ⌝ }
 {
-    let gift = is_gift(&*t, f, s, page, hands);
-    let r = in_turn(&*t, f, page, child, gift);
+    let over = is_handed(&*t, f, s, page, hands);
+    let r = in_turn(&*t, f, page, child, over);
     let w = give_chain(t, p, f, page, e, r.next, r.most, k);
     hand_over(t, f, s, page, e, r.heir);
     w

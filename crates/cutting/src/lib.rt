@@ -35,8 +35,8 @@ fn grow(t: &mut [u8], f: usize, s: usize, n: usize)
     dropping::resize(t, f, s, n);
 }
 
-// Below it, where no page stays stored: m pages from page number `first` on are copied, the d pages behind them are handed over and
-// become holes.
+// Below it, where no page stays stored: m pages from page number `first` on are copied; the d pages behind them are handed over where the
+// file's own map stores them, and become holes.
 fn cut_away(
     t: &mut [u8],
     p: &mut [u8],
@@ -63,7 +63,8 @@ fn cut_away(
     }
 }
 
-// Below it, where the page of the new size stays stored: it is copied, the m - 1 pages behind it are handed over and become holes.
+// Below it, where the page of the new size stays stored: it is copied; the m - 1 pages behind it are handed over where the file's own map
+// stores them, and become holes.
 fn cut_kept(
     t: &mut [u8],
     p: &mut [u8],

@@ -20,15 +20,15 @@ pub data Drops (s f : ℕ) : Call → Type 0 where
   by-delete : Drops s f (delete s f)
   by-truncate : (n : ℕ) → Drops s f (truncate s f n)
 
--- file f of set s reads in st′ as in st: it is absent in both or in neither; it was not marked; it has the same size by reading; and, if it is present, the same bytes in its
--- 64 pages: all that a read gives, and those past the size too, which it shows when it grows
+-- file f of set s reads in st′ as in st: it is absent in both or in neither; it was not marked; it has the same size by reading; and, if it is present,
+-- the same bytes in its 64 pages: all that a read gives, and those past the size too, which it shows when it grows
 pub record ReadsAs (st st′ : Store real) (f s : ℕ) : Type 0 where
   pub present : isAbsent (st′ .files f s .state) ≡ isAbsent (st .files f s .state)
   pub unmarked : isMarked (st .files f s .state) ≡ false
   pub size : sizeByReading (treeIn real st′) (st′ .files f) s ≡ sizeByReading (treeIn real st) (st .files f) s
   pub bytes : isAbsent (st .files f s .state) ≡ false → (i : ℕ) → i < pageCount * pageBytes → byteByReading st′ s f i ≡ byteByReading st s f i
 
--- what a call c that changes file f of set s leaves, from m on
+-- what call c on m, which drops pages of file f of set s, leaves of the other files
 pub record OthersKept (s f : ℕ) (c : Call) (m : Image) : Type 0 where
   -- every other file x of a set y that is left unmarked reads as before
   pub reads : (x y : ℕ) → (x ≡ f → y ≡ s → ⊥) → isMarked (storeIn (after c m) .files x y .state) ≡ false → ReadsAs (storeIn m) (storeIn (after c m)) x y

@@ -74,8 +74,8 @@ module _ {K : Type 0} where
   unfoldable pub holes : ℕ → Entry K
   holes p = cond (ltb p pageCount) hole unmapped
 
--- How a page is given to the children that need it. copied: each gets a copy. handed, where the call drops the page whole: if it is stored in the file's own map, the first
--- of them takes it over and the others get copies.
+-- How a page is given to the children that need it. copied: each gets a copy. handed, where the call drops the page whole: if it is stored in the
+-- file's own map, the first of them takes it over and the others get copies.
 pub data Giving : Type 0 where
   copied handed : Giving
 
@@ -161,18 +161,19 @@ module _ (S : Storage) (t : Tree) where
   unfoldable pub give : ℕ → ℕ → ℕ → Work S → Work S
   give s p c w = cond (needs (w .files) c p) (supply (resolve t (w .files) s p) c p w) w
 
-  -- "takes over the block itself": page p, stored in the map of set s, moves to the map of set c. "A block handed over counts as no copy, and the delete or truncate itself
-  -- does not free it": in set s the page is a hole from now on.
+  -- "takes over the block itself": page p, stored in the map of set s, moves to the map of set c. "A block handed over counts as no copy, and the
+  -- delete or truncate itself does not free it": in set s the page is a hole from now on.
   unfoldable pub handOver : ℕ → ℕ → ℕ → Work S → Work S
   handOver s p c w = withFiles w (putEntry (putEntry (w .files) c p (w .files s .map p)) s p hole)
 
-  -- "the first child that needs it takes over the block itself. Other children needing it still get copies". The others have their turns before the block moves: that
-  -- changes nothing, since neither c nor s depends on another child (the tally has the order of the sentence, and agrees).
+  -- "the first child that needs it takes over the block itself. Other children needing it still get copies". The others have their turns before the
+  -- block moves: that changes nothing, since neither c nor s depends on another child (the tally has the order of the sentence, and agrees).
   unfoldable pub hand : ℕ → ℕ → List ℕ → Work S → Work S
   hand s p [] w = w
   hand s p (c ∷ cs) w = cond (needs (w .files) c p) (handOver s p c (each (give s p) cs w)) (hand s p cs w)
 
-  -- "for each child in order of making that needs it". "Pages that the file only reads through its parent are copied as before, and so is the part page of a truncate."
+  -- "for each child in order of making that needs it"; and "When delete, or truncate dropping a whole page, reaches a page stored in the file's own
+  -- map", it is handed over. "Pages that the file only reads through its parent are copied as before, and so is the part page of a truncate."
   unfoldable pub givePage : Giving → ℕ → ℕ → Work S → Work S
   givePage copied s p w = each (give s p) (t .children s) w
   givePage handed s p w = cond (isStored (w .files s .map p)) (hand s p (t .children s) w) (each (give s p) (t .children s) w)
@@ -200,7 +201,8 @@ module _ (S : Storage) (t : Tree) where
   dropPage s p w =
       record { memory = freeEntry S (w .files s .map p) (w .memory); files = putEntry (w .files) s p hole; pending = w .pending; taken = w .taken; copies = w .copies; marks = w .marks }
 
-  -- A change of the file in set s, steps 2 to 5: of the touched pages, ps are copied to the children; ds, which are dropped whole, are handed over; of ps, rs get new bytes by lay; ds become holes; the size is changed by resized.
+  -- A change of the file in set s, steps 2 to 5: of the touched pages, ps are copied to the children; ds, which are dropped whole, are handed over where
+  -- the file's own map stores them; of ps, rs get new bytes by lay; ds become holes; the size is changed by resized.
   unfoldable pub change : ℕ → List ℕ → List ℕ → List ℕ → (ℕ → S .Page → S .Page) → (ℕ → ℕ) → Work S → Work S
   change s ps rs ds lay resized w =
       let w₁ : Work S = each settle (s ∷ t .children s) w in
@@ -237,7 +239,7 @@ module _ (S : Storage) (t : Tree) where
       record { memory = freeMap S (w .files s .map) (w .memory); files = upd (w .files) s absentFile; pending = w .pending; taken = w .taken; copies = w .copies; marks = w .marks }
 
   -- "Delete does step 2 for the children and step 4 for all 64 pages, frees the file's blocks, leaves it absent. A marked file is only freed and made absent."
-  -- In step 4 every page is dropped whole, so handed over (Ask 2).
+  -- In step 4 every page is dropped whole (Ask 2).
   unfoldable pub deleteAs : Bool → ℕ → Work S → Work S
   deleteAs true s w = eraseFile s (giveAll handed s (from 0 pageCount) (each settle (t .children s) w))
   deleteAs false s w = eraseFile s w

@@ -126,7 +126,7 @@ module _ (t : Tree) where
   unfoldable pub childTurn : ℕ → ℕ → ℕ → Turn → Turn
   childTurn s p c x = cond (tallyNeeds (x .files) c p) (childPage (kindAt (x .files) s p) p c x) x
 
-  -- page p, stored in the map of set s, is taken over by child c: "A block handed over counts as no copy", and none is taken
+  -- page p, stored in the map of set s, is taken over by child c: "A block handed over counts as no copy", and no block is taken
   unfoldable pub takenOver : ℕ → ℕ → ℕ → Turn → Turn
   takenOver s p c x = record { files = tallyKind s p hole (tallyKind c p (stored tt) (x .files)); free = x .free; copies = x .copies; marks = x .marks }
 
@@ -139,7 +139,7 @@ module _ (t : Tree) where
   handTurns s p [] x = x
   handTurns s p (c ∷ cs) x = cond (tallyNeeds (x .files) c p) (eachChild (copyTurn p) cs (takenOver s p c x)) (handTurns s p cs x)
 
-  -- the turns at page p of the file in set s; hands: the call drops the page whole, so it is handed over if it is stored in this map
+  -- the turns at page p of the file in set s. hands: the call drops the page whole; then, "stored in the file's own map", it is handed over
   unfoldable pub pageTurns : ℕ → Bool → ℕ → Turn → Turn
   pageTurns s hands p x = cond (hands && isStored (x .files s .map p)) (handTurns s p (t .children s) x) (eachChild (childTurn s p) (t .children s) x)
 
@@ -223,7 +223,7 @@ tallyTruncate s f n ta =
 unfoldable pub storedPages : TallyFile → ℕ
 storedPages x = count pageCount (λ p. isStored (x .map p))
 
--- the same of all blocks; the children of a marked file have no turns
+-- released are all blocks still in the map after the turns; the children of a marked file have no turns
 unfoldable pub tallyDelete : ℕ → ℕ → Tally → TallyResult
 tallyDelete s f ta =
     let x : Turn = tallyTurns ta f s (cond (live (ta .files f s .state)) (ta .tree .children s) []) 0 (λ p. live (ta .files f s .state)) (λ p. true) in

@@ -100,7 +100,7 @@ usage:
 exit status: 0 no difference, 1 a difference, 2 bad usage
 ";
 
-    /// "each elementary rule broken at least 100 times"
+    /// Each elementary rule is broken at least so many times.
     const DAMAGES_OF_EACH_RULE: u64 = 100;
     const STATES: usize = 60;
     const LENGTH_ROUNDS: usize = 15;

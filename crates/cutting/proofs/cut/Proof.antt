@@ -1,7 +1,7 @@
 -- `cutting::cut` meets its contract. Assumes nothing.
 use mathlib.Core.Bool.{false, true}
 use mathlib.Core.Path.{sym, _∙_}
-use Prim.Native.Nat.{_-_, _/_}
+use Prim.Native.Nat.{_/_}
 use native.Mathlib.Omega.{arith}
 use borrow.Author.Needs.{needs}
 use borrow.Author.Tests.{not-false, not-true}

@@ -1,6 +1,6 @@
 -- `cutting::cut_kept` meets its contract. Assumes nothing.
 use mathlib.Core.Path.{_≡_, ap, refl, subst, sym, _∙_}
-use Prim.Native.Nat.{_%_, _+_, _-_, _≤_, ℕ}
+use Prim.Native.Nat.{_%_, _-_, _≤_, ℕ}
 use native.Mathlib.Omega.{arith}
 use lib.ListN.{getD}
 use borrow.Author.Needs.{needs}
@@ -10,7 +10,7 @@ use Rattle.tables.proofs.Pending.{pending-at}
 use Rattle.tables.specs.Meaning.{pendingMeant}
 use Rattle.tables.specs.Views.{pendingOf}
 use Rattle.cutting.proofs.Cutting.{cut-kept}
-use Rattle.entering.proofs.Pending.{none-in, pending-kept, reserves-ready}
+use Rattle.entering.proofs.Pending.{pending-kept, reserves-ready}
 use Rattle.changing.proofs.Whole.{both-need, both-ready, both-used, ready-in, same-used, settled-used}
 use Rattle.cutting.proofs.cut_kept.Statement.{statement}
 use Rattle.cutting.proofs.cut_kept.Tie as tie

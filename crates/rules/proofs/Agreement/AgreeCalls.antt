@@ -17,7 +17,7 @@ use Rattle.rules.proofs.Agreement.Agree.{Agree, agree-write, touched-on
 use Rattle.rules.proofs.Agreement.Change.{Changed, changed}
 use Rattle.rules.proofs.Agreement.Delete.{agree-gone, deleted}
 use Rattle.rules.proofs.Storages.Model.{model}
-use Rattle.rules.proofs.Steps.OneStep.{FilesOk, TreeOk}
+use Rattle.rules.proofs.Steps.OneStep.{FilesOk}
 use Rattle.rules.proofs.Steps.States.{live-present}
 use Rattle.rules.proofs.Agreement.Remove.{remove-agree}
 use Rattle.rules.proofs.Agreement.CreateMake.{create-agree, make-agree}
@@ -26,7 +26,7 @@ use Rattle.rules.specs.Calls.{Store, accepted, begin, created, formatted
 use Rattle.rules.specs.Numbers.{Call, View, create, delete, format, make, numberOf, read, remove, tellFree, tellSize, truncate, write}
 use Rattle.rules.specs.Plain.{Plain, cutOrFill, isNone, overwrite, plainCall, plainFormat, present, putFile}
 use Rattle.rules.specs.Reading.{resolve, sizeByReading}
-use Rattle.rules.specs.Rules.{change, cutPages, deleteFile, droppedPages, keptPages, partPages, touched, truncateAs, truncateFile, writeFile}
+use Rattle.rules.specs.Rules.{change, deleteFile, droppedPages, keptPages, partPages, touched, truncateAs, truncateFile, writeFile}
 use Rattle.rules.specs.Sets.{appendSet, rootAlone, unlinkSet}
 use Rattle.rules.specs.State.{File, Files, Tree, absentFile, isAbsent, live, treeOf}
 use Rattle.rules.specs.Storage.{PageData, overlay, zeroFrom}

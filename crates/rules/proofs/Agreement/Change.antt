@@ -9,7 +9,7 @@ use Rattle.base.specs.Update.{upd, upd-other, upd-same}
 use Rattle.rules.proofs.Storages.Model.{model}
 use Rattle.rules.proofs.Steps.OneStep.{Alive, FilesOk, TreeOk, cut-page, cut-size, keep-refl, putEntry-ent, putEntry-other, putEntry-page, putEntry-size, putEntry-state, resolve-same}
 use Rattle.rules.proofs.Steps.States.{alive-own, live-present}
-use Rattle.rules.proofs.Steps.StepFour.{ChildServed, Going, each-all, each-inv, giveAll-done, giveAll-going, served-refl}
+use Rattle.rules.proofs.Steps.StepFour.{Going, each-all, each-inv, giveAll-done, giveAll-going, served-refl}
 use Rattle.rules.proofs.Steps.WriterSteps.{Entered, IsPending, NoDup, Settled, bytes, enter-all, laid, mem?, reserve-files, reserve-pending, resolve-here, settle-no-virgin, settle-each, size-here}
 use Rattle.rules.specs.Reading.{needs, resolve, sizeByReading}
 use Rattle.rules.specs.Rules.{Work, change, copied, dropPage, each, enter, giveAll, handed, putEntry, reserve, resize, settle}

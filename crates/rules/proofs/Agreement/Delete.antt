@@ -10,7 +10,6 @@ use Rattle.rules.proofs.Agreement.Agree.{Agree, agree-one, from-high, f
 use Rattle.rules.proofs.Storages.Model.{model}
 use Rattle.rules.proofs.Steps.OneStep.{Alive, FilesOk, TreeOk, cut-page, cut-size, keep-refl, needs-yes}
 use Rattle.rules.proofs.Agreement.CreateMake.{away-page, away-size}
-use Rattle.rules.proofs.Steps.StepFour.{ChildServed, Going, giveAll-done, giveAll-going, served-refl}
 use Rattle.rules.proofs.Steps.WriterSteps.{Settled, settle-no-virgin, settle-each}
 use Rattle.rules.specs.Reading.{needs, resolve, sizeByReading}
 use Rattle.rules.specs.Rules.{Work, deleteAs, deleteFile, each, eraseFile, from, giveAll, handed, settle}

@@ -14,10 +14,10 @@ use Rattle.rules.proofs.Agreement.Agree.{from-high, from-mem, touched-o
 use Rattle.rules.proofs.Agreement.Change.{Changed, changed}
 use Rattle.rules.proofs.Agreement.Delete.{deleted}
 use Rattle.rules.proofs.Storages.Model.{model}
-use Rattle.rules.proofs.Steps.OneStep.{Alive, TreeOk}
+use Rattle.rules.proofs.Steps.OneStep.{Alive}
 use Rattle.rules.proofs.Steps.States.{live-present}
 use Rattle.rules.proofs.Formed.Shape.{FilesFormed, Fit, fit-change, shape-delete, size-most}
-use Rattle.rules.proofs.Agreement.Truncate.{apart, dropped-in, dropped-under, kept-in, kept-once, kept-part, part-in}
+use Rattle.rules.proofs.Agreement.Truncate.{apart, dropped-under, kept-in, kept-once, kept-part, part-in}
 use Rattle.rules.proofs.Steps.WriterSteps.{NoDup, mem?}
 use Rattle.rules.specs.Reading.{resolve, sizeByReading}
 use Rattle.rules.specs.Rules.{Work, change, cutPages, deleteFile, droppedPages, keptPages, partPages, touched, truncateAs, truncateFile, writeFile}

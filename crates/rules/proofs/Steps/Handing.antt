@@ -1,5 +1,5 @@
 -- A page handed over, over the model: the first child that needs it takes the file's own entry, when the others have theirs. Assumes nothing.
-use mathlib.Core.Bool.{_&&_, Bool, cond, false, true, true≢false}
+use mathlib.Core.Bool.{_&&_, false, true}
 use mathlib.Core.List.{List, List·Memᴰ, List·Memᴰ·cases-cons, List·Memᴰ·head, List·Memᴰ·tail, _∷_, []}
 use mathlib.Core.Logic.{⊎-elim}
 use mathlib.Core.Path.{_≡_, ap, refl, subst, sym, _∙_}
@@ -48,14 +48,14 @@ module _ (S : Storage) (t : Tree) (s d x : ℕ) (apart : d ≡ x → ⊥) (misse
 
 module _ (S : Storage) (t : Tree) (ok : TreeOk t) (s : ℕ) where
   -- a sibling, and the file of the set above
-  pub give-sibling : (c d : ℕ) → List·Memᴰ c (t .children s) → List·Memᴰ d (t .children s) → (d ≡ c → ⊥) → (p : ℕ) (w : Work S) → give S t s p d w .files c ≡ w .files c
+  give-sibling : (c d : ℕ) → List·Memᴰ c (t .children s) → List·Memᴰ d (t .children s) → (d ≡ c → ⊥) → (p : ℕ) (w : Work S) → give S t s p d w .files c ≡ w .files c
   unfolding reaches dependsOn
   give-sibling c d kc kd apart =
       give-leaves S t s d c apart
       (λ files. let m = ok .kid-lvl s d kd in
       rw (ok .kid-lvl s c kc, ok .kid-par s c kc, ne-eqb d c apart, not-reached t ok files d (t .level s) s refl (omega arith)) (and-false (dependent (files c))))
 
-  pub give-parent : (d : ℕ) → List·Memᴰ d (t .children s) → (p : ℕ) (w : Work S) → give S t s p d w .files s ≡ w .files s
+  give-parent : (d : ℕ) → List·Memᴰ d (t .children s) → (p : ℕ) (w : Work S) → give S t s p d w .files s ≡ w .files s
   unfolding reaches
   give-parent d kd =
       give-leaves S t s d s (λ q. not-itself t ok s d kd (sym q))
@@ -127,7 +127,7 @@ module _ {K : Type 0} where
         not-here : gone s .map p ≡ unmapped → ⊥
         not-here h = let z : _≡_ {A = ℕ} 0 1 = cc (putEntry-ent files s p hole) in omega arith
 
-    pub holed-served : Served t s H files gone
+    holed-served : Served t s H files gone
     holed-served = record {
       ok′ = record {
         closed = λ x q l a u. rw putEntry-state (k .closed x q l (rw putEntry-state at a) (was x q u));
@@ -204,7 +204,7 @@ module _ (t : Tree) (ok : TreeOk t) (s : ℕ) (once : NoDup (t .children s)) (H 
           (λ n. rw n (hand-served cs (λ d m. kids d (List·Memᴰ·tail m)) (nd .1)
           (λ d l o. same? d c (λ q. subst (λ y. needs (w .files) y p ≡ false) (sym q) n) (λ q. rest d l (λ m. ⊎-elim q o (List·Memᴰ·cases-cons m))))))
 
-    pub page-handed : (w : Work model) → FilesOk t (w .files) → ((c : ℕ) → List·Memᴰ c (t .children s) → w .files c .state ≡ virgin → ⊥) → PageHanded p w (givePage model t handed s p w)
+    page-handed : (w : Work model) → FilesOk t (w .files) → ((c : ℕ) → List·Memᴰ c (t .children s) → w .files c .state ≡ virgin → ⊥) → PageHanded p w (givePage model t handed s p w)
     unfolding givePage
     page-handed w k nv =
         test? (isStored (w .files s .map p))

@@ -15,7 +15,7 @@ use Rattle.rules.proofs.Steps.StepFour.{each-all, each-inv}
 use Rattle.rules.proofs.Agreement.Truncate.{apart}
 use Rattle.rules.proofs.Steps.WriterSteps.{NoDup, mem?}
 use Rattle.rules.specs.Reading.{needs, resolve, sizeByReading}
-use Rattle.rules.specs.Rules.{Giving, Work, change, copied, copy, cutPages, deleteAs, deleteFile, dropPage, droppedPages, each, enter, enterAs, eraseFile, freeEntry, freeMap, from, give, giveAll, givePage, hand, handOver, handed, keptPages, mark, partPages, putEntry, reserve, reserveAs, resize, settle, supply, takeOwn, touched, truncateAs, truncateFile, withFiles, writeFile}
+use Rattle.rules.specs.Rules.{Giving, Work, change, copied, copy, deleteAs, deleteFile, dropPage, droppedPages, each, enter, enterAs, eraseFile, freeEntry, freeMap, from, give, giveAll, givePage, hand, handOver, handed, keptPages, mark, partPages, putEntry, reserve, reserveAs, resize, settle, supply, takeOwn, touched, truncateAs, truncateFile, withFiles, writeFile}
 use Rattle.rules.specs.State.{Entry, File, Tree, absentFile, hole, isAbsent, isStored, live, own, stored, unmapped}
 use Rattle.rules.specs.Storage.{Storage}
 

@@ -10,7 +10,6 @@ use Rattle.rules.proofs.Blocks.RealStore.{good-begin, kept-finish}
 use Rattle.rules.proofs.Storages.StoreSim.{Standing, StoreSim, calls-same, view-same}
 use Rattle.rules.specs.Calls.{Result, Store, step, treeIn, viewOf}
 use Rattle.rules.specs.Numbers.{Call, numberOf}
-use Rattle.rules.specs.State.{Tree}
 use Rattle.rules.specs.Storage.{freeBlocks, real}
 use Rattle.rules.proofs.Steps.Handing.{ProperTree}
 

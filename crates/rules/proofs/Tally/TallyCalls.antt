@@ -1,6 +1,6 @@
 -- Every accepted call: the store's rules over `counting` and the tally give the same answer and leave a store and its tally. Assumes nothing.
 use mathlib.Core.Bool.{_&&_, Bool, cond, false, not, true, true≢false}
-use mathlib.Core.List.{List, List·Memᴰ, List·Memᴰ·cases-cons, [], _++_, _∷_}
+use mathlib.Core.List.{List·Memᴰ, List·Memᴰ·cases-cons, [], _++_, _∷_, append-nil}
 use mathlib.Core.Path.{_∙_, _≡_, ap, fun-ext, refl, subst, sym}
 use Prim.Native.Nat.{_%_, _+_, _-_, _/_, _<_, max, suc, zero, ℕ, _≤_}
 use native.Mathlib.Nat.{add-zero}
@@ -47,10 +47,6 @@ module _ (k : Store counting) (f s : ℕ) where
 give-nothing : (t : Tree) (s : ℕ) (w : Work counting) → w ≡ giveAll counting t copied s [] w
 unfolding giveAll each
 give-nothing t s w = refl
-
-append-none : (l : List ℕ) → l ++ [] ≡ l
-append-none [] = refl
-append-none (x ∷ l) = ap (λ y. x ∷ y) (append-none l)
 
 -- the part page and those dropped are the touched pages, in order
 part-dropped : (n z : ℕ) → n < z → partPages n ++ droppedPages n z ≡ cutPages n z
@@ -127,7 +123,7 @@ module _ (k : Store counting) (o : TallyOrderly k) where
       let turns : ℕ → Turn = λ m. tallyTurns (tallyOf k) f s (s ∷ sets .children s) m (writeTouches off n) (λ p. false) in
       let own-file : Turn → (ℕ → Kind) → TallyFile = λ x m. record { state = own; size = max (x .files s .size) (off + n); map = m } in
       ap (λ (w : Work counting). resultOfTally (worked counting k f w))
-      (change-leaves sets (o .proper) levels s (touched off n) (touched off n) [] (writeTouches off n) (λ p. false) (subst (λ l. PagesOf l (writeTouches off n)) (sym (append-none (touched off n))) r) (λ p m. refl) (λ p m. elim m [ ]) tt (λ p m. elim m [ ]) lay (λ m. max m (off + n)) (begin counting k f) (above f))
+      (change-leaves sets (o .proper) levels s (touched off n) (touched off n) [] (writeTouches off n) (λ p. false) (subst (λ l. PagesOf l (writeTouches off n)) (sym (append-nil (touched off n))) r) (λ p m. refl) (λ p m. elim m [ ]) tt (λ p m. elim m [ ]) lay (λ m. max m (off + n)) (begin counting k f) (above f))
       ∙ worked-leaves k f s (turns need) need (own-file (turns need) (each (λ p g. upd g p (stored tt)) (touched off n) (turns need .files s .map))) 0 _
       ∙ ap (λ m. tallyLeaves (tallyOf k) f s need (turns need) (own-file (turns need) m) 0) (fun-ext (put-pages (stored tt) r (turns need .files s .map)))
       ∙ ap (λ m. tallyLeaves (tallyOf k) f s m (turns m) (own-file (turns m) (λ p. cond (ltb p pageCount && writeTouches off n p) (stored tt) (turns m .files s .map p))) 0)

@@ -2,14 +2,13 @@
 -- whether the first child that needs the page takes it over before the others have their copies, as the tally says it, or after, as the store does it. Assumes nothing.
 use mathlib.Core.Bool.{_&&_, cond, false, true, _||_}
 use mathlib.Core.List.{List, List·Memᴰ, List·Memᴰ·head, List·Memᴰ·tail, _∷_, []}
-use mathlib.Core.Path.{_≡_, ap, ap₂, fun-ext, refl, sym, _∙_}
+use mathlib.Core.Path.{_≡_, ap, ap₂, refl, sym, _∙_}
 use Prim.Native.Nat.{_+_, _-_, _<_, suc, zero, ℕ, _≤_}
 use native.Mathlib.Omega.{arith}
 use lib.Dec.{eqb}
-use borrow.Author.Tests.{eqb-true}
 use Rattle.base.specs.Count.{count}
 use Rattle.base.specs.Logic.{test?}
-use Rattle.base.specs.Update.{upd, upd-is, upd-other, upd-same}
+use Rattle.base.specs.Update.{upd, upd-is, upd-other, upd-same, upd-swap}
 use Rattle.rules.proofs.Steps.Handing.{ProperTree, not-itself}
 use Rattle.rules.proofs.Steps.OneStep.{TreeOk}
 use Rattle.rules.proofs.Steps.States.{stored-is}
@@ -17,14 +16,6 @@ use Rattle.rules.proofs.Steps.WriterSteps.{NoDup, resolve-here}
 use Rattle.rules.proofs.Tally.TallyReach.{any-same, kind-resolve, reached-below}
 use Rattle.rules.specs.State.{Tree, hole, isStored, setCount, stored, unmapped}
 use Rattle.rules.specs.Tally.{Kind, TallyFile, TallyFiles, Turn, childPage, childTurn, copyTurn, dependsAbove, eachChild, handTurns, kindAt, markedWith, neededCopy, reachedDown, takenOver, tallyKind, tallyMark, tallyNeeds}
-
--- values put at two places: either may be put first
-upd-swap : {A : Type 0} (f : ℕ → A) (i j : ℕ) (v w : A) → (i ≡ j → ⊥) → upd (upd f i v) j w ≡ upd (upd f j w) i v
-unfolding upd
-upd-swap f i j v w apart =
-    fun-ext (λ x. test? (eqb i x)
-    (λ a. test? (eqb j x) (λ b. absurd (apart (eqb-true i x a ∙ sym (eqb-true j x b)))) (λ b. rw (a, b)))
-    (λ a. rw a))
 
 module _ (t : Tree) (ok : TreeOk t) where
   -- who is marked with the file of set d is found from the files below d

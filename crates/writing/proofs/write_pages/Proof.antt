@@ -6,7 +6,7 @@ use lib.ListN.{length}
 use borrow.Author.Needs.{needs}
 use Rattle.rules.specs.Rules.{from}
 use Rattle.rules.specs.Storage.{overlay}
-use Rattle.entering.proofs.Pending.{none-in, pending-kept, reserves-ready}
+use Rattle.entering.proofs.Pending.{pending-kept, reserves-ready}
 use Rattle.changing.proofs.Whole.{both-need, both-ready, both-used, same-used, settled-used}
 use Rattle.writing.proofs.Writing.{written}
 use Rattle.writing.proofs.write_pages.Statement.{statement}

@@ -10,16 +10,16 @@ use Rattle.copying.proofs.Steps.{step-first}
 use Rattle.copying.proofs.giving.give_all.Statement.{statement}
 use Rattle.copying.proofs.giving.give_all.Tie as tie
 
+-- the first child
+first-child : (c : tie.After-first-child-of) → let a = c .before .before .before .before .args in FirstChild (unpack (a .t .now) .sets) (a .s) (c .first-child-of .result)
+first-child c = record { used = c .before .before .before .before .pre .3; first = c .first-child-of .ensures .0 }
+
 returns : tie.Need-returns
 returns c =
     let d = c .before in
     let s = d .before .before .before .before in
     let a = s .args in
-    both-none (a .s) (d .first-child-of .result) (from (a .first) (a .m)) (from (a .first + a .m) (a .d)) (s .pre .0) (s .pre .3) (d .first-child-of .ensures .0) (c .if1 .taken)
-
--- the first child
-first-child : (c : tie.After-first-child-of) → let a = c .before .before .before .before .args in FirstChild (unpack (a .t .now) .sets) (a .s) (c .first-child-of .result)
-first-child c = record { used = c .before .before .before .before .pre .3; first = c .first-child-of .ensures .0 }
+    both-none (a .s) (d .first-child-of .result) (from (a .first) (a .m)) (from (a .first + a .m) (a .d)) (s .pre .0) (first-child d) (c .if1 .taken)
 
 give-pages-requires : tie.Need-give-pages-requires
 give-pages-requires c κs =

@@ -21,8 +21,8 @@ hand-over-requires c κs =
     let s = i .before .before .before .before in
     let a = s .args in
     let re = g .give-chain .ensures .ready in
-    let left = map-left (a .s) (a .page .0) (a .child) (entryMeant (a .e)) (i .is-gift .result) (r .in-turn .result) (s .pre .0) (s .pre .3) (s .pre .4) (r .in-turn .ensures) (g .give-chain .ensures) (a .page .0) in
-    let own = heir-own (a .t .now) (a .f) (a .s) (a .page .0) (a .child) (entryMeant (a .e)) (i .is-gift .result) (a .hands) (r .in-turn .result) (i .is-gift .ensures) (r .in-turn .ensures) (s .pre .4) in
+    let left = map-left (a .s) (a .page .0) (a .child) (entryMeant (a .e)) (i .is-handed .result) (r .in-turn .result) (s .pre .0) (s .pre .3) (s .pre .4) (r .in-turn .ensures) (g .give-chain .ensures) (a .page .0) in
+    let own = heir-own (a .t .now) (a .f) (a .s) (a .page .0) (a .child) (entryMeant (a .e)) (i .is-handed .result) (a .hands) (r .in-turn .result) (i .is-handed .ensures) (r .in-turn .ensures) (s .pre .4) in
     (re .packed, re .file, s .pre .1, s .pre .2, (λ l. own l ∙ sym left), shown-below (a .s) (a .page .0) (s .pre .0) (s .pre .4))
 
 returns : tie.Need-returns
@@ -33,8 +33,8 @@ returns c =
     let i = r .before .before in
     let s = i .before .before .before .before in
     let a = s .args in
-    page-given (a .s) (a .page .0) (a .child) (entryMeant (a .e)) (i .is-gift .result) (r .in-turn .result) (s .pre .0) (s .pre .3) (s .pre .4) (r .in-turn .ensures) (g .give-chain .ensures) (a .hands)
-    (i .is-gift .ensures) (h .hand-over .ensures)
+    page-given (a .s) (a .page .0) (a .child) (entryMeant (a .e)) (i .is-handed .result) (r .in-turn .result) (s .pre .0) (s .pre .3) (s .pre .4) (r .in-turn .ensures) (g .give-chain .ensures) (a .hands)
+    (i .is-handed .ensures) (h .hand-over .ensures)
 
 pub give-page-spec : {M : Type 1} → statement M
 give-page-spec =

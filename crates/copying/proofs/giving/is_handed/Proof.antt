@@ -1,12 +1,12 @@
--- `copying::giving::is_gift` meets its contract. Assumes nothing.
+-- `copying::giving::is_handed` meets its contract. Assumes nothing.
 use mathlib.Core.Bool.{Bool, _&&_}
 use mathlib.Core.Path.{ap, sym, _∙_}
 use borrow.Author.Needs.{needs}
 use borrow.Author.Tests.{not-false, not-true}
 use Rattle.rules.specs.State.{isStored}
 use Rattle.tables.specs.Packed.{unpack}
-use Rattle.copying.proofs.giving.is_gift.Statement.{statement}
-use Rattle.copying.proofs.giving.is_gift.Tie as tie
+use Rattle.copying.proofs.giving.is_handed.Statement.{statement}
+use Rattle.copying.proofs.giving.is_handed.Tie as tie
 
 returns : tie.Need-returns
 returns c =
@@ -21,5 +21,5 @@ returns-2 c =
     c .is-stored .ensures ∙ ap isStored (e .entry-at .ensures)
     ∙ sym (ap (λ (b : Bool). b && isStored (unpack (a .t .now) .files (a .f) (a .s) .map (a .page .0))) (not-false (a .hands) (i .if1 .left)))
 
-pub is-gift-spec : {M : Type 1} → statement M
-is-gift-spec = tie.close (tie.spec returns (λ c κs. search needs) (λ c κs. search needs) returns-2)
+pub is-handed-spec : {M : Type 1} → statement M
+is-handed-spec = tie.close (tie.spec returns (λ c κs. search needs) (λ c κs. search needs) returns-2)
