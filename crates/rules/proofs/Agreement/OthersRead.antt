@@ -32,7 +32,7 @@ pub record StillReads {K : Type 0} (t t′ : Tree) (a b : Files K) (x : ℕ) : T
   pub size : Alive b x → sizeByReading t′ b x ≡ sizeByReading t a x
 
 -- where nothing changes
-pub still : {K : Type 0} (t : Tree) (a : Files K) (x : ℕ) → StillReads t t a a x
+still : {K : Type 0} (t : Tree) (a : Files K) (x : ℕ) → StillReads t t a a x
 still t a x = record { presence = refl; alive = λ h. h; page = λ p l h. refl; size = λ h. refl }
 
 -- ---- the files of one number, that of set s being changed
