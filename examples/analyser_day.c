@@ -40,13 +40,14 @@ static uint32_t store_sweep(uint32_t file, uint8_t level, size_t length)
     return done.number;
 }
 
-/* Reads a sweep's first points; a marked file gives number 6. */
+/* Reads a sweep's first points, which lie in one page; the count of maps tells how far up the copy had to look for it. A
+ * marked file gives number 6. */
 static uint32_t print_sweep(uint32_t set, uint32_t file)
 {
     uint8_t points[4];
     sweep_answer got = sweep_read(STORE, set, file, 0, points, sizeof points);
     if (got.number == SWEEP_OK && got.first > 0)
-        printf("set %u file %u: level %u\n", (unsigned)set, (unsigned)file, points[0]);
+        printf("set %u file %u: level %u, maps looked at: %u\n", (unsigned)set, (unsigned)file, points[0], (unsigned)got.second);
     else if (got.number == SWEEP_MARKED)
         printf("set %u file %u: out of sync, cannot be read\n", (unsigned)set, (unsigned)file);
     else

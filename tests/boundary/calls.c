@@ -25,23 +25,6 @@ RUN(remove, sweep_remove(STORE, N(0)))
 RUN(size, sweep_size(STORE, N(0), N(1)))
 RUN(free, sweep_free(STORE))
 
-/* "at most pages read x (level + 1)": the one count that document 01 leaves free. */
-static uint32_t most_maps(const struct call *before, uint32_t count)
-{
-    if (count == 0)
-        return 0;
-    uint32_t offset = before->n[2], level = before->lent[TABLES].at[SETS_AT + SET_BYTES * before->n[0]] >> 3 & 7;
-    uint32_t pages = (offset + count - 1) / SWEEP_PAGE_BYTES - offset / SWEEP_PAGE_BYTES + 1;
-    return pages * (level + 1);
-}
-
-static int read_fits(const struct call *before, sweep_answer found, sweep_answer wanted)
-{
-    if (found.number != wanted.number || found.first != wanted.first || found.third != wanted.third)
-        return 0;
-    return found.number == SWEEP_OK ? found.second <= most_maps(before, found.first) : found.second == wanted.second;
-}
-
 /* The rows */
 
 #define STORE_CHANGED [TABLES] = CHANGED, [PAGES] = CHANGED
@@ -56,7 +39,7 @@ static const struct function functions[CALLS] = {
     [WRITE] = {.name = "write", .run = run_write, .lends = {STORE_CHANGED, [BYTES] = READ_ONLY},
                .numbers = {SET, A_FILE, A_PLACE}, .copies = 1, .prepare = data_to_write},
     [READ] = {.name = "read", .run = run_read, .lends = {STORE_READ, [BYTES] = CHANGED}, .numbers = {SET, A_FILE, A_PLACE},
-              .fits = read_fits, .prepare = buffer_to_read},
+              .prepare = buffer_to_read},
     [TRUNCATE] = {.name = "truncate", .run = run_truncate, .lends = {STORE_CHANGED}, .numbers = {SET, A_FILE, A_PLACE},
                   .copies = 1},
     [DELETE] = {.name = "delete", .run = run_delete, .lends = {STORE_CHANGED}, .numbers = {SET, A_FILE}, .copies = 1},

@@ -139,10 +139,8 @@ static void differ(const struct suite *suite, const struct call *call, const cha
 
 static void compare_answers(const struct suite *suite, const struct call *before, sweep_answer found, sweep_answer wanted)
 {
-    const struct function *function = &suite->functions[before->name];
-    int same = found.number == wanted.number && found.first == wanted.first && found.second == wanted.second &&
-               found.third == wanted.third;
-    if (function->fits ? !function->fits(before, found, wanted) : !same)
+    if (found.number != wanted.number || found.first != wanted.first || found.second != wanted.second ||
+        found.third != wanted.third)
         differ(suite, before, "the answers differ", "");
     if (found.number >= ANSWERS)
         differ(suite, before, "a number is out of range", "");

@@ -61,8 +61,6 @@ struct function {
     enum lending lends[BUFFERS];
     struct number numbers[MOST_NUMBERS]; /* those of 0 bits are not told */
 
-    /* Whether an answer is one that is promised, where that is less than the judge's own: buffers as before the call. */
-    int (*fits)(const struct call *before, sweep_answer found, sweep_answer wanted);
     /* Sets to 1 the places of a buffer whose bytes an accepted call leaves free: buffers as the judge left them. They are not
      * compared, and the judge goes on with the store's. */
     void (*leaves)(const struct call *after, enum buffer buffer, uint8_t *free);

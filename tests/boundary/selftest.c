@@ -42,7 +42,9 @@ static void touch_data_in_write(struct done *done) { if (IS(WRITE)) touch(START(
 static void count_one_more_copy(struct done *done) { if (IS(WRITE)) done->answer.second++; }
 static void count_no_marks(struct done *done) { done->answer.third = 0; }
 static void give_another_number(struct done *done) { if (done->answer.number == SWEEP_FULL) done->answer.number = 0; }
-static void look_at_many_maps(struct done *done) { if (IS(READ)) done->answer.second += 64 * 6; }
+static void look_at_no_map(struct done *done) { if (IS(READ)) done->answer.second = 0; }
+static void look_at_one_map_more(struct done *done) { if (IS(READ)) done->answer.second++; }
+static void look_at_one_map_less(struct done *done) { if (IS(READ) && done->answer.second > 1) done->answer.second--; }
 static void change_a_bit(struct done *done) { if (IS(TRUNCATE)) START(TABLES)[5] ^= 1; }
 static void change_beside_tables(struct done *done) { if (IS(DELETE)) change_before(LENT(TABLES)); }
 static void change_beside_pages(struct done *done) { if (IS(DELETE)) change_past(LENT(PAGES)); }
@@ -58,8 +60,8 @@ static const struct fault faults[] = {
     {"none", 0}, FAULT(look_past_tables), FAULT(look_before_tables), FAULT(look_past_pages), FAULT(look_before_pages),
     FAULT(look_past_bytes), FAULT(look_before_bytes), FAULT(touch_tables_in_free), FAULT(touch_pages_in_read),
     FAULT(touch_data_in_write), FAULT(count_one_more_copy), FAULT(count_no_marks), FAULT(give_another_number),
-    FAULT(look_at_many_maps), FAULT(change_beside_tables), FAULT(change_beside_pages), FAULT(change_a_bit),
-    FAULT(change_a_page), FAULT(change_the_buffers_end),
+    FAULT(look_at_no_map), FAULT(look_at_one_map_more), FAULT(look_at_one_map_less), FAULT(change_beside_tables),
+    FAULT(change_beside_pages), FAULT(change_a_bit), FAULT(change_a_page), FAULT(change_the_buffers_end),
 };
 enum { FAULTS = sizeof faults / sizeof *faults };
 static void (*fault)(struct done *done);

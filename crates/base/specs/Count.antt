@@ -26,6 +26,12 @@ unfolding count
 count-same zero f g h = refl
 count-same (suc n) f g h = rw (h n (omega arith), count-same n f g (λ x l. h x (omega arith)))
 
+-- the first number apart
+pub count-front : (n : ℕ) (f : ℕ → Bool) → count (suc n) f ≡ cond (f 0) 1 0 + count n (λ x. f (suc x))
+unfolding count
+count-front zero f = refl
+count-front (suc n) f = omega (arith, count-front n f)
+
 -- fewer pass where each that passes passed before
 pub count-fewer : (n : ℕ) (f g : ℕ → Bool) → ((x : ℕ) → x < n → g x ≡ true → f x ≡ true) → count n g ≤ count n f
 unfolding count

@@ -2,22 +2,21 @@
 use mathlib.Core.Bool.{not, true}
 use mathlib.Core.List.{List, []}
 use mathlib.Core.Path.{ap, refl, sym, _∙_, _≡_}
-use Prim.Native.Nat.{_<_, ℕ, _≤_}
-use native.Mathlib.Omega.{arith}
+use Prim.Native.Nat.{_<_, ℕ}
 use lib.ListN.{length}
 use Rattle.base.specs.Count.{count}
 use Rattle.calls.proofs.CallCases.{number-on, numberIn}
-use Rattle.calls.specs.Outcomes.{answerMeant, outcome, readOutcome}
-use Rattle.looking.proofs.Outcome.{free-outcome, read-looks, read-outcome, size-outcome, tells}
+use Rattle.calls.specs.Outcomes.{answerMeant, outcome}
+use Rattle.looking.proofs.Outcome.{free-outcome, read-outcome, size-outcome, tells}
 use Rattle.looking.specs.Read.{ReadDone}
 use Rattle.packing.specs.Bitmap.{number}
 use Rattle.rules.proofs.Whole.Accepted.{passed-size}
 use Rattle.rules.specs.Calls.{Store, viewOf}
-use Rattle.rules.specs.Numbers.{Answer, conditions, lowest, numberOf, read, refusal, tellFree, tellSize}
+use Rattle.rules.specs.Numbers.{Answer, conditions, lowest, numberOf, read, tellFree, tellSize}
 use Rattle.rules.specs.Reading.{sizeByReading}
 use Rattle.rules.specs.State.{treeOf}
 use Rattle.rules.specs.Storage.{real}
-use Rattle.tables.specs.Calls.{callOn, lookedAt, looksBound, storeOf}
+use Rattle.tables.specs.Calls.{callOn, lookedAt, storeOf}
 use Rattle.tables.specs.Packed.{unpack, wellFormed}
 use Rattle.calls.specs.declared.answer.Answer as declared
 
@@ -37,23 +36,12 @@ module _ (r : declared.Answer) (t p : List ℕ) (formed : wellFormed t (length p
   pub free-as : (n : ℕ) → answerMeant r ≡ tells n → n ≡ count (unpack t .blocks) (λ b. not (unpack t .bits b)) → outcome r t p [] ≡ callOn tellFree t p
   free-as n a e = ap (λ (x : Answer). lookedAt x t p []) a ∙ sym (free-outcome t p n e (number-on t p tellFree refl formed (free-number (storeOf t p))))
 
-  -- READ: its second count is left free, and bounded
+  -- READ
   pub read-as : (s f off : ℕ) (before after : List ℕ) → 0 ≡ numberIn t p (read s f off before) → ReadDone t p s f off before after (r .first) (r .second)
-      → (r .number ≡ 0) × (r .third ≡ 0)
-      → (readOutcome r t p after ≡ callOn (read s f off before) t p) × (r .second ≤ looksBound s f off before t p)
+      → (r .number ≡ 0) × (r .third ≡ 0) → outcome r t p after ≡ callOn (read s f off before) t p
   read-as s f off before after z d e =
-      let n = number-on t p (read s f off before) refl formed z in (
-        (λ i. lookedAt (record { number = e .0 i; first = r .first; second = 0; third = e .1 i }) t p after) ∙ sym (read-outcome t p s f off before after (r .first) (r .second) d n),
-        read-looks t p s f off before after (r .first) (r .second) d n,
-      )
-
--- a refused read: no maps were looked at
-pub read-refused : (r : declared.Answer) (t p : List ℕ) (s f off n : ℕ) (buffer : List ℕ) → answerMeant r ≡ refusal n
-    → outcome r t p buffer ≡ callOn (read s f off buffer) t p
-    → (readOutcome r t p buffer ≡ callOn (read s f off buffer) t p) × (r .second ≤ looksBound s f off buffer t p)
-read-refused r t p s f off n buffer a e =
-    let z : r .second ≡ 0 = ap (λ (x : Answer). x .second) a in
-    ((λ i. lookedAt (record { number = r .number; first = r .first; second = sym z i; third = r .third }) t p buffer) ∙ e, omega (arith, z))
+      (λ i. lookedAt (record { number = e .0 i; first = r .first; second = r .second; third = e .1 i }) t p after)
+      ∙ sym (read-outcome t p s f off before after (r .first) (r .second) d (number-on t p (read s f off before) refl formed z))
 
 -- what reading a file and its size ask for
 pub look-requires : (t p : List ℕ) (s f : ℕ) → 0 ≡ numberIn t p (tellSize s f) → (f < 16) × (s < 8)

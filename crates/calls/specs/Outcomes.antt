@@ -2,7 +2,7 @@
 use mathlib.Core.List.{List}
 use Prim.Native.Nat.{ℕ}
 use Rattle.rules.specs.Numbers.{Answer}
-use Rattle.tables.specs.Calls.{Outcome, withoutLooks}
+use Rattle.tables.specs.Calls.{Outcome}
 use Rattle.calls.specs.declared.answer.Answer as declared
 
 -- the answer that a struct of the code means
@@ -12,7 +12,3 @@ answerMeant r = record { number = r .number; first = r .first; second = r .secon
 -- the outcome: an answer, and the tables, the pages and the buffer afterwards
 abbrev pub outcome : declared.Answer → List ℕ → List ℕ → List ℕ → Outcome
 outcome r t p buffer = record { answer = answerMeant r; tables = t; pages = p; buffer = buffer }
-
--- the outcome of a read, whose second count document 01 leaves free
-abbrev pub readOutcome : declared.Answer → List ℕ → List ℕ → List ℕ → Outcome
-readOutcome r t p buffer = record { answer = withoutLooks (answerMeant r); tables = t; pages = p; buffer = buffer }

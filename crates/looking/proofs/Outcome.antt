@@ -1,16 +1,15 @@
 -- What an accepted read, size and free are as calls on bytes. Assumes nothing.
-use mathlib.Core.Bool.{not, true}
+use mathlib.Core.Bool.{not}
 use mathlib.Core.List.{List, []}
-use mathlib.Core.Path.{ap, subst, sym, _∙_, _≡_}
-use Prim.Native.Nat.{_*_, suc, ℕ, _≤_}
+use mathlib.Core.Path.{ap, sym, _∙_, _≡_}
+use Prim.Native.Nat.{ℕ}
 use Rattle.base.specs.Count.{count}
-use Rattle.rules.specs.Calls.{accepted}
+use Rattle.rules.specs.Calls.{accepted, readLooks}
 use Rattle.rules.specs.Numbers.{Answer, Call, numberOf, read, tellFree, tellSize}
 use Rattle.rules.specs.Reading.{sizeByReading}
-use Rattle.rules.specs.Rules.{countIn, touched}
 use Rattle.rules.specs.State.{treeOf}
 use Rattle.rules.specs.Storage.{freeBlocks}
-use Rattle.tables.specs.Calls.{Outcome, acceptedOn, callOn, lookedAt, looksBound, outcomeOf, viewOn}
+use Rattle.tables.specs.Calls.{acceptedOn, callOn, lookedAt, outcomeOf, viewOn}
 use Rattle.tables.specs.Packed.{unpack}
 use Rattle.looking.specs.Read.{ReadDone}
 
@@ -25,15 +24,13 @@ accepted-call c t p e = ap (λ n. outcomeOf n c t p) e
 
 module _ (t p : List ℕ) (s f : ℕ) where
   module _ (off : ℕ) (before after : List ℕ) (bytes looks : ℕ) (h : ReadDone t p s f off before after bytes looks) (z : numberOf (viewOn t p) (read s f off before) ≡ 0) where
-    -- LAW: what an accepted read leaves is the outcome of the call, whose second count is left free
-    pub read-outcome : callOn (read s f off before) t p ≡ lookedAt (tells bytes) t p after
+    -- LAW: what an accepted read leaves is the outcome of the call
+    pub read-outcome : callOn (read s f off before) t p ≡ lookedAt (record { number = 0; first = bytes; second = looks; third = 0 }) t p after
     unfolding acceptedOn accepted
-    read-outcome = accepted-call (read s f off before) t p z ∙ (λ i. lookedAt (tells (sym (h .counted) i)) t p (sym (h .filled) i))
-
-    -- LAW: its looks are in the bound
-    pub read-looks : looks ≤ looksBound s f off before t p
-    unfolding looksBound
-    read-looks = subst (λ n. looks ≤ countIn (touched off n) (λ q. true) * suc (unpack t .sets s .level)) (sym (ap (λ (o : Outcome). o .answer .first) read-outcome)) (h .looked)
+    read-outcome =
+        let k = h .looked ∙ ap (readLooks (treeOf (unpack t .sets)) (unpack t .files f) s off) (h .counted) in
+        accepted-call (read s f off before) t p z
+        ∙ (λ i. lookedAt (record { number = 0; first = sym (h .counted) i; second = sym k i; third = 0 }) t p (sym (h .filled) i))
 
   -- LAW: an accepted size
   pub size-outcome : (n : ℕ) → n ≡ sizeByReading (treeOf (unpack t .sets)) (unpack t .files f) s → numberOf (viewOn t p) (tellSize s f) ≡ 0

@@ -1,8 +1,7 @@
 -- A read, a page at a time: the bytes of a part of one page, what is read so far, and the entries that are kept for it. Assumes nothing.
-use mathlib.Core.Bool.{true}
 use mathlib.Core.List.{_++_, List}
 use mathlib.Core.Path.{ap, refl, subst, sym, _∙_, _≡_}
-use Prim.Native.Nat.{_%_, _*_, _+_, _-_, _/_, _<_, suc, zero, ℕ, _≤_}
+use Prim.Native.Nat.{_%_, _*_, _+_, _-_, _/_, _<_, ℕ, _≤_}
 use native.Mathlib.Nat.{zero-add}
 use native.Mathlib.Omega.{arith}
 use lib.Dec.{ltb}
@@ -10,19 +9,19 @@ use lib.ListN.{drop, length}
 use borrow.Author.Tests.{ltb-false, ltb-true}
 use Rattle.base.specs.Logic.{test?}
 use Rattle.base.specs.Tabulate.{tab}
-use Rattle.maps.proofs.ManyPages.{range-looks}
 use Rattle.maps.specs.ManyPages.{RangeResolved}
 use Rattle.maps.specs.declared.resolving.ResolvedPages.{ResolvedPages}
 use Rattle.pages.specs.Run.{run, run-front, run-none, run-same, run-then}
 use Rattle.rules.proofs.Formed.Shape.{size-most}
 use Rattle.rules.proofs.Blocks.Tidy.{resolve-named}
-use Rattle.rules.specs.Calls.{byteByReading, readCount, readInto}
-use Rattle.rules.specs.Reading.{resolve, sizeByReading}
-use Rattle.rules.specs.Rules.{countIn, from, pageOf, touched}
+use Rattle.rules.proofs.Agreement.Agree.{touched-is}
+use Rattle.rules.specs.Calls.{byteByReading, readCount, readInto, readLooks}
+use Rattle.rules.specs.Reading.{looks, resolve, sizeByReading}
+use Rattle.rules.specs.Rules.{pageOf, sumIn, touched}
 use Rattle.rules.specs.State.{Entry, hole, stored, treeOf, unmapped}
 use Rattle.rules.specs.Storage.{real}
 use Rattle.tables.proofs.FormedStore.{FormedStore}
-use Rattle.tables.specs.Calls.{pagesOf, storeOf}
+use Rattle.tables.specs.Calls.{storeOf}
 use Rattle.tables.specs.Packed.{unpack}
 use Rattle.tables.specs.Views.{entriesOf}
 use Rattle.tables.specs.declared.entries.Kept.{Kept}
@@ -59,8 +58,8 @@ pub in-file : (m off z n : ℕ) → n ≡ readCount m off z → z ≤ 32768 → 
 in-file m off z n e h some = (omega arith, omega arith)
 
 -- so are their pages
-pub pages-in : (off n : ℕ) → off + n ≤ 32768 → (n ≡ 0 → ⊥) → off / 512 + ((off + n - 1) / 512 - off / 512 + 1) ≤ 64
-pages-in off n h some = let a : off / 512 ≤ (off + n - 1) / 512 = omega arith in let b : (off + n - 1) / 512 < 64 = omega arith in omega arith
+pub pages-in : (off n first : ℕ) → first ≤ off / 512 → off + n ≤ 32768 → (n ≡ 0 → ⊥) → first + ((off + n - 1) / 512 - first + 1) ≤ 64
+pages-in off n first l h some = let a : off / 512 ≤ (off + n - 1) / 512 = omega arith in let b : (off + n - 1) / 512 < 64 = omega arith in omega arith
 
 -- a size by reading is in range
 pub size-in : (t p : List ℕ) → FormedStore t p → (s f : ℕ) → sizeByReading (treeOf (unpack t .sets)) (unpack t .files f) s ≤ 32768
@@ -103,20 +102,6 @@ module _ (t p : List ℕ) (s f : ℕ) (ok : FormedStore t p) (first m : ℕ) (x 
   unfolding byteKept byteByReading
   byte-read k a b = ap (λ e. byteAt p e (k % 512)) (r .found (k / 512) a b) ∙ byte-of (resolve (treeOf (unpack t .sets)) (unpack t .files f) s (k / 512)) (k % 512)
 
--- ---- pages read
-
-count-from : (a n : ℕ) → countIn (from a n) (λ q. true) ≡ n
-unfolding countIn from
-count-from a zero = refl
-count-from a (suc n) = omega (arith, count-from (suc a) n)
-
-count-touched : (off n : ℕ) → (n ≡ 0 → ⊥) → countIn (touched off n) (λ q. true) ≡ (off + n - 1) / 512 - off / 512 + 1
-unfolding touched
-count-touched off zero h = absurd (h refl)
-count-touched off (suc n) h =
-    let e : off + suc n - 1 ≡ off + n = omega arith in
-    rw e (omega (arith, count-from (off / 512) (suc ((off + n) / 512 - off / 512))))
-
 -- ---- the whole
 
 abbrev sizeIn : List ℕ → ℕ → ℕ → ℕ
@@ -124,27 +109,26 @@ sizeIn t s f = sizeByReading (treeOf (unpack t .sets)) (unpack t .files f) s
 
 -- LAW: nothing is read
 pub read-none : (t p : List ℕ) (s f off n : ℕ) (l : List ℕ) → n ≡ readCount (length l) off (sizeIn t s f) → n ≡ 0 → ReadDone t p s f off l l 0 0
-unfolding readInto
+unfolding readInto readLooks touched sumIn
 read-none t p s f off n l e z =
     let g : ℕ → ℕ = λ i. byteByReading (storeOf t p) s f (off + i) in
     let q : 0 ≡ readCount (length l) off (sizeIn t s f) = sym z ∙ e in
     record {
       filled = sym (run-none l 0 g) ∙ run-front l g 0 (omega arith) ∙ ap (λ k. tab k g ++ drop k l) q;
       counted = q;
-      looked = omega arith;
+      looked = refl;
     }
 
 -- LAW: n bytes are read
 pub read-done : (t p : List ℕ) (s f off n : ℕ) (before after : List ℕ) (x : ResolvedPages) → FormedStore t p → n ≡ readCount (length before) off (sizeIn t s f) → (n ≡ 0 → ⊥)
     → RangeResolved (unpack t) f s (off / 512) ((off + n - 1) / 512 - off / 512 + 1) x → after ≡ run before 0 (λ i. byteKept (x .kept) p (off + i)) n
     → ReadDone t p s f off before after n (x .looks)
-unfolding readInto
+unfolding readInto readLooks
 read-done t p s f off n before after x ok e z r h =
     let g : ℕ → ℕ = λ i. byteByReading (storeOf t p) s f (off + i) in
     record {
       filled = h ∙ run-same before 0 (λ i. byteKept (x .kept) p (off + i)) g n (λ i l. byte-read t p s f ok _ _ x r (off + i) (omega arith) (omega arith))
           ∙ run-front before g n (omega arith) ∙ ap (λ k. tab k g ++ drop k before) e;
       counted = e;
-      looked = subst (λ k. x .looks ≤ k * suc (unpack t .sets s .level)) (sym (count-touched off n z))
-          (let a : unpack t .sets s .level + 1 ≡ suc (unpack t .sets s .level) = omega arith in rw a at (range-looks _ _ _ _ _ _ r));
+      looked = r .looked ∙ ap (λ ps. sumIn ps (looks (treeOf (unpack t .sets)) (unpack t .files f) s)) (sym (touched-is off n _ _ (omega arith) refl refl));
     }

@@ -1,12 +1,10 @@
 -- What an accepted read leaves in the buffer and gives as counts.
-use mathlib.Core.Bool.{true}
 use mathlib.Core.List.{List}
 use mathlib.Core.Path.{_≡_}
-use Prim.Native.Nat.{_%_, _*_, _+_, _/_, _<_, suc, ℕ, _≤_}
+use Prim.Native.Nat.{_%_, _*_, _+_, _/_, _<_, ℕ, _≤_}
 use lib.ListN.{length}
-use Rattle.rules.specs.Calls.{readCount, readInto}
+use Rattle.rules.specs.Calls.{readCount, readInto, readLooks}
 use Rattle.rules.specs.Reading.{sizeByReading}
-use Rattle.rules.specs.Rules.{countIn, touched}
 use Rattle.rules.specs.State.{Entry, hole, pageBytes, pageCount, stored, treeOf, unmapped}
 use Rattle.tables.specs.Calls.{pagesOf, storeOf}
 use Rattle.tables.specs.Packed.{unpack}
@@ -19,8 +17,8 @@ pub record ReadDone (t p : List ℕ) (s f off : ℕ) (before after : List ℕ) (
   pub filled : after ≡ readInto (storeOf t p) s f off before
   -- "the smaller of the buffer's length and the bytes from the offset to the size, none at or past it"
   pub counted : bytes ≡ readCount (length before) off (sizeByReading (treeOf (unpack t .sets)) (unpack t .files f) s)
-  -- "the maps looked at, at most pages read × (level + 1)"
-  pub looked : looks ≤ countIn (touched off bytes) (λ q. true) * suc (unpack t .sets s .level)
+  -- the maps looked at, "For each page holding a byte read"
+  pub looked : looks ≡ readLooks (treeOf (unpack t .sets)) (unpack t .files f) s off bytes
 
 -- byte i of a page with an entry, of the pages p
 abbrev pub byteAt : List ℕ → Entry ℕ → ℕ → ℕ

@@ -1,27 +1,26 @@
 -- Many pages resolved at once: one entry more is kept, those that a map leaves unmapped, the way up, and the maps looked at. Assumes nothing.
 use mathlib.Core.Bool.{_&&_, Bool, cond, false, not, true, true≢false}
 use mathlib.Core.List.{List}
-use mathlib.Core.Path.{ap, ap₂, refl, subst, sym, _∙_, _≡_}
+use mathlib.Core.Path.{ap, ap₂, fun-ext, refl, subst, sym, _∙_, _≡_}
 use Prim.Native.Nat.{_*_, _+_, _-_, _<_, _^_, suc, zero, ℕ, _≤_}
 use native.Mathlib.Omega.{arith}
 use lib.Bits.{bitAnd}
 use lib.Count.{trailingZeros}
-use lib.Dec.{ltb}
 use lib.ListN.{length}
-use borrow.Author.Tests.{ltb-false, ltb-true}
 use Rattle.base.specs.Count.{count, sum}
 use Rattle.base.specs.Logic.{and-true, same?, test?}
 use Rattle.base.specs.Update.{upd, upd-other, upd-same}
 use Rattle.masks.proofs.MaskPages.{and-pages, lowest-gone, lowest-others, lowest-page, no-pages, not-pages}
 use Rattle.masks.proofs.PageMasks.{mask-page}
 use Rattle.masks.specs.Pages.{IsRange, pageMask, pages}
-use Rattle.rules.proofs.Blocks.Sums.{sum-zero}
 use Rattle.rules.proofs.Steps.States.{unmapped-is}
+use Rattle.rules.proofs.Tally.TallyLoops.{PagesOf, sum-pages}
+use Rattle.rules.specs.Rules.{from, sumIn}
 use Rattle.rules.specs.State.{Entry, Tables, hole, isUnmapped, unmapped}
 use Rattle.tables.proofs.KeptEntries.{all-holes}
 use Rattle.tables.specs.Views.{allHoles, entriesOf}
 use Rattle.tables.specs.declared.entries.Kept.{Kept}
-use Rattle.maps.proofs.Steps.{looks-above, looks-here, looks-low, looks-most, resolve-above, resolve-here, resolve-level, resolve-low}
+use Rattle.maps.proofs.Steps.{looks-above, looks-here, looks-level, looks-low, looks-most, resolve-above, resolve-here, resolve-level, resolve-low}
 use Rattle.maps.specs.ManyPages.{AllMapped, EntriesKept, PagesResolved, RangeResolved, UnmappedIn}
 use Rattle.maps.specs.Upward.{looksFrom, resolveFrom}
 use Rattle.maps.specs.declared.resolving.ResolvedPages.{ResolvedPages}
@@ -92,20 +91,6 @@ sum-most : (n b : ℕ) (g : ℕ → ℕ) → ((p : ℕ) → g p ≤ b) → sum n
 unfolding sum
 sum-most zero b g h = omega arith
 sum-most (suc n) b g h = let a = h n in let c = sum-most n b g h in omega arith
-
--- a sum of a range
-sum-range : (k : ℕ) (first n : ℕ) (g h : ℕ → ℕ) → first + n ≤ k → ((i : ℕ) → i < n → g (first + i) ≡ h i) → ((p : ℕ) → p < k → (first ≤ p → p < first + n → ⊥) → g p ≡ 0) → sum k g ≡ sum n h
-unfolding sum
-sum-range zero first n g h l e o = let z : n ≡ 0 = omega arith in rw z
-sum-range (suc k) first zero g h l e o = sum-zero (suc k) g (λ p q. o p q (λ a b. omega arith))
-sum-range (suc k) first (suc n) g h l e o = test? (ltb k (first + suc n))
-    (λ d. let q : k ≡ first + n = let x = ltb-true k (first + suc n) d in omega arith in
-    let a : g k ≡ h n = ap g q ∙ e n (omega arith) in
-    let b = sum-range k first n g h (omega arith) (λ i m. e i (omega arith)) (λ p m x. o p (omega arith) (λ u v. x u (omega arith))) in omega arith)
-    (λ d. let x = ltb-false k (first + suc n) d in
-    let a = o k (omega arith) (λ u v. omega arith) in
-    let b = sum-range k first (suc n) g h (omega arith) e (λ p m y. o p (omega arith) y) in
-    rw a (omega (arith, b)))
 
 -- ---- the way up
 
@@ -204,6 +189,18 @@ few-looks tb f s level m r h = subst (λ x. x ≤ 64 * (level + 1)) (sym (h .loo
 
 -- ---- a range
 
+-- the pages of the mask, as a list
+range-pages : (m first n : ℕ) → first + n ≤ 64 → IsRange m first n → PagesOf (from first n) (pages m)
+range-pages m first n fit x = record {
+  first = first;
+  number = n;
+  is = refl;
+  fit = fit;
+  passes = x .inside;
+  before = λ p l. x .outside p (omega arith) (λ a b. omega arith);
+  behind = λ p l q. x .outside p q (λ a b. omega arith);
+}
+
 -- LAW: from a set with its own level
 pub range-resolved : (tb : Tables) (f s first n level m : ℕ) (r : ResolvedPages) → first + n ≤ 64 → level ≡ tb .sets s .level → IsRange m first n
     → PagesResolved tb f s level m r → RangeResolved tb f s first n r
@@ -211,11 +208,5 @@ range-resolved tb f s first n level m r fit e x h = record {
   len = h .len;
   found = λ p a b. h .found p (omega arith) ∙ ap (λ c. cond c (resolveFrom tb f p s level) hole) (x .inside p a b) ∙ resolve-level tb f p s level e;
   others = λ p q o. h .found p q ∙ ap (λ c. cond c (resolveFrom tb f p s level) hole) (x .outside p q o);
-  looked = h .looked ∙ sum-range 64 first n _ _ fit
-      (λ i l. ap (λ c. cond c (looksFrom tb f (first + i) s level) 0) (x .inside (first + i) (omega arith) (omega arith)) ∙ ap (looksFrom tb f (first + i) s) e)
-      (λ p l o. ap (λ c. cond c (looksFrom tb f p s level) 0) (x .outside p l o));
+  looked = h .looked ∙ sum-pages (range-pages m first n fit x) (λ p. looksFrom tb f p s level) ∙ ap (sumIn (from first n)) (fun-ext (λ p. looks-level tb f p s level e));
 }
-
--- LAW: "the maps looked at, at most pages read × (level + 1)"
-pub range-looks : (tb : Tables) (f s first n : ℕ) (r : ResolvedPages) → RangeResolved tb f s first n r → r .looks ≤ n * (tb .sets s .level + 1)
-range-looks tb f s first n r h = subst (λ x. x ≤ n * (tb .sets s .level + 1)) (sym (h .looked)) (sum-most n (tb .sets s .level + 1) _ (λ i. looks-most tb f (first + i) s (tb .sets s .level)))

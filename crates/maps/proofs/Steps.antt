@@ -2,15 +2,15 @@
 -- Assumes nothing.
 use mathlib.Core.Bool.{false, true, true≢false}
 use mathlib.Core.Path.{ap, refl, sym, _≡_}
-use Prim.Native.Nat.{_+_, _-_, suc, zero, ℕ, _≤_}
+use Prim.Native.Nat.{_+_, _-_, _<_, suc, zero, ℕ, _≤_}
 use native.Mathlib.Numerals.{sub-one}
 use native.Mathlib.Omega.{arith}
 use lib.Dec.{eqb}
 use borrow.Author.Tests.{eq-eqb, ne-eqb}
-use Rattle.base.specs.Logic.{test?}
 use Rattle.maps.specs.Upward.{looksFrom, resolveFrom, sizeFrom}
 use Rattle.rules.proofs.Steps.States.{virgin-is}
-use Rattle.rules.specs.Reading.{dependent, dependsOn, needs, reaches, resolve, shownEntry, shownSize, sizeByReading, someUnmapped, walk}
+use Rattle.rules.proofs.Steps.Walk.{looks-up-most}
+use Rattle.rules.specs.Reading.{dependent, dependsOn, looks, looksUp, needs, reaches, resolve, shownEntry, shownSize, sizeByReading, someUnmapped, walk}
 use Rattle.rules.specs.State.{Entry, File, Files, State, Tables, absent, hole, isUnmapped, isVirgin, live, marked, own, pageCount, stored, treeOf, unmapped, virgin}
 
 -- ---- a page
@@ -48,30 +48,32 @@ module _ (tb : Tables) (f p s : ℕ) where
 
 -- ---- the maps looked at
 
-pub looks-some : (tb : Tables) (f p s n : ℕ) → 1 ≤ looksFrom tb f p s n
-unfolding looksFrom
-looks-some tb f p s zero = omega arith
-looks-some tb f p s (suc n) = test? (isUnmapped (tb .files f s .map p)) (λ e. rw e (omega arith)) (λ e. rw e (omega arith))
+-- from a set with its own level, they are those of the rules
+pub looks-level : (tb : Tables) (f p s n : ℕ) → n ≡ tb .sets s .level → looksFrom tb f p s n ≡ looks (treeOf (tb .sets)) (tb .files f) s p
+unfolding looksFrom looks
+looks-level tb f p s n e = ap (λ m. looksUp (λ x. tb .sets x .parent) p m (tb .files f) s) e
 
 -- LAW: at most one more than the parents
 pub looks-most : (tb : Tables) (f p s n : ℕ) → looksFrom tb f p s n ≤ n + 1
 unfolding looksFrom
-looks-most tb f p s zero = omega arith
-looks-most tb f p s (suc n) =
-    test? (isUnmapped (tb .files f s .map p)) (λ e. rw e (omega (arith, looks-most tb f p (tb .sets s .parent) n))) (λ e. rw e (omega arith))
+looks-most tb f p s n = omega (arith, looks-up-most (λ x. tb .sets x .parent) p n (tb .files f) s)
+
+-- so at most 8
+pub few-looks-up : (tb : Tables) (f p s n x : ℕ) → x ≡ looksFrom tb f p s n → n < 8 → x ≤ 8
+few-looks-up tb f p s n x e l = omega (arith, looks-most tb f p s n)
 
 module _ (tb : Tables) (f p s : ℕ) where
   pub looks-low : (n : ℕ) → n ≡ 0 → looksFrom tb f p s n ≡ 1
-  unfolding looksFrom
+  unfolding looksFrom looksUp
   looks-low n e = rw e
 
   pub looks-above : (n : ℕ) → (n ≡ 0 → ⊥) → tb .files f s .map p ≡ unmapped → looksFrom tb f p s n ≡ looksFrom tb f p (tb .sets s .parent) (n - 1) + 1
-  unfolding looksFrom
+  unfolding looksFrom looksUp
   looks-above zero e h = absurd (e refl)
   looks-above (suc n) e h = rw (h, sub-one) (omega arith)
 
   pub looks-here : (n : ℕ) → isUnmapped (tb .files f s .map p) ≡ false → looksFrom tb f p s n ≡ 1
-  unfolding looksFrom
+  unfolding looksFrom looksUp
   looks-here zero h = refl
   looks-here (suc n) h = rw h
 

@@ -6,7 +6,8 @@ use Prim.Native.Nat.{_+_, _<_, _^_, ℕ, _≤_}
 use lib.ListN.{length}
 use Rattle.base.specs.Count.{sum}
 use Rattle.masks.specs.Pages.{pages}
-use Rattle.rules.specs.Reading.{resolve}
+use Rattle.rules.specs.Reading.{looks, resolve}
+use Rattle.rules.specs.Rules.{from, sumIn}
 use Rattle.rules.specs.State.{Entry, Tables, hole, isUnmapped, pageCount, treeOf}
 use Rattle.tables.specs.Views.{entriesOf}
 use Rattle.tables.specs.declared.entries.Kept.{Kept}
@@ -38,4 +39,4 @@ pub record RangeResolved (tb : Tables) (f s first n : ℕ) (r : ResolvedPages) :
   pub len : length (r .kept) ≡ pageCount
   pub found : (p : ℕ) → first ≤ p → p < first + n → entriesOf (r .kept) p ≡ resolve (treeOf (tb .sets)) (tb .files f) s p
   pub others : (p : ℕ) → p < pageCount → (first ≤ p → p < first + n → ⊥) → entriesOf (r .kept) p ≡ hole
-  pub looked : r .looks ≡ sum n (λ i. looksFrom tb f (first + i) s (tb .sets s .level))
+  pub looked : r .looks ≡ sumIn (from first n) (looks (treeOf (tb .sets)) (tb .files f) s)

@@ -1,8 +1,7 @@
 -- What a walk up the parents shows of a page and of a size, from any set and at most n parents up, and how many maps it looks at.
-use mathlib.Core.Bool.{cond}
-use Prim.Native.Nat.{suc, zero, ℕ}
-use Rattle.rules.specs.Reading.{shownEntry, shownSize, walk}
-use Rattle.rules.specs.State.{Entry, File, Tables, hole, isUnmapped}
+use Prim.Native.Nat.{ℕ}
+use Rattle.rules.specs.Reading.{looksUp, shownEntry, shownSize, walk}
+use Rattle.rules.specs.State.{Entry, File, Tables, hole}
 
 -- what page p of file f is in set s
 unfoldable pub resolveFrom : Tables → ℕ → ℕ → ℕ → ℕ → Entry ℕ
@@ -12,7 +11,6 @@ resolveFrom tb f p s n = walk (λ x. tb .sets x .parent) (λ (x : File ℕ). sho
 unfoldable pub sizeFrom : Tables → ℕ → ℕ → ℕ → ℕ
 sizeFrom tb f s n = walk (λ x. tb .sets x .parent) (λ (x : File ℕ). shownSize (x .state) (x .size)) 0 n (tb .files f) s
 
--- how many maps are looked at for that page: one for the set's own, and one for each parent's that is gone to
+-- how many maps are looked at for that page
 unfoldable pub looksFrom : Tables → ℕ → ℕ → ℕ → ℕ → ℕ
-looksFrom tb f p s zero = 1
-looksFrom tb f p s (suc n) = cond (isUnmapped (tb .files f s .map p)) (suc (looksFrom tb f p (tb .sets s .parent) n)) 1
+looksFrom tb f p s n = looksUp (λ x. tb .sets x .parent) p n (tb .files f) s

@@ -1,6 +1,6 @@
 // What a page resolves to, and the size by reading.
 ghost use mathlib.Core.Path.{_≡_};
-ghost use Prim.Native.Nat.{_+_, _<_, _≤_};
+ghost use Prim.Native.Nat.{_<_};
 ghost use lib.ListN.{length};
 ghost use Rattle.rules.specs.State.{treeOf};
 ghost use Rattle.rules.specs.Reading as Reading;
@@ -68,7 +68,7 @@ pub fn parent_in(t: &[u8], s: usize) -> usize
 // What a page is in set s, at most `level` parents up: one look for its own map, and one for each parent's that is gone to.
 fn resolve(t: &[u8], f: usize, page: Page, s: usize, level: usize) -> Resolved
     requires { ⌜ (length (now t) ≡ tableBytes) × (f < 16) × (page .0 < 64) × (level < 8) ⌝ }
-    ensures { λ r. ⌜ (entryMeant (r .entry) ≡ resolveFrom (unpack (now (t .entry))) f (page .0) s level) × (1 ≤ r .looks) × (r .looks ≤ level + 1) × (r .looks ≡ looksFrom (unpack (now (t .entry))) f (page .0) s level) ⌝ }
+    ensures { λ r. ⌜ (entryMeant (r .entry) ≡ resolveFrom (unpack (now (t .entry))) f (page .0) s level) × (r .looks ≡ looksFrom (unpack (now (t .entry))) f (page .0) s level) ⌝ }
 {
     let e = entry_in(t, f, s, page);
     match e {
@@ -100,7 +100,7 @@ fn resolve(t: &[u8], f: usize, page: Page, s: usize, level: usize) -> Resolved
 // What a page resolves to in set s. Most pages are mapped there, and for them nothing is gone up to.
 pub fn resolve_in(t: &[u8], f: usize, page: Page, s: usize) -> Resolved
     requires { ⌜ (length (now t) ≡ tableBytes) × (f < 16) × (page .0 < 64) × (s < 8) ⌝ }
-    ensures { λ r. ⌜ (entryMeant (r .entry) ≡ Reading.resolve (treeOf (unpack (now (t .entry)) .sets)) (unpack (now (t .entry)) .files f) s (page .0)) × (1 ≤ r .looks) × (r .looks ≤ unpack (now (t .entry)) .sets s .level + 1) × (r .looks ≤ 8) × (r .looks ≡ looksFrom (unpack (now (t .entry))) f (page .0) s (unpack (now (t .entry)) .sets s .level)) ⌝ }
+    ensures { λ r. ⌜ (entryMeant (r .entry) ≡ Reading.resolve (treeOf (unpack (now (t .entry)) .sets)) (unpack (now (t .entry)) .files f) s (page .0)) × (r .looks ≡ Reading.looks (treeOf (unpack (now (t .entry)) .sets)) (unpack (now (t .entry)) .files f) s (page .0)) ⌝ }
 {
     let e = entries::entry_at(t, f, s, page);
     if !entries::is_unmapped(e) {

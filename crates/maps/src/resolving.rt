@@ -55,7 +55,7 @@ fn keep_mapped(t: &[u8], f: usize, s: usize, m: u64, kept: [Kept; 64]) -> [Kept;
 }
 
 // What the pages of the mask m are in set s, at most `level` parents up, and holes for the others. The maps looked at: one
-// for each page here, and one for each page that is unmapped at each parent's.
+// for each page here, and at each parent one for each page that is unmapped in all maps before.
 fn resolve_pages(t: &[u8], f: usize, s: usize, level: usize, m: u64) -> ResolvedPages
     requires { ⌜ (length (now t) ≡ tableBytes) × (f < 16) × (level < 8) ⌝ }
     ensures { λ r. ⌜ PagesResolved (unpack (now (t .entry))) f s level m r ⌝ }

@@ -67,7 +67,8 @@ plainFirst (bytesAsked s f off buffer) pl n = min (length buffer) (length (bytes
 plainFirst (sizeAsked s f) pl n = length (bytesIn (pl .files f s))
 plainFirst noneAsked pl n = n
 
--- the answer of plain store and tally together: the first counts of an accepted read and size are the plain store's, all else is the tally's
+-- the answer of plain store and tally together: the first counts of an accepted read and size are the plain store's, all else is the tally's,
+-- also the maps that a read looked at (document 02, Ask 3)
 unfoldable pub bothAnswer : ℕ → Call → Plain → Answer → Answer
 bothAnswer zero c pl a = record { number = a .number; first = plainFirst (lookOf c) pl (a .first); second = a .second; third = a .third }
 bothAnswer (suc n) c pl a = a

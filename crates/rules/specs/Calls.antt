@@ -6,8 +6,8 @@ use lib.ListN.{drop, length}
 use Rattle.base.specs.Tabulate.{tab}
 use Rattle.base.specs.Update.{upd}
 use Rattle.rules.specs.Numbers.{Answer, Call, View, create, delete, format, make, noCounts, numberOf, read, refusal, remove, tellFree, tellSize, truncate, write}
-use Rattle.rules.specs.Reading.{resolve, sizeByReading}
-use Rattle.rules.specs.Rules.{Work, deleteFile, each, freeMap, from, holes, ownNeed, pageOf, touched, truncateFile, truncateNeed, writeFile}
+use Rattle.rules.specs.Reading.{looks, resolve, sizeByReading}
+use Rattle.rules.specs.Rules.{Work, deleteFile, each, freeMap, from, holes, ownNeed, pageOf, sumIn, touched, truncateFile, truncateNeed, writeFile}
 use Rattle.rules.specs.Sets.{appendSet, childFile, rootAlone, unlinkSet}
 use Rattle.rules.specs.State.{File, Files, SetRecord, Tables, Tree, absentFile, fileCount, own, pageBytes, treeOf, unmapped}
 use Rattle.rules.specs.Storage.{Memory, Storage, real}
@@ -28,6 +28,10 @@ newFile = record { state = own; size = 0; map = holes }
 -- "the smaller of the buffer's length and the bytes from the offset to the size, none at or past it"
 abbrev pub readCount : ℕ → ℕ → ℕ → ℕ
 readCount n off size = min n (size - off)
+
+-- Document 02, Ask 3: how many maps are looked at where n bytes are read from off on: the sum over "each page holding a byte read"
+unfoldable pub readLooks : {K : Type 0} → Tree → Files K → ℕ → ℕ → ℕ → ℕ
+readLooks t files s off n = sumIn (touched off n) (looks t files s)
 
 module _ (S : Storage) where
   abbrev pub treeIn : Store S → Tree
@@ -66,17 +70,21 @@ module _ (S : Storage) where
   abbrev pub done : Store S → Result S
   done st = record { answer = noCounts; store = st }
 
-  -- "Read: bytes, …", "Size and free: that number, 0, 0."
+  -- "Read: bytes, maps looked at, 0.": n bytes are read from off on
+  abbrev pub readOf : ℕ → ℕ → ℕ → ℕ → Store S → Result S
+  readOf s f off n st = record { answer = record { number = 0; first = n; second = readLooks (treeIn st) (st .files f) s off n; third = 0 }; store = st }
+
+  -- "Size and free: that number, 0, 0."
   abbrev pub told : ℕ → Store S → Result S
   told n st = record { answer = record { number = 0; first = n; second = 0; third = 0 }; store = st }
 
-  -- AN ACCEPTED CALL. fresh is the memory that a format makes. The maps that a read looked at are left out here: 01 leaves them free.
+  -- AN ACCEPTED CALL. fresh is the memory that a format makes
   unfoldable pub accepted : S .Memory → Call → Store S → Result S
   accepted fresh format st = done (formatted fresh)
   accepted fresh (create s f) st = done (created s f st)
   accepted fresh (write s f off []) st = done st
   accepted fresh (write s f off (x ∷ bs)) st = worked st f (writeFile S (treeIn st) s off (x ∷ bs) (begin st f))
-  accepted fresh (read s f off buffer) st = told (readCount (length buffer) off (sizeByReading (treeIn st) (st .files f) s)) st
+  accepted fresh (read s f off buffer) st = readOf s f off (readCount (length buffer) off (sizeByReading (treeIn st) (st .files f) s)) st
   accepted fresh (truncate s f n) st = worked st f (truncateFile S (treeIn st) s n (begin st f))
   accepted fresh (delete s f) st = worked st f (deleteFile S (treeIn st) s (begin st f))
   accepted fresh (make s c w) st = done (made s c w st)

@@ -1,5 +1,6 @@
--- What a page and a size are by reading, and who depends on whom. Document 01, "Reading a page", "needs" and "Marking".
-use mathlib.Core.Bool.{_&&_, Bool, false, _||_}
+-- What a page and a size are by reading, how many maps are looked at for a page, and who depends on whom. Document 01, "Reading a page", "needs" and "Marking";
+-- document 02, Ask 3.
+use mathlib.Core.Bool.{_&&_, Bool, cond, false, _||_}
 use mathlib.Core.Option.{Option, none, some}
 use Prim.Native.Nat.{suc, zero, ℕ}
 use lib.Dec.{eqb}
@@ -29,6 +30,16 @@ module _ {K : Type 0} where
   -- what page p of the file resolves to in set s, by recursion on the level
   unfoldable pub resolve : Tree → Files K → ℕ → ℕ → Entry K
   resolve t files s p = walk (t .parent) (λ (x : File K). shownEntry (x .map p)) hole (t .level s) files s
+
+  -- Document 02, Ask 3: how many maps are looked at for page p of the file in set s, at most n parents up: "one for the file's own map and one for each parent
+  -- map gone to, ending at the first that is not unmapped". With no parent left it ends too: that is set 0, where no entry of a present file is unmapped.
+  unfoldable pub looksUp : (ℕ → ℕ) → ℕ → ℕ → Files K → ℕ → ℕ
+  looksUp parent p zero files s = 1
+  looksUp parent p (suc n) files s = suc (cond (isUnmapped (files s .map p)) (looksUp parent p n files (parent s)) 0)
+
+  -- the same, by recursion on the level
+  unfoldable pub looks : Tree → Files K → ℕ → ℕ → ℕ
+  looks t files s p = looksUp (t .parent) p (t .level s) files s
 
   -- the size by reading
   unfoldable pub sizeByReading : Tree → Files K → ℕ → ℕ

@@ -20,12 +20,17 @@ unfoldable pub countIn : List ℕ → (ℕ → Bool) → ℕ
 countIn [] f = 0
 countIn (x ∷ xs) f = cond (f x) 1 0 + countIn xs f
 
+-- the sum of f over a list
+unfoldable pub sumIn : List ℕ → (ℕ → ℕ) → ℕ
+sumIn [] f = 0
+sumIn (x ∷ xs) f = f x + sumIn xs f
+
 -- the numbers from a on, n of them
 unfoldable pub from : ℕ → ℕ → List ℕ
 from a zero = []
 from a (suc n) = a ∷ from (suc a) n
 
--- "the pages that hold its bytes": n bytes from offset off on
+-- the pages that hold n bytes from offset off on: of a write "the pages that hold its bytes", of a read "each page holding a byte read"
 unfoldable pub touched : ℕ → ℕ → List ℕ
 touched off zero = []
 touched off (suc n) = from (off / pageBytes) (suc ((off + n) / pageBytes - off / pageBytes))

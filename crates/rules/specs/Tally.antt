@@ -1,6 +1,6 @@
 -- The tally: "the same calls under the rules above with sets, states, sizes, kinds and a count of free blocks (B at format), but no block numbers or bytes".
--- Document 01, "Demand 3", and document 02, Ask 2. It is stated on its own, in its own words, and shares no rule with the store but the table of
--- numbers: a rule of the store that marked or copied too much or too little would show.
+-- Document 01, "Demand 3", and document 02, Asks 2 and 3. It is stated on its own, in its own words, and shares no rule with the store but the table of
+-- numbers: a rule of the store that marked, copied or counted too much or too little would show.
 use mathlib.Core.Bool.{_&&_, Bool, cond, false, not, true, _||_}
 use mathlib.Core.List.{List, _∷_, []}
 use Prim.Native.Nat.{_%_, _+_, _-_, _/_, max, min, suc, zero, ℕ}
@@ -72,6 +72,16 @@ module _ (t : Tree) where
 
   unfoldable pub kindAt : TallyFiles → ℕ → ℕ → Kind
   kindAt fs s p = kindIn fs p (t .level s) s
+
+  -- is the map d parents up from set s looked at for page p: the own map (d is 0) always, another if the page is unmapped in the d maps before it, "ending at
+  -- the first that is not unmapped"
+  unfoldable pub goneTo : TallyFiles → ℕ → ℕ → ℕ → Bool
+  goneTo fs p zero s = true
+  goneTo fs p (suc d) s = isUnmapped (fs s .map p) && goneTo fs p d (t .parent s)
+
+  -- of the file's own map and the parents' maps up to set 0, how many are looked at: "one for the file's own map and one for each parent map gone to"
+  unfoldable pub tallyLooks : TallyFiles → ℕ → ℕ → ℕ
+  tallyLooks fs s p = count (suc (t .level s)) (λ d. goneTo fs p d s)
 
   -- the size of the file in set s, n levels deep: a virgin file has the size of the parent's
   unfoldable pub sizeIn : TallyFiles → ℕ → ℕ → ℕ
@@ -151,10 +161,11 @@ module _ (t : Tree) where
   unfoldable pub tallyGive : ℕ → (ℕ → Bool) → (ℕ → Bool) → Turn → Turn
   tallyGive s touches hands x = eachPage (atPage s touches hands) pageCount x
 
--- which pages a write of n bytes at off touches, n at least 1; which a truncate from z to n bytes
+-- which pages hold one of n bytes from off on: a write of these bytes touches them, and a read counts the maps looked at for them
 unfoldable pub writeTouches : ℕ → ℕ → ℕ → Bool
 writeTouches off n p = not (eqb n 0) && leb (off / pageBytes) p && leb p ((off + n - 1) / pageBytes)
 
+-- which pages a truncate from z to n bytes touches
 unfoldable pub truncateTouches : ℕ → ℕ → ℕ → Bool
 truncateTouches n z p = leb (n / pageBytes) p && leb p ((z - 1) / pageBytes)
 
@@ -236,6 +247,13 @@ tallyChild x = record { state = cond (live (x .state)) virgin (x .state); size =
 unfoldable pub tallyTold : ℕ → Tally → TallyResult
 tallyTold n ta = record { answer = record { number = 0; first = n; second = 0; third = 0 }; tally = ta }
 
+-- n bytes are read from off on: "For each page holding a byte read", the maps looked at
+unfoldable pub tallyRead : ℕ → ℕ → ℕ → ℕ → Tally → TallyResult
+tallyRead s f off n ta = record {
+  answer = record { number = 0; first = n; second = sum pageCount (λ p. cond (writeTouches off n p) (tallyLooks (ta .tree) (ta .files f) s p) 0); third = 0 };
+  tally = ta;
+}
+
 -- AN ACCEPTED CALL, on a store of B blocks
 unfoldable pub tallyCall : ℕ → Call → Tally → TallyResult
 tallyCall blocks format ta = tallyTold 0 (tallyFormat blocks)
@@ -248,7 +266,7 @@ tallyCall blocks (create s f) ta =
     })
 tallyCall blocks (write s f off []) ta = tallyTold 0 ta
 tallyCall blocks (write s f off (x ∷ bs)) ta = tallyWrite s f off (length (x ∷ bs)) ta
-tallyCall blocks (read s f off buffer) ta = tallyTold (min (length buffer) (tallySize (ta .tree) (ta .files f) s - off)) ta
+tallyCall blocks (read s f off buffer) ta = tallyRead s f off (min (length buffer) (tallySize (ta .tree) (ta .files f) s - off)) ta
 tallyCall blocks (truncate s f n) ta = tallyTruncate s f n ta
 tallyCall blocks (delete s f) ta = tallyDelete s f ta
 tallyCall blocks (make s c w) ta =

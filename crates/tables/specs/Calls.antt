@@ -1,5 +1,5 @@
 -- The ten calls on bytes: what the exported functions do.
-use mathlib.Core.Bool.{_&&_, Bool, cond, true}
+use mathlib.Core.Bool.{_&&_, Bool, cond}
 use mathlib.Core.List.{List, []}
 use Prim.Native.Nat.{_%_, _*_, _+_, _/_, suc, zero, ℕ}
 use lib.Dec.{eqb, leb, ltb}
@@ -7,7 +7,6 @@ use lib.ListN.{getD, length}
 use Rattle.base.specs.Tabulate.{tab}
 use Rattle.rules.specs.Calls.{Result, Store, accepted, blankMemory, readInto, tablesOf, viewOf}
 use Rattle.rules.specs.Numbers.{Answer, Call, Look, View, bytesAsked, create, delete, format, lookOf, make, noneAsked, numberOf, read, refusal, remove, sizeAsked, tellFree, tellSize, truncate, write}
-use Rattle.rules.specs.Rules.{countIn, touched}
 use Rattle.rules.specs.State.{Tables, largestBlocks, pageBytes}
 use Rattle.rules.specs.Storage.{Memory, PageData, real}
 use Rattle.tables.specs.Layout.{tableBytes}
@@ -86,13 +85,3 @@ outcomeOf (suc n) c t p = lookedAt (refusal (suc n)) t p (bufferIn (lookOf c))
 -- A CALL ON BYTES, of any contents and lengths
 unfoldable pub callOn : Call → List ℕ → List ℕ → Outcome
 callOn c t p = outcomeOf (numberOf (viewOn t p) c) c t p
-
--- "It also gives the maps looked at, at most pages read × (level + 1)": this count of a read is left free. `callOn` has 0 in its place; a contract of a read
--- compares the answer without it, and bounds it. For a refused read the bound is 0.
-abbrev pub withoutLooks : Answer → Answer
-withoutLooks a = record { number = a .number; first = a .first; second = 0; third = a .third }
-
-unfoldable pub looksBound : ℕ → ℕ → ℕ → List ℕ → List ℕ → List ℕ → ℕ
-looksBound s f off buffer t p =
-    let n : ℕ = callOn (read s f off buffer) t p .answer .first in
-    countIn (touched off n) (λ q. true) * suc (unpack t .sets s .level)

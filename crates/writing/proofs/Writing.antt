@@ -2,8 +2,7 @@
 use mathlib.Core.Bool.{not}
 use mathlib.Core.List.{List, []}
 use mathlib.Core.Path.{ap, refl, subst, sym, _∙_, _≡_}
-use Prim.Native.Nat.{_+_, _-_, _/_, _<_, max, suc, zero, ℕ, _≤_}
-use native.Mathlib.Omega.{arith}
+use Prim.Native.Nat.{_+_, max, ℕ, _≤_}
 use lib.ListN.{length}
 use Rattle.base.specs.Count.{count}
 use Rattle.changing.proofs.Whole.{Did, begun, both-did, did-step, did-then, settleBoth}
@@ -66,15 +65,6 @@ module _ {t p t₁ t₂ t₃ t₄ p₄ t₅ p₅ t₆ : List ℕ} {l₀ l : List
       }
 
 -- ---- the pages that a write touches
-
--- LAW: from the page of the first byte to that of the last one
-pub touched-is : (off n first m : ℕ) → 0 < n → first ≡ off / 512 → m ≡ (off + n - 1) / 512 - first + 1 → touched off n ≡ from first m
-unfolding touched
-touched-is off zero first m h ef em = absurd (omega arith)
-touched-is off (suc n) first m h ef em =
-    let x : off + suc n - 1 ≡ off + n = omega arith in
-    let y : m ≡ suc ((off + n) / 512 - off / 512) = em ∙ ap (λ i. i / 512 - first + 1) x ∙ ap (λ i. (off + n) / 512 - i + 1) ef ∙ omega arith in
-    ap (λ i. from i (suc ((off + n) / 512 - off / 512))) (sym ef) ∙ ap (from first) (sym y)
 
 -- LAW: the rule of write
 pub is-write : (tree : Tree) (s off first m : ℕ) (bs : List ℕ) → touched off (length bs) ≡ from first m → (w : Work real)

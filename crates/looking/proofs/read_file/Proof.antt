@@ -1,6 +1,7 @@
 -- `looking::read_file` meets its contract. Assumes nothing.
 use mathlib.Core.Path.{_≡_, ap, _∙_}
 use Prim.Native.Nat.{_+_, _≤_}
+use native.Mathlib.Omega.{arith}
 use lib.ListN.{length}
 use borrow.Author.Needs.{needs}
 use Rattle.rules.specs.Calls.{readCount}
@@ -33,7 +34,7 @@ resolve-range-requires : tie.Need-resolve-range-requires
 resolve-range-requires c κs =
     let n = c .before in
     let s = n .before .before .before .before .before in
-    (s .pre .0 .packed .len, s .pre .1, s .pre .2, pages-in (s .args .off) (n .read-count .result) (fits c .0) (c .if1 .left))
+    (s .pre .0 .packed .len, s .pre .1, s .pre .2, pages-in (s .args .off) (n .read-count .result) _ (omega arith) (fits c .0) (c .if1 .left))
 
 read-pages-requires : tie.Need-read-pages-requires
 read-pages-requires c κs =

@@ -85,6 +85,15 @@ unfolding touched
 touched-once off zero = tt
 touched-once off (suc n) = from-once (off / 512) (suc ((off + n) / 512 - off / 512))
 
+-- LAW: from the page of the first byte to that of the last one
+pub touched-is : (off n first m : ℕ) → 0 < n → first ≡ off / 512 → m ≡ (off + n - 1) / 512 - first + 1 → touched off n ≡ from first m
+unfolding touched
+touched-is off zero first m h ef em = absurd (omega arith)
+touched-is off (suc n) first m h ef em =
+    let x : off + suc n - 1 ≡ off + n = omega arith in
+    let y : m ≡ suc ((off + n) / 512 - off / 512) = em ∙ ap (λ i. i / 512 - first + 1) x ∙ ap (λ i. (off + n) / 512 - i + 1) ef ∙ omega arith in
+    ap (λ i. from i (suc ((off + n) / 512 - off / 512))) (sym ef) ∙ ap (from first) (sym y)
+
 -- a byte of a written list, and of a written page
 abbrev within : ℕ → ℕ → ℕ → Bool
 within off n i = leb off i && ltb i (off + n)

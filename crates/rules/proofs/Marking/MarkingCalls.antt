@@ -18,7 +18,7 @@ use Rattle.rules.proofs.Tally.TallyWriter.{turns-state}
 use Rattle.rules.specs.Marking.{BecomesMarked, MarkingTurn, in-delete, in-make, in-truncate, in-write, ownTaken}
 use Rattle.rules.specs.Numbers.{Call, create, delete, format, make, read, refusal, remove, tellFree, tellSize, truncate, write}
 use Rattle.rules.specs.State.{State, Tree, absent, isMarked, isVirgin, live, marked, own, setCount, virgin}
-use Rattle.rules.specs.Tally.{Tally, TallyFile, TallyFiles, TallyResult, Turn, eachChild, partPage, tallyCall, tallyChild, tallyCut, tallyDelete, tallyFormat, tallyGrow, tallyLeaves, tallySettle, tallySize, tallyTold, tallyTruncate, tallyTruncateNeed, tallyTurns, tallyWrite, tallyWriteNeed, truncateTouches, writeTouches}
+use Rattle.rules.specs.Tally.{Tally, TallyFile, TallyFiles, TallyResult, Turn, eachChild, partPage, tallyCall, tallyChild, tallyCut, tallyDelete, tallyFormat, tallyGrow, tallyLeaves, tallyRead, tallySettle, tallySize, tallyTold, tallyTruncate, tallyTruncateNeed, tallyTurns, tallyWrite, tallyWriteNeed, truncateTouches, writeTouches}
 
 -- STEP 2 marks nothing
 settle-mark : (t : Tree) (c : ℕ) (fs : TallyFiles) (y : ℕ) → isMarked (tallySettle t c fs y .state) ≡ isMarked (fs y .state)
@@ -226,7 +226,7 @@ module _ (ta : Tally) (proper : ProperTree (ta .tree)) (shallow : (x : ℕ) → 
   create-marks s f = never _ (put-file-mark (ta .files) f s _ g y refl h)
 
   why-marked : (c : Call) → (isMarked (tallyCall blocks c ta .tally .files g y .state) ≡ true) ↔ WhyMarked ta c g y
-  unfolding tallyCall tallyTold tallyFormat
+  unfolding tallyCall tallyRead tallyTold tallyFormat
   why-marked format = never _ refl
   why-marked (create s f) = create-marks s f
   why-marked (write s f off bs) = write-marks s f off bs

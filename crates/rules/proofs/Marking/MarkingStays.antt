@@ -15,7 +15,7 @@ use Rattle.rules.proofs.Whole.Accepted.{passed-create, passed-truncate,
 use Rattle.rules.specs.Numbers.{Call, create, delete, format, make, numberOf, read, remove, tellFree, tellSize, truncate, write}
 use Rattle.rules.specs.Plain.{Plain}
 use Rattle.rules.specs.State.{State, absent, isAbsent, isMarked, marked, own, setCount, virgin}
-use Rattle.rules.specs.Tally.{Tally, TallyFile, TallyFiles, judged, partPage, tallyCall, tallyCut, tallyDelete, tallyGrow, tallyLeaves, tallySize, tallyTold, tallyTurns, tallyWrite, truncateTouches, writeTouches}
+use Rattle.rules.specs.Tally.{Tally, TallyFile, TallyFiles, judged, partPage, tallyCall, tallyCut, tallyDelete, tallyGrow, tallyLeaves, tallyRead, tallySize, tallyTold, tallyTurns, tallyWrite, truncateTouches, writeTouches}
 
 -- where a call ends the marking of file g of set y. The set that is made had an unused number, so no file of it was marked.
 abbrev pub EndsMarked : Call → ℕ → ℕ → Type 0
@@ -88,7 +88,7 @@ module _ (ta : Tally) (proper : ProperTree (ta .tree)) (shallow : (x : ℕ) → 
 
   -- AN ACCEPTED CALL: a marked file stays marked, or the call ends it
   pub stays-marked : (pl : Plain) (blocks : ℕ) (c : Call) → numberOf (judged pl ta) c ≡ 0 → (isMarked (tallyCall blocks c ta .tally .files g y .state) ≡ true) ⊎ EndsMarked c g y
-  unfolding tallyCall tallyTold
+  unfolding tallyCall tallyRead tallyTold
   stays-marked pl blocks format z = inr tt
   stays-marked pl blocks (create s f) z = create-stays blocks s f (absent-unmarked (ta .files f s .state) (passed-create (judged pl ta) s f z .gone))
   stays-marked pl blocks (write s f off bs) z = write-stays blocks s f off bs (live-unmarked (ta .files f s .state) (passed-write (judged pl ta) s f off bs z .alive))

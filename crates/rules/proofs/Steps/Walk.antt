@@ -1,10 +1,15 @@
--- Walks up the parents: what changes none of them, and what they see after a change. Assumes nothing.
+-- Walks up the parents: what changes none of them, what they see after a change, and how many maps they look at at most. Assumes nothing.
+use mathlib.Core.Bool.{true}
+use mathlib.Core.List.{List, _∷_, []}
 use mathlib.Core.Option.{Option, none, some}
 use mathlib.Core.Path.{ap, refl, subst, _∙_, _≡_}
-use Prim.Native.Nat.{suc, zero, ℕ}
+use Prim.Native.Nat.{_*_, suc, zero, ℕ, _≤_}
 use native.Mathlib.Omega.{arith}
-use Rattle.base.specs.Logic.{pick, same?}
-use Rattle.rules.specs.Reading.{walk}
+use Rattle.base.specs.Logic.{pick, same?, test?}
+use Rattle.rules.specs.Calls.{readLooks}
+use Rattle.rules.specs.Reading.{looks, looksUp, walk}
+use Rattle.rules.specs.Rules.{countIn, sumIn, touched}
+use Rattle.rules.specs.State.{Files, Tree, isUnmapped}
 
 pick-eq : {Y : Type 0} (o : Option Y) (a b : Y) → (o ≡ none → a ≡ b) → pick o a ≡ pick o b
 pick-eq none a b h = h refl
@@ -44,3 +49,21 @@ module _ {X Y : Type 0} (par par′ : ℕ → ℕ) (look : X → Option Y) (d : 
   unfolding walk
   walk-move zero s q = rw (same s q)
   walk-move (suc n) s q = rw (same s q, links s q) (pick-eq (look (col s)) _ _ (λ e. walk-move n (par s) (up s q e)))
+
+-- HOW MANY MAPS are looked at: for a page at most one more than there are parents
+pub looks-up-most : {K : Type 0} (parent : ℕ → ℕ) (p n : ℕ) (files : Files K) (s : ℕ) → looksUp parent p n files s ≤ suc n
+unfolding looksUp
+looks-up-most parent p zero files s = omega arith
+looks-up-most parent p (suc n) files s =
+    let up = looks-up-most parent p n files (parent s) in
+    test? (isUnmapped (files s .map p)) (λ e. rw e (omega arith)) (λ e. rw e (omega arith))
+
+sum-most : (ps : List ℕ) (b : ℕ) (g : ℕ → ℕ) → ((p : ℕ) → g p ≤ b) → sumIn ps g ≤ countIn ps (λ p. true) * b
+unfolding sumIn countIn
+sum-most [] b g h = omega arith
+sum-most (p ∷ ps) b g h = let a = h p in let c = sum-most ps b g h in omega arith
+
+-- LAW: "It also gives the maps looked at, at most pages read × (level + 1)."
+pub read-looks-most : {K : Type 0} (t : Tree) (files : Files K) (s off n : ℕ) → readLooks t files s off n ≤ countIn (touched off n) (λ p. true) * suc (t .level s)
+unfolding readLooks looks
+read-looks-most t files s off n = sum-most (touched off n) (suc (t .level s)) (looks t files s) (λ p. looks-up-most (t .parent) p (t .level s) files s)

@@ -4,7 +4,7 @@ use mathlib.Core.Path.{ap, fun-ext, refl, sym, _∙_, _≡_}
 use Prim.Native.Nat.{suc, zero, ℕ}
 use Rattle.base.specs.Logic.{pick}
 use Rattle.base.specs.Update.{upd, upd-map}
-use Rattle.rules.specs.Reading.{dependent, dependsOn, needs, reaches, resolve, shownEntry, shownSize, sizeByReading, someUnmapped, walk}
+use Rattle.rules.specs.Reading.{dependent, dependsOn, looks, looksUp, needs, reaches, resolve, shownEntry, shownSize, sizeByReading, someUnmapped, walk}
 use Rattle.rules.specs.Rules.{markDown, markFile, putEntry, settleAs, settleFile}
 use Rattle.rules.specs.State.{Entry, File, Files, State, Tree, absent, hole, isStored, isUnmapped, marked, own, stored, unmapped, virgin}
 
@@ -49,6 +49,15 @@ module _ {K L : Type 0} (f : K → L) where
   pub resolve-map : (t : Tree) (files : Files K) (s p : ℕ) → resolve t (mapFiles files) s p ≡ mapEntry (resolve t files s p)
   unfolding resolve
   resolve-map t files s p = walk-map (t .parent) p (t .level s) files s
+
+  looks-up-map : (parent : ℕ → ℕ) (p n : ℕ) (files : Files K) (s : ℕ) → looksUp parent p n (mapFiles files) s ≡ looksUp parent p n files s
+  unfolding looksUp
+  looks-up-map parent p zero files s = refl
+  looks-up-map parent p (suc n) files s = rw (map-unmapped (files s .map p), looks-up-map parent p n files (parent s))
+
+  pub looks-map : (t : Tree) (files : Files K) (s p : ℕ) → looks t (mapFiles files) s p ≡ looks t files s p
+  unfolding looks
+  looks-map t files s p = looks-up-map (t .parent) p (t .level s) files s
 
   walk-size : (parent : ℕ → ℕ) (n : ℕ) (files : Files K) (s : ℕ) →
       walk parent (λ (x : File L). shownSize (x .state) (x .size)) 0 n (mapFiles files) s ≡ walk parent (λ (x : File K). shownSize (x .state) (x .size)) 0 n files s

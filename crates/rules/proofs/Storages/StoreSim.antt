@@ -12,14 +12,14 @@ use Rattle.base.specs.Update.{upd, upd-map, upd-other, upd-same}
 use Rattle.rules.proofs.Whole.Accepted.{passed-create, passed-delete, passed-make, passed-remove, passed-truncate, passed-write}
 use Rattle.rules.proofs.Agreement.Agree.{from-high, from-mem}
 use Rattle.rules.proofs.Steps.Erased.{allErased, erasedIn, erases-absent, removed-is, unlinked}
-use Rattle.rules.proofs.Storages.MapBlocks.{map-stored, mapEntry, mapFile, mapFiles, mapFiles-agree, resolve-map, size-map}
+use Rattle.rules.proofs.Storages.MapBlocks.{looks-map, map-stored, mapEntry, mapFile, mapFiles, mapFiles-agree, resolve-map, size-map}
 use Rattle.rules.proofs.Steps.Pending.{Finished, delete-finished, erase-finished, truncate-finished, write-finished}
 use Rattle.rules.proofs.Storages.Sim.{Demands, Rel, Sim, Translation}
 use Rattle.rules.proofs.Storages.SimRules.{kept-same, rel-delete, rel-erase, rel-truncate, rel-write}
-use Rattle.rules.specs.Calls.{Result, Store, accepted, begin, created, finish, formatted, made, newFile, removed, resultOf, step, treeIn, viewOf, worked}
+use Rattle.rules.specs.Calls.{Result, Store, accepted, begin, created, finish, formatted, made, newFile, readCount, readLooks, readOf, removed, resultOf, step, treeIn, viewOf, worked}
 use Rattle.rules.specs.Numbers.{Call, create, delete, format, make, numberOf, read, remove, tellFree, tellSize, truncate, write}
-use Rattle.rules.specs.Reading.{resolve, sizeByReading}
-use Rattle.rules.specs.Rules.{Work, countIn, deleteFile, each, eraseFile, from, holes, keptPages, ownNeed, touched, truncateFile, truncateNeed, writeFile}
+use Rattle.rules.specs.Reading.{looks, resolve, sizeByReading}
+use Rattle.rules.specs.Rules.{Work, countIn, deleteFile, each, eraseFile, from, holes, keptPages, ownNeed, sumIn, touched, truncateFile, truncateNeed, writeFile}
 use Rattle.rules.specs.Sets.{appendSet, childFile, unlinkSet}
 use Rattle.rules.specs.State.{File, Files, Tree, absentFile, hole, isAbsent, isStored, own, stored, treeOf, unmapped}
 use Rattle.rules.specs.Storage.{Storage}
@@ -40,6 +40,11 @@ module _ {S S′ : Storage} (T : Translation S S′) (r : Store S) (m : Store S�
 
   size-stands : (f s : ℕ) → sizeByReading (treeIn S′ m) (m .files f) s ≡ sizeByReading (treeIn S r) (r .files f) s
   size-stands f s = ap₂ (λ x y. sizeByReading (treeOf x) y s) (h .sets) (h .files f) ∙ size-map (T .block (r .memory)) (treeIn S r) (r .files f) s
+
+  looks-stands : (f s off n : ℕ) → readLooks (treeIn S′ m) (m .files f) s off n ≡ readLooks (treeIn S r) (r .files f) s off n
+  unfolding readLooks
+  looks-stands f s off n =
+      ap (sumIn (touched off n)) (ap₂ (λ x y. looks (treeOf x) y s) (h .sets) (h .files f) ∙ fun-ext (looks-map (T .block (r .memory)) (treeIn S r) (r .files f) s))
 
   kept-stands : (f s n : ℕ) → keptPages n (resolve (treeIn S′ m) (m .files f) s (n / 512)) ≡ keptPages n (resolve (treeIn S r) (r .files f) s (n / 512))
   kept-stands f s n =
@@ -205,7 +210,13 @@ module _ {S S′ : Storage} {T : Translation S S′} {fresh : S .Memory} {fresh�
           worked-same r m h k f s _ _ (a .file) (a .set .used)
           (λ _. write-finished S (treeIn S r) s (begin S r f) (λ p. refl) off (x ∷ bs)) (write-rel r m h k f s proper off (x ∷ bs) (a .end-in) (a .room))
       accepted-same (read s f off buffer) z =
-          record { answer = ap (λ n. record { number = 0; first = min (length buffer) (n - off); second = 0; third = 0 }) (size-stands T r m h f s); stands = h; kept = k }
+          let n : ℕ = readCount (length buffer) off (sizeByReading (treeIn S r) (r .files f) s) in
+          record {
+            answer = ap (λ z. readOf S′ s f off (readCount (length buffer) off z) m .answer) (size-stands T r m h f s)
+                ∙ ap (λ x. record { number = 0; first = n; second = x; third = 0 }) (looks-stands T r m h f s off _);
+            stands = h;
+            kept = k;
+          }
       accepted-same (truncate s f n) z =
           let a = passed-truncate (viewOf S true true r) s f n z in
           worked-same r m h k f s _ _ (a .file) (a .set .used)

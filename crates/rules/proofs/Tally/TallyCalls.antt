@@ -13,21 +13,21 @@ use Rattle.base.specs.Logic.{and-left, and-right, pick, test?}
 use Rattle.base.specs.Update.{upd, upd-self}
 use Rattle.rules.proofs.Storages.Model.{counting}
 use Rattle.rules.proofs.Tally.TallyChange.{change-leaves, changeLeaves, newKinds}
-use Rattle.rules.proofs.Tally.TallyLoops.{PagesOf, all-pages, count-pages, cut-pages, dropped-pages, kept-pages, no-pages, page-inv, pages-once, pages-passed, put-pages, sum-loop, write-pages}
+use Rattle.rules.proofs.Tally.TallyLoops.{PagesOf, all-pages, count-pages, cut-pages, dropped-pages, kept-pages, no-pages, page-inv, pages-once, pages-passed, put-pages, sum-loop, sum-pages, write-pages}
 use Rattle.rules.proofs.Tally.TallyNumbers.{Tallies, TallyOrderly, kept-need, same-numbers, tallies-is, tallies-of, tallyOf, write-need}
 use Rattle.rules.proofs.Whole.Accepted.{passed-write}
-use Rattle.rules.proofs.Tally.TallyReach.{NoVirginRoot, kind-resolve, no-virgin-root, size-reading}
+use Rattle.rules.proofs.Tally.TallyReach.{NoVirginRoot, kind-resolve, looks-reading, no-virgin-root, size-reading}
 use Rattle.rules.proofs.Tally.TallySteps.{give-all, settle-all, withTurn}
 use Rattle.rules.proofs.Tally.TallyWriter.{free-map}
 use Rattle.rules.proofs.Tree.SetsOk.{root-alone-tree}
-use Rattle.rules.specs.Calls.{Result, Store, accepted, begin, created, formatted, made, readCount, removed, resultOf, step, treeIn, viewOf, worked}
+use Rattle.rules.specs.Calls.{Result, Store, accepted, begin, created, formatted, made, readCount, readLooks, readOf, removed, resultOf, step, treeIn, viewOf, worked}
 use Rattle.rules.specs.Numbers.{Call, create, delete, format, make, numberOf, read, refusal, remove, tellFree, tellSize, truncate, write}
 use Rattle.rules.specs.Plain.{Plain}
-use Rattle.rules.specs.Reading.{resolve, shownSize, sizeByReading, walk}
+use Rattle.rules.specs.Reading.{looks, resolve, shownSize, sizeByReading, walk}
 use Rattle.rules.specs.Rules.{Work, change, copied, countIn, cutPages, deleteAs, deleteFile, droppedPages, each, eraseFile, freeMap, from, giveAll, handed, holes, keptPages, ownNeed, partPages, touched, truncateAs, truncateFile, withFiles, writeFile}
 use Rattle.rules.specs.Sets.{appendSet, childFile, childState, unlinkSet}
 use Rattle.rules.specs.State.{State, Tree, absent, absentFile, fileCount, hole, isStored, largestSize, live, marked, own, pageBytes, pageCount, setCount, stored, treeOf, unmapped, virgin}
-use Rattle.rules.specs.Tally.{Both, Kind, Tally, TallyFile, TallyFiles, TallyResult, Turn, bothAs, bothStep, cutKinds, eachChild, kindAt, partPage, storedPages, tallyCall, tallyChild, tallyCut, tallyDelete, tallyFormat, tallyGive, tallyGrow, tallyLeaves, tallySettle, tallySize, tallyTold, tallyTruncate, tallyTruncateNeed, tallyTurns, tallyWrite, truncateTouches, writeTouches}
+use Rattle.rules.specs.Tally.{Both, Kind, Tally, TallyFile, TallyFiles, TallyResult, Turn, bothAs, bothStep, cutKinds, eachChild, kindAt, tallyLooks, partPage, storedPages, tallyCall, tallyChild, tallyCut, tallyDelete, tallyFormat, tallyGive, tallyGrow, tallyLeaves, tallyRead, tallySettle, tallySize, tallyTold, tallyTruncate, tallyTruncateNeed, tallyTurns, tallyWrite, truncateTouches, writeTouches}
 use Rattle.rules.specs.Trees.{addChild, takeAway}
 use mathlib.Core.Logic.{⊎-elim}
 
@@ -118,7 +118,7 @@ module _ (k : Store counting) (o : TallyOrderly k) where
       resultOfTally (worked counting k f (change counting sets s (touched off n) (touched off n) [] lay (λ m. max m (off + n)) (begin counting k f))) ≡ tallyWrite s f off n (tallyOf k)
   unfolding tallyWrite tallyTurns countIn each
   write-same s f off n l lay =
-      let r : PagesOf (touched off n) (writeTouches off n) = write-pages off n l in
+      let r : PagesOf (touched off n) (writeTouches off n) = write-pages off n (λ z. l) in
       let need : ℕ = ownNeed counting s (touched off n) (k .files f) in
       let turns : ℕ → Turn = λ m. tallyTurns (tallyOf k) f s (s ∷ sets .children s) m (writeTouches off n) (λ p. false) in
       let own-file : Turn → (ℕ → Kind) → TallyFile = λ x m. record { state = own; size = max (x .files s .size) (off + n); map = m } in
@@ -181,6 +181,23 @@ module _ (k : Store counting) (o : TallyOrderly k) where
           let l = ltb-false z n e in
           let m = eqb-false n z d in
           cut-same s f n z (size-is f s) (omega arith) (reading-small f s) (λ p. counting .cut (n % pageBytes))
+
+  -- READ
+  looks-same : (s f off n : ℕ) → ((n ≡ 0 → ⊥) → off + n ≤ largestSize) →
+      readLooks sets (k .files f) s off n ≡ sum pageCount (λ p. cond (writeTouches off n p) (tallyLooks sets (k .files f) s p) 0)
+  unfolding readLooks
+  looks-same s f off n l =
+      sym (sum-pages (write-pages off n l) (looks sets (k .files f) s))
+      ∙ ap (λ (g : ℕ → ℕ). sum pageCount (λ p. cond (writeTouches off n p) (g p) 0)) (fun-ext (λ p. sym (looks-reading sets (k .files f) s p)))
+
+  read-same : (s f off m : ℕ) →
+      resultOfTally (readOf counting s f off (readCount m off (sizeByReading sets (k .files f) s)) k) ≡ tallyRead s f off (readCount m off (tallySize sets (k .files f) s)) (tallyOf k)
+  unfolding tallyRead
+  read-same s f off m =
+      let n : ℕ = readCount m off (sizeByReading sets (k .files f) s) in
+      let h = reading-small f s in
+      ap (λ x. record { answer = record { number = 0; first = n; second = x; third = 0 }; tally = tallyOf k }) (looks-same s f off n (λ z. omega arith))
+      ∙ ap (λ z. tallyRead s f off (readCount m off z) (tallyOf k)) (sym (size-is f s))
 
   -- DELETE
   erase-same : (s f : ℕ) (fs : TallyFiles) (x : Turn) →
@@ -280,7 +297,7 @@ call-same k o blocks format h e = format-same k blocks
 call-same k o blocks (create s f) h e = create-same k blocks s f
 call-same k o blocks (write s f off []) h e = refl
 call-same k o blocks (write s f off (x ∷ bs)) h e = write-same k o s f off (length (x ∷ bs)) (passed-write (viewOf counting true true k) s f off (x ∷ bs) h .end-in) (counting .over off (x ∷ bs))
-call-same k o blocks (read s f off buffer) h e = ap (λ z. tallyTold (readCount (length buffer) off z) (tallyOf k)) (sym (size-is k o f s))
+call-same k o blocks (read s f off buffer) h e = read-same k o s f off (length buffer)
 call-same k o blocks (truncate s f n) h e = truncate-same k o s f n
 call-same k o blocks (delete s f) h e = delete-same k o s f
 call-same k o blocks (make s c w) h e = make-same k blocks s c w e

@@ -11,10 +11,11 @@ use borrow.Author.Tests.{eq-eqb, le-leb, lt-leb, lt-ltb, ltb-false, ltb-true, ne
 use Rattle.base.specs.Count.{count, sum}
 use Rattle.base.specs.Logic.{and-both, and-false, and-left, and-right, and-true, same?, test?}
 use Rattle.base.specs.Update.{upd, upd-other, upd-same}
+use Rattle.rules.proofs.Blocks.Sums.{count-sum, sum-same}
 use Rattle.rules.proofs.Agreement.Agree.{from-high, from-low, from-mem, from-once}
 use Rattle.rules.proofs.Steps.StepFour.{each-all, each-inv}
 use Rattle.rules.proofs.Steps.WriterSteps.{NoDup, mem?}
-use Rattle.rules.specs.Rules.{countIn, cutPages, droppedPages, each, from, keptPages, touched}
+use Rattle.rules.specs.Rules.{countIn, cutPages, droppedPages, each, from, keptPages, sumIn, touched}
 use Rattle.rules.specs.State.{isStored, largestSize, pageBytes, pageCount}
 use Rattle.rules.specs.Tally.{Kind, eachChild, eachPage, partPage, truncateTouches, writeTouches}
 
@@ -104,19 +105,29 @@ module _ {ps : List ℕ} {touches : ℕ → Bool} (r : PagesOf ps touches) where
         let e : min (pageCount - r .first) (r .number) ≡ r .number = omega arith in
         to-page pageCount (omega arith) w ∙ rw (e, r .is)
 
--- counts as loops
-one-more : (ℕ → Bool) → ℕ → ℕ → ℕ
-one-more h p n = cond (h p) 1 0 + n
+-- sums as loops
+add-at : (ℕ → ℕ) → ℕ → ℕ → ℕ
+add-at h p n = h p + n
 
-count-loop : (n : ℕ) (h : ℕ → Bool) → count n h ≡ eachPage (one-more h) n 0
-unfolding count eachPage one-more
-count-loop zero h = refl
-count-loop (suc n) h = rw (count-loop n h)
+sum-pages-loop : (n : ℕ) (h : ℕ → ℕ) → sum n h ≡ eachPage (add-at h) n 0
+unfolding sum eachPage add-at
+sum-pages-loop zero h = refl
+sum-pages-loop (suc n) h = rw (sum-pages-loop n h)
 
-count-list : (ps : List ℕ) (h : ℕ → Bool) (n : ℕ) → each (one-more h) ps n ≡ countIn ps h + n
-unfolding countIn each one-more
-count-list [] h n = sym (zero-add n)
-count-list (p ∷ ps) h n = count-list ps h (cond (h p) 1 0 + n) ∙ omega arith
+sum-list : (ps : List ℕ) (h : ℕ → ℕ) (n : ℕ) → each (add-at h) ps n ≡ sumIn ps h + n
+unfolding sumIn each add-at
+sum-list [] h n = sym (zero-add n)
+sum-list (p ∷ ps) h n = sum-list ps h (h p + n) ∙ omega arith
+
+-- a count is a sum of ones
+count-list : (ps : List ℕ) (h : ℕ → Bool) → countIn ps h ≡ sumIn ps (λ p. cond (h p) 1 0)
+unfolding countIn sumIn
+count-list [] h = refl
+count-list (p ∷ ps) h = rw (count-list ps h)
+
+one-where : (a b : Bool) → _≡_ {A = ℕ} (cond (a && b) 1 0) (cond a (cond b 1 0) 0)
+one-where true b = refl
+one-where false b = refl
 
 -- a loop that adds g at each of the numbers below n adds their sum
 pub sum-loop : (g : ℕ → ℕ) (turn : ℕ → ℕ → ℕ) → ((p m : ℕ) → turn p m ≡ m + g p) → (n m : ℕ) → each turn (from 0 n) m ≡ m + sum n g
@@ -125,12 +136,18 @@ sum-loop g turn h zero m = from-none turn 0 m ∙ sym (add-zero m)
 sum-loop g turn h (suc n) m = from-last turn n 0 m ∙ rw (zero-add n, sum-loop g turn h n m) (h n (m + sum n g) ∙ omega arith)
 
 module _ {ps : List ℕ} {touches : ℕ → Bool} (r : PagesOf ps touches) where
+  pub sum-pages : (h : ℕ → ℕ) → sum pageCount (λ p. cond (touches p) (h p) 0) ≡ sumIn ps h
+  unfolding add-at
+  sum-pages h =
+      sum-pages-loop pageCount (λ p. cond (touches p) (h p) 0)
+      ∙ each-page r (add-at h) (add-at (λ p. cond (touches p) (h p) 0)) (λ p w l e. rw e) (λ p w l e. rw e (zero-add w)) 0
+      ∙ sum-list ps h 0 ∙ add-zero _
+
   pub count-pages : (h : ℕ → Bool) → count pageCount (λ p. touches p && h p) ≡ countIn ps h
-  unfolding one-more
   count-pages h =
-      count-loop pageCount (λ p. touches p && h p)
-      ∙ each-page r (one-more h) (one-more (λ p. touches p && h p)) (λ p w l e. rw e) (λ p w l e. rw e (zero-add w)) 0
-      ∙ count-list ps h 0 ∙ add-zero _
+      count-sum pageCount (λ p. touches p && h p)
+      ∙ sum-same pageCount _ _ (λ p l. one-where (touches p) (h p))
+      ∙ sum-pages (λ p. cond (h p) 1 0) ∙ sym (count-list ps h)
 
 -- members of which the same is true are as many
 pub count-same-in : (ps : List ℕ) (h k : ℕ → Bool) → ((p : ℕ) → List·Memᴰ p ps → h p ≡ k p) → countIn ps h ≡ countIn ps k
@@ -167,11 +184,12 @@ underneath a b p h = rw (lt-leb a p h)
 beyond : (a b p : ℕ) → b < p → (leb a p && leb p b) ≡ false
 beyond a b p h = rw (lt-leb p b h) (and-false (leb a p))
 
--- a write
-pub write-pages : (off n : ℕ) → off + n ≤ largestSize → PagesOf (touched off n) (writeTouches off n)
+-- a write or a read: no byte lies past the largest size
+pub write-pages : (off n : ℕ) → ((n ≡ 0 → ⊥) → off + n ≤ largestSize) → PagesOf (touched off n) (writeTouches off n)
 unfolding touched writeTouches from
 write-pages off zero l = record { first = 0; number = 0; is = refl; fit = omega arith; passes = λ p a b. absurd (omega arith); before = λ p a. refl; behind = λ p a b. refl }
 write-pages off (suc n) l =
+    let b = l (λ z. omega arith) in
     let e : off + suc n - 1 ≡ off + n = omega arith in
     record {
       first = off / pageBytes;

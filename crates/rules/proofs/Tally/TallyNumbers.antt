@@ -47,7 +47,7 @@ pub record TallyOrderly (k : Store counting) : Type 0 where
 -- THE NEEDS
 pub write-need : (fs : TallyFiles) (s off n : ℕ) → off + n ≤ largestSize → tallyWriteNeed fs s off n ≡ ownNeed counting s (touched off n) fs
 unfolding tallyWriteNeed ownNeed
-write-need fs s off n l = count-pages (write-pages off n l) (λ p. not (isStored (fs s .map p)))
+write-need fs s off n l = count-pages (write-pages off n (λ z. l)) (λ p. not (isStored (fs s .map p)))
 
 one-page : (a b : Bool) (p : ℕ) (h : ℕ → Bool) → cond (a && b && h p) 1 0 ≡ countIn (cond (a && b) (p ∷ []) []) h
 unfolding countIn

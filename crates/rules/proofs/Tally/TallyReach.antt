@@ -1,4 +1,4 @@
--- The tally's readings are the store's without blocks: the kind of a page, the size of a file, who depends on the file above;
+-- The tally's readings are the store's without blocks: the kind of a page, the maps looked at for it, the size of a file, who depends on the file above;
 -- and the files that are marked with a file, found by going down through the children, are those that the store finds by going up the parents. Assumes nothing.
 use mathlib.Core.Bool.{_&&_, Bool, cond, true, true≢false, _||_}
 use mathlib.Core.List.{List, List·Memᴰ, List·Memᴰ·head, List·Memᴰ·tail, _∷_, []}
@@ -7,14 +7,14 @@ use Prim.Native.Nat.{_<_, suc, zero, ℕ, _≤_}
 use native.Mathlib.Omega.{arith}
 use lib.Dec.{eqb, lit<}
 use borrow.Author.Tests.{eq-eqb, eqb-true, ne-eqb}
-use Rattle.base.specs.Count.{count, count-same}
+use Rattle.base.specs.Count.{count, count-front, count-none, count-same}
 use Rattle.base.specs.Logic.{and-both, and-left, and-right, or-right, pick, same-test, same?, test?}
 use Rattle.rules.proofs.Steps.OneStep.{FilesOk, TreeOk}
 use Rattle.rules.proofs.Steps.Reached.{reaches-self}
-use Rattle.rules.specs.Reading.{dependent, dependsOn, reaches, resolve, shownEntry, shownSize, sizeByReading, someUnmapped, walk}
+use Rattle.rules.specs.Reading.{dependent, dependsOn, looks, looksUp, reaches, resolve, shownEntry, shownSize, sizeByReading, someUnmapped, walk}
 use Rattle.rules.specs.Rules.{markDown, markFile}
-use Rattle.rules.specs.State.{Files, State, Tree, absent, hole, isVirgin, live, marked, own, setCount, stored, unmapped, virgin}
-use Rattle.rules.specs.Tally.{Kind, TallyFile, TallyFiles, anyOf, anyUnmapped, dependsAbove, kindAt, kindIn, kindOver, markedWith, reachedDown, sizeIn, tallyMark, tallySize}
+use Rattle.rules.specs.State.{Files, State, Tree, absent, hole, isUnmapped, isVirgin, live, marked, own, setCount, stored, unmapped, virgin}
+use Rattle.rules.specs.Tally.{Kind, TallyFile, TallyFiles, anyOf, anyUnmapped, dependsAbove, goneTo, kindAt, kindIn, kindOver, tallyLooks, markedWith, reachedDown, sizeIn, tallyMark, tallySize}
 
 -- no virgin file stands at level 0
 abbrev pub NoVirginRoot : {K : Type 0} → Tree → Files K → Type 0
@@ -40,6 +40,19 @@ module _ (t : Tree) (fs : TallyFiles) where
   pub kind-resolve : (s p : ℕ) → kindAt t fs s p ≡ resolve t fs s p
   unfolding kindAt resolve
   kind-resolve s p = kind-walk p (t .level s) s
+
+  -- maps looked at: those gone to are the first ones, up to the first that is not unmapped
+  looks-walk : (p n s : ℕ) → count (suc n) (λ d. goneTo t fs p d s) ≡ looksUp (t .parent) p n fs s
+  unfolding goneTo looksUp
+  looks-walk p zero s = omega (arith, count-front 0 (λ d. goneTo t fs p d s), count-none 0 (λ d. goneTo t fs p (suc d) s) (λ d l. absurd (omega arith)))
+  looks-walk p (suc n) s =
+      let above : count (suc n) (λ d. goneTo t fs p (suc d) s) ≡ cond (isUnmapped (fs s .map p)) (looksUp (t .parent) p n fs (t .parent s)) 0 =
+      test? (isUnmapped (fs s .map p)) (λ e. rw e (looks-walk p n (t .parent s))) (λ e. rw e (count-none (suc n) _ (λ d l. refl))) in
+      omega (arith, count-front (suc n) (λ d. goneTo t fs p d s), above)
+
+  pub looks-reading : (s p : ℕ) → tallyLooks t fs s p ≡ looks t fs s p
+  unfolding tallyLooks looks
+  looks-reading s p = looks-walk p (t .level s) s
 
   -- sizes
   size-walk : TreeOk t → NoVirginRoot t fs → (n s : ℕ) → t .level s ≡ n →

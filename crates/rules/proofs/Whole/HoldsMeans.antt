@@ -17,7 +17,7 @@ use Rattle.rules.proofs.Formed.Shape.{size-most}
 use Rattle.rules.proofs.Steps.States.{live-of, live-present}
 use Rattle.rules.proofs.Steps.WriterSteps.{bytes}
 use Rattle.rules.specs.Agreement.{AgreesPlain, AgreesTally, bothAnswer, bothGive, bufferAfter, bufferOf, front, frontOf, kindOf, plainBytes, plainFirst, storeGive}
-use Rattle.rules.specs.Calls.{Store, accepted, blankMemory, byteByReading, readCount, readInto, resultOf, step, treeIn, viewOf, worked}
+use Rattle.rules.specs.Calls.{Store, accepted, blankMemory, byteByReading, readCount, readInto, readLooks, resultOf, step, treeIn, viewOf, worked}
 use Rattle.rules.specs.Numbers.{Answer, Call, Look, bytesAsked, create, delete, format, lookOf, make, noneAsked, numberOf, read, refusal, remove, sizeAsked, tellFree, tellSize, truncate, write}
 use Rattle.rules.specs.Plain.{Plain, bytesIn, isNone, present}
 use Rattle.rules.specs.Reading.{resolve, sizeByReading}
@@ -113,15 +113,16 @@ module _ (B : ℕ) (r : Store real) (pl : Plain) (ta : Tally) (v : Holds B r pl 
       pub shown : front c (resultOf real n (blankMemory B) c r .answer) (bufferAfter c (resultOf real n (blankMemory B) c r .answer .number) r)
           ≡ front c (resultOf real n (blankMemory B) c r .answer) (plainBytes (lookOf c) pl)
 
-    abbrev firstCount : ℕ → Answer
-    firstCount n = record { number = 0; first = n; second = 0; third = 0 }
+    -- an accepted look's answer with another first count
+    abbrev firstCount : ℕ → ℕ → Answer
+    firstCount second n = record { number = 0; first = n; second = second; third = 0 }
 
     read-same : (s f off : ℕ) (buffer : List ℕ) → live (r .files f s .state) ≡ true → LooksSame (read s f off buffer) 0
     unfolding resultOf accepted bufferOf frontOf plainBytes bothAnswer plainFirst
     read-same s f off buffer al =
         let q = listed s f al in
         record {
-          count = ap firstCount (ap (λ z. min (length buffer) (z - off)) (size-plain f s (q .0) (q .1) al ∙ ap (λ (o : Option (List ℕ)). length (bytesIn o)) (sym (q .1))));
+          count = ap (firstCount (readLooks (treeIn real r) (r .files f) s off (readCount (length buffer) off (sizeByReading (treeIn real r) (r .files f) s)))) (ap (λ z. min (length buffer) (z - off)) (size-plain f s (q .0) (q .1) al ∙ ap (λ (o : Option (List ℕ)). length (bytesIn o)) (sym (q .1))));
           shown = read-bytes s f off buffer (q .0) (q .1) al
               ∙ ap (λ (o : Option (List ℕ)). take (readCount (length buffer) off (sizeByReading (treeIn real r) (r .files f) s)) (drop off (bytesIn o))) (sym (q .1));
         }
@@ -131,7 +132,7 @@ module _ (B : ℕ) (r : Store real) (pl : Plain) (ta : Tally) (v : Holds B r pl 
     size-same s f al =
         let q = listed s f al in
         record {
-          count = ap firstCount (size-plain f s (q .0) (q .1) al ∙ ap (λ (o : Option (List ℕ)). length (bytesIn o)) (sym (q .1)));
+          count = ap (firstCount 0) (size-plain f s (q .0) (q .1) al ∙ ap (λ (o : Option (List ℕ)). length (bytesIn o)) (sym (q .1)));
           shown = refl;
         }
 

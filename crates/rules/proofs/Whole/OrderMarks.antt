@@ -19,7 +19,7 @@ use Rattle.rules.specs.Numbers.{Answer, Call, create, delete, format, ma
 use Rattle.rules.specs.Plain.{Plain}
 use Rattle.rules.specs.State.{Entry, hole, isMarked, stored, unmapped}
 use Rattle.rules.specs.Storage.{PageData, real}
-use Rattle.rules.specs.Tally.{Tally, TallyFiles, bothAs, bothStep, judged, tallyCall, tallyCut, tallyDelete, tallyGrow, tallyLeaves, tallyTold, tallyWrite}
+use Rattle.rules.specs.Tally.{Tally, TallyFiles, bothAs, bothStep, judged, tallyCall, tallyCut, tallyDelete, tallyGrow, tallyLeaves, tallyRead, tallyTold, tallyWrite}
 
 -- the tally that a store shows is one of it
 kind-of : (g : ℕ → PageData) (e : Entry ℕ) → kindOf e ≡ mapEntry forget (mapEntry g e)
@@ -36,7 +36,7 @@ shown-tallies r = record {
 
 -- an accepted call gives the number 0 on the tally
 tally-number : (blocks : ℕ) (c : Call) (ta : Tally) → tallyCall blocks c ta .answer .number ≡ 0
-unfolding tallyCall tallyTold tallyWrite tallyDelete tallyLeaves tallyGrow tallyCut
+unfolding tallyCall tallyRead tallyTold tallyWrite tallyDelete tallyLeaves tallyGrow tallyCut
 tally-number blocks format ta = refl
 tally-number blocks (create s f) ta = refl
 tally-number blocks (write s f off []) ta = refl

@@ -6,7 +6,8 @@ use lib.ListN.{length}
 use borrow.Author.Needs.{needs}
 use Rattle.tables.proofs.FormedStore.{formed-store}
 use Rattle.copying.proofs.Begin.{formed-packed, ready-begin}
-use Rattle.writing.proofs.Writing.{need-begin, touched-is, wrote}
+use Rattle.writing.proofs.Writing.{need-begin, wrote}
+use Rattle.rules.proofs.Agreement.Agree.{touched-is}
 use Rattle.writing.proofs.write_file.Statement.{statement}
 use Rattle.writing.proofs.write_file.Tie as tie
 

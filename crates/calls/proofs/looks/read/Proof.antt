@@ -5,14 +5,14 @@ use borrow.Author.Needs.{needs}
 use Rattle.rules.specs.Numbers.{read}
 use Rattle.tables.proofs.FormedStore.{formed-store}
 use Rattle.calls.proofs.CallCases.{is-formed, refused-as, unformed-as, zero-is}
-use Rattle.calls.proofs.Told.{read-as, read-refused, look-requires}
+use Rattle.calls.proofs.Told.{look-requires, read-as}
 use Rattle.calls.proofs.looks.read.Statement.{statement}
 use Rattle.calls.proofs.looks.read.Tie as tie
 
 returns : tie.Need-returns
 returns c =
     let i = c .before in
-    read-refused _ _ _ _ _ _ 1 _ (c .counts-0 .ensures) (unformed-as _ _ _ (read _ _ _ _) refl _ (c .counts-0 .ensures) (i .before .well-formed .ensures) (i .if1 .taken))
+    unformed-as _ _ _ (read _ _ _ _) refl _ (c .counts-0 .ensures) (i .before .well-formed .ensures) (i .if1 .taken)
 
 of-look-requires : tie.Need-of-look-requires
 of-look-requires c κs = formed-store _ _ (is-formed _ _ _ (c .before .well-formed .ensures) (c .if1 .left))
@@ -21,8 +21,7 @@ returns-2 : tie.Need-returns-2
 returns-2 c =
     let n = c .before .before in
     let i = n .before in
-    read-refused _ _ _ _ _ _ _ _ (c .counts-02 .ensures)
-    (refused-as _ _ _ (read _ _ _ _) refl _ (is-formed _ _ _ (i .before .well-formed .ensures) (i .if1 .left)) (c .counts-02 .ensures) (n .of-look .ensures .0 _ _) (omega arith))
+    refused-as _ _ _ (read _ _ _ _) refl _ (is-formed _ _ _ (i .before .well-formed .ensures) (i .if1 .left)) (c .counts-02 .ensures) (n .of-look .ensures .0 _ _) (omega arith)
 
 read-file-requires : tie.Need-read-file-requires
 read-file-requires c κs =

@@ -1,5 +1,5 @@
 -- `maps::reading::resolve` meets its contract: it calls itself on the parent set, and the level falls. Assumes nothing.
-use mathlib.Core.Path.{_≡_, sym, ap, _∙_}
+use mathlib.Core.Path.{ap, sym, _∙_}
 use Prim.Native.Nat.{ℕ, _<_, _+_, _-_}
 use native.Mathlib.Omega.{arith}
 use borrow.Author.Needs.{needs}
@@ -9,7 +9,7 @@ use Rattle.rules.specs.State.{isUnmapped}
 use Rattle.tables.specs.Meaning.{entryMeant}
 use Rattle.tables.specs.Packed.{unpack}
 use Rattle.maps.specs.Upward.{looksFrom, resolveFrom}
-use Rattle.maps.proofs.Steps.{looks-above, looks-here, looks-low, resolve-above, resolve-hole, resolve-low, resolve-stored}
+use Rattle.maps.proofs.Steps.{few-looks-up, looks-above, looks-here, looks-low, resolve-above, resolve-hole, resolve-low, resolve-stored}
 use Rattle.maps.proofs.reading.resolve.Reads as resolve
 use Rattle.maps.proofs.reading.resolve.Kinds as resolve-kinds
 use Rattle.maps.proofs.reading.+resolve.Lts-resolve as resolve-lts
@@ -38,8 +38,6 @@ module _ (t : ℕ) where
       let a = e .before .before .args in
       let tb = unpack (a .t .now) in (
         sym (resolve-low tb (a .f) (a .page .0) (a .s) (a .level) (c .if1 .taken) (sym (e .entry-in .ensures) ∙ ap entryMeant (c .before .enum-told .given .1))),
-        omega arith,
-        omega arith,
         sym (looks-low tb (a .f) (a .page .0) (a .s) (a .level) (c .if1 .taken)),
       )
 
@@ -47,6 +45,12 @@ module _ (t : ℕ) where
   resolve-requires c κs =
       let p = c .before .before .before .before .before .before .pre .1 in
       (omega arith, (p .0, p .1, p .2, omega arith))
+
+  add-looks : resolve-lts.Need-add-t15 (cs t) (resolve-at t) resolve.Post
+  add-looks c =
+      let r = c .before in
+      let z = few-looks-up _ _ _ _ _ _ (r .resolve .ensures .1) (omega arith) in
+      omega arith
 
   returns-2 : resolve-lts.Need-returns-2 (cs t) (resolve-at t) resolve.Post
   unfolding entryMeant
@@ -60,9 +64,7 @@ module _ (t : ℕ) where
       let up = r .before .parent-in .ensures .0 in (
         r .resolve .ensures .0 ∙ ap (λ (x : ℕ). resolveFrom tb (a .f) (a .page .0) x (a .level - 1)) up
             ∙ sym (resolve-above tb (a .f) (a .page .0) (a .s) (a .level) (i .if1 .left) h),
-        omega arith,
-        omega arith,
-        ap (λ (x : ℕ). x + 1) (r .resolve .ensures .3 ∙ ap (λ (x : ℕ). looksFrom tb (a .f) (a .page .0) x (a .level - 1)) up)
+        ap (λ (x : ℕ). x + 1) (r .resolve .ensures .1 ∙ ap (λ (x : ℕ). looksFrom tb (a .f) (a .page .0) x (a .level - 1)) up)
             ∙ sym (looks-above tb (a .f) (a .page .0) (a .s) (a .level) (i .if1 .left) h),
       )
 
@@ -74,8 +76,6 @@ module _ (t : ℕ) where
       let tb = unpack (a .t .now) in
       let h = sym (e .entry-in .ensures) ∙ ap entryMeant (c .enum-told2 .given .1) in (
         sym (resolve-hole tb (a .f) (a .page .0) (a .s) (a .level) h),
-        omega arith,
-        omega arith,
         sym (looks-here tb (a .f) (a .page .0) (a .s) (a .level) (ap isUnmapped h)),
       )
 
@@ -87,8 +87,6 @@ module _ (t : ℕ) where
       let tb = unpack (a .t .now) in
       let h = sym (e .entry-in .ensures) ∙ ap entryMeant (c .before .e .given .1) in (
         sym (resolve-stored tb (a .f) (a .page .0) (a .s) (a .level) _ h),
-        omega arith,
-        omega arith,
         sym (looks-here tb (a .f) (a .page .0) (a .s) (a .level) (ap isUnmapped h)),
       )
 
@@ -102,7 +100,7 @@ pub +resolve-spec : {M : Type 1} → statement M
     (λ c κs. search needs)
     (λ c. search needs)
     (resolve-requires t)
-    (λ c. omega arith)
+    (add-looks t)
     (λ c. search needs)
     (λ c. search needs)
     (returns-2 t)
