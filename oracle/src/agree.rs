@@ -97,15 +97,18 @@ fn agree_file(
         None if record.is_present() => Err(format!("{place} is present")),
         Some(_) if !record.is_present() => Err(format!("{place} is absent")),
         Some(list) if record.state != FileState::Marked => {
-            agree_bytes(state, pages, set, file, list)
+            agree_reading(state, pages, beside, set, file, list)
         }
         _ => Ok(()),
     }
 }
 
-fn agree_bytes(
+/// A read of the whole file gives the plain store's bytes, and has looked at as
+/// many maps as the tally says.
+fn agree_reading(
     state: &State,
     pages: &[u8],
+    beside: &Beside,
     set: usize,
     file: usize,
     list: &[u8],
@@ -118,7 +121,13 @@ fn agree_bytes(
         ));
     }
     let mut bytes = vec![0; size];
-    read_bytes(state, pages, set, file, 0, &mut bytes);
+    let maps = read_bytes(state, pages, set, file, 0, &mut bytes);
+    let by_tally = beside.tally.maps_looked_at(set, file, 0, size);
+    if maps != by_tally {
+        return Err(format!(
+            "a read of set {set} file {file} looks at {maps} maps, by the tally {by_tally}"
+        ));
+    }
     if bytes == list {
         return Ok(());
     }

@@ -10,6 +10,7 @@ use crate::lent::{check_unchanged, Buffer::*, Buffers, Guarded};
 use crate::state::{Kind, State};
 use crate::store;
 use std::collections::BTreeMap;
+use std::fmt;
 use std::time::{Duration, Instant};
 
 /// Another implementation of some of the calls.
@@ -35,6 +36,43 @@ impl Other for NoOther {
     }
 }
 
+/// Accepted reads whose answers were compared.
+#[derive(Default, Clone, PartialEq, Eq, Debug)]
+pub struct Reads {
+    pub compared: u64,
+    /// Those that gave at least one byte.
+    pub of_bytes: u64,
+    /// Those that looked at more maps than pages, so that some parent map was
+    /// gone to.
+    pub to_a_parent: u64,
+    /// The largest number of maps that one of them looked at.
+    pub largest: u32,
+}
+
+impl Reads {
+    /// Counts a call, if it is an accepted read.
+    fn count(&mut self, call: &Call, answer: &Answer) {
+        let (Call::Read { offset, .. }, 0) = (call, answer.number) else { return };
+        self.compared += 1;
+        if answer.first == 0 {
+            return;
+        }
+        let page = |place: u32| place / PAGE_BYTES as u32;
+        let pages_read = page(offset + answer.first - 1) - page(*offset) + 1;
+        self.of_bytes += 1;
+        self.to_a_parent += u64::from(answer.second > pages_read);
+        self.largest = self.largest.max(answer.second);
+    }
+}
+
+impl fmt::Display for Reads {
+    fn fmt(&self, f: &mut fmt::Formatter) -> fmt::Result {
+        write!(f, "{}, of at least one byte {}", self.compared, self.of_bytes)?;
+        write!(f, ", gone to a parent map {}", self.to_a_parent)?;
+        write!(f, ", most maps looked at by one {}", self.largest)
+    }
+}
+
 /// What has been run so far.
 #[derive(Default, Clone)]
 pub struct Counts {
@@ -49,9 +87,10 @@ pub struct Counts {
     /// Blocks that deletes and truncates handed over, and calls that did so.
     pub handed_over: u64,
     pub handing_calls: u64,
-    /// Reads whose second count was, and was not, the oracle's.
-    pub maps_same: u64,
-    pub maps_differ: u64,
+    /// Reads compared with the other implementation.
+    pub reads_linked: Reads,
+    /// Reads compared with plain store and tally.
+    pub reads_beside: Reads,
     pub damages: BTreeMap<Rule, u64>,
     pub flips: u64,
 }
@@ -166,7 +205,8 @@ impl Bench {
         }
     }
 
-    /// "Demand 3" for one more call of the list.
+    /// "Demand 3" for one more call of the list. All three counts of every
+    /// answer are compared, the maps looked at by a read among them.
     fn compare_beside(
         &mut self,
         call: &Call,
@@ -185,6 +225,7 @@ impl Bench {
         if *answer != wanted {
             return Err(format!("the answer is {answer}; by plain store and tally {wanted}"));
         }
+        self.counts.reads_beside.count(call, answer);
         if matches!(call, Call::Read { .. }) && answer.number == 0 {
             check_read(&read, &after[Bytes])?;
         }
@@ -213,37 +254,19 @@ impl Bench {
         let mut lent = Guarded::new(before);
         let found = other.run(call.index(), &call.numbers(), lent.lend());
         self.counts.linked[call.index()] += 1;
-        self.compare_answers(call, answer, &found, before)?;
+        compare_answers(answer, &found)?;
+        self.counts.reads_linked.count(call, answer);
         lent.compare(call.row(), answer.number == 0, after)
     }
+}
 
-    /// Answers are equal; of a read's maps looked at, only what the paper says
-    /// is asked: "at most pages read x (level + 1)".
-    fn compare_answers(
-        &mut self,
-        call: &Call,
-        answer: &Answer,
-        found: &Answer,
-        before: &Buffers,
-    ) -> Result<(), String> {
-        let mut wanted = *answer;
-        if let (Call::Read { set, offset, .. }, 0) = (call, answer.number) {
-            let most = most_maps(&before[Tables], *set, *offset, answer.first);
-            if found.second > most {
-                return Err(format!("{} maps looked at, at most {most}", found.second));
-            }
-            if found.second == answer.second {
-                self.counts.maps_same += 1;
-            } else {
-                self.counts.maps_differ += 1;
-            }
-            wanted.second = found.second;
-        }
-        if *found == wanted {
-            Ok(())
-        } else {
-            Err(format!("the answer is {found}; the oracle's is {answer}"))
-        }
+/// The number and all three counts are equal. Document 02, of the maps looked at
+/// by a read: "This number is then free no longer."
+fn compare_answers(answer: &Answer, found: &Answer) -> Result<(), String> {
+    if found == answer {
+        Ok(())
+    } else {
+        Err(format!("the answer is {found}; the oracle's is {answer}"))
     }
 }
 
@@ -267,17 +290,6 @@ pub fn handed_over(before: &State, after: &State, set: usize, file: usize) -> Ve
         }
     }
     list
-}
-
-/// Pages read x (level + 1).
-fn most_maps(tables: &[u8], set: u32, offset: u32, count: u32) -> u32 {
-    if count == 0 {
-        return 0;
-    }
-    let page = |place: u32| place / PAGE_BYTES as u32;
-    let pages_read = page(offset + count - 1) - page(offset) + 1;
-    let level = State::unpack(tables).sets[set as usize].level as u32;
-    pages_read * (level + 1)
 }
 
 fn put_byte(bytes: &mut [u8], at: usize, value: u8) {

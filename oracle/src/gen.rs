@@ -36,8 +36,9 @@ pub struct Style {
 pub struct Start {
     pub style: Style,
     pub calls: Vec<Call>,
-    /// Then calls that drop pages of a family, if one was made.
-    pub drops: Vec<Call>,
+    /// Then calls that drop pages of a family, or reads through a line, if one
+    /// was made.
+    pub then: Vec<Call>,
 }
 
 /// A store's size: mostly 1 to 12 blocks, sometimes 64, seldom 4,096.
@@ -74,18 +75,20 @@ fn style(rng: &mut Rng, block_count: usize) -> Style {
 }
 
 /// A format, and often calls that make a family (see `family_calls` and
-/// `short_calls`) or, in larger stores, calls that fill them nearly.
+/// `short_calls`) or a line (see `line_calls`) or, in larger stores, calls that
+/// fill them nearly.
 pub fn start(rng: &mut Rng, block_count: usize) -> Start {
     let style = style(rng, block_count);
-    let (more, drops) = match rng.below(100) {
+    let (more, then) = match rng.below(100) {
         0..=42 if block_count <= 64 => family_calls(rng, &style),
         43..=64 if block_count <= 64 => short_calls(rng, &style),
+        65..=76 if block_count <= 64 => line_calls(rng, &style),
         _ if block_count > 12 && rng.percent(75) => (fill_calls(rng, block_count), Vec::new()),
         _ => (Vec::new(), Vec::new()),
     };
     let mut calls = vec![Call::Format { pages_length: block_count * PAGE_BYTES }];
     calls.extend(more);
-    Start { style, calls, drops }
+    Start { style, calls, then }
 }
 
 /// Calls in the making, all of them accepted.
@@ -273,6 +276,44 @@ fn make_short_parent(rng: &mut Rng, scene: &mut Scene, start: u32, reads_through
     let later = start + rng.pick(&[512, 512, 1_024]);
     scene.write(rng, set, later);
     set
+}
+
+/// Calls that make a line: a set made from set 0, one from that, and so on,
+/// often down to level 5. In some of them a page of one file is written, or the
+/// file is cut and lengthened again, which leaves holes. So its pages are found
+/// after different numbers of maps. Then reads of this file.
+fn line_calls(rng: &mut Rng, style: &Style) -> (Vec<Call>, Vec<Call>) {
+    let mut scene = Scene::new(rng, style);
+    let file = scene.file;
+    let mut line = vec![0];
+    scene.add(Call::Create { set: 0, file });
+    for page in scene.pages.clone() {
+        scene.write(rng, 0, (page * PAGE_BYTES) as u32);
+    }
+    for level in 0..rng.pick(&[2, 3, 4, HIGHEST_LEVEL, HIGHEST_LEVEL, HIGHEST_LEVEL]) {
+        let set = scene.make(line[level], rng.pick(&[0, 1, 1, 1])).expect("an unused number");
+        line.push(set);
+        match rng.below(5) {
+            0 | 1 => scene.write_a_page(rng, set),
+            2 => cut_and_lengthen(rng, &mut scene, set),
+            _ => {}
+        }
+    }
+    let calls = std::mem::take(&mut scene.calls);
+    for _ in 0..rng.between(4, 10) {
+        let set = if rng.percent(40) { line[line.len() - 1] } else { rng.pick(&line) };
+        scene.add(read_call(rng, style, &scene.beside, (set, file)));
+    }
+    (calls, scene.calls)
+}
+
+/// Cuts the file of a set and gives it the size that it had, or another.
+fn cut_and_lengthen(rng: &mut Rng, scene: &mut Scene, set: u32) {
+    let file = scene.file;
+    let old_size = size_of(&scene.beside, set, file) as u32;
+    let size = scene.start_of_a_page(rng) + rng.pick(&[0, 0, 100]);
+    scene.add(Call::Truncate { set, file, size });
+    scene.add(Call::Truncate { set, file, size: rng.pick(&[old_size, size + 600, size + 2_000]) });
 }
 
 /// Calls that leave few blocks free: full files, in set 0 and in sets made
@@ -484,6 +525,10 @@ pub fn call_of(rng: &mut Rng, style: &Style, beside: &Beside, index: usize) -> C
             let (set, file) = (any_set(rng, style, beside), any_file(rng, style));
             Call::Create { set, file }
         }
+        3 => {
+            let target = read_target(rng, style, beside);
+            read_call(rng, style, beside, target)
+        }
         6 => make_call(rng, style, beside),
         7 => remove_call(rng, style, beside),
         9 => Call::Free {},
@@ -504,6 +549,60 @@ fn call_of_file(rng: &mut Rng, style: &Style, beside: &Beside, index: usize) -> 
         offset = (page * PAGE_BYTES + rng.pick(&[0, 0, 1, 300, 511])) as u32;
     }
     file_call(rng, style, index, (set, file), offset, size)
+}
+
+/// A set and a file of it to read: mostly one that can be read and is not
+/// empty, often one whose set is as deep as any of them.
+fn read_target(rng: &mut Rng, style: &Style, beside: &Beside) -> (u32, u32) {
+    let mut list = present_files(beside);
+    if rng.percent(90) {
+        prefer(&mut list, |(set, file)| !beside.tally.is_marked(set as usize, file as usize));
+    }
+    if rng.percent(70) {
+        prefer(&mut list, |(set, file)| size_of(beside, set, file) > 0);
+    }
+    if rng.percent(85) {
+        prefer(&mut list, |(_, file)| style.files.contains(&file));
+    }
+    if rng.percent(50) {
+        let level = |(set, _): (u32, u32)| beside.plain.set(set as usize).level;
+        let deepest = list.iter().map(|target| level(*target)).max();
+        prefer(&mut list, |target| Some(level(target)) == deepest);
+    }
+    match rng.pick_any(&list) {
+        Some(target) if !rng.percent(style.wild) => target,
+        _ => (any_set(rng, style, beside), any_file(rng, style)),
+    }
+}
+
+/// A random read of this file: often from a page on that is stored in some set,
+/// or from a page shortly before it, and with a buffer that ends before the
+/// size, at it or past it.
+fn read_call(rng: &mut Rng, style: &Style, beside: &Beside, (set, file): (u32, u32)) -> Call {
+    let size = size_of(beside, set, file);
+    let mut offset = place(rng, style, size);
+    if rng.percent(60) {
+        if let Some(page) = page_stored_in_a_set(rng, beside, file) {
+            let first = page.saturating_sub(rng.pick(&[0, 0, 0, 1, 2]));
+            offset = (first * PAGE_BYTES + rng.pick(&[0, 0, 1, 300, 511])) as u32;
+        }
+    }
+    let past_the_size = (size..=LARGEST_SIZE).contains(&(offset as usize));
+    if past_the_size && size > 0 && rng.percent(60) {
+        offset = rng.below(size) as u32;
+    }
+    let left = size.saturating_sub(offset as usize);
+    let length = rng.pick(&[0, 1, 2, 511, 512, 513, 1_024, 2_000, left, left + 1, 40_000]);
+    Call::Read { set, file, offset, length }
+}
+
+/// A page that the file of this number has stored in the map of some set.
+fn page_stored_in_a_set(rng: &mut Rng, beside: &Beside, file: u32) -> Option<usize> {
+    if file as usize >= FILES {
+        return None;
+    }
+    let pages = |set: u32| stored_pages(beside, set, file);
+    rng.pick_any(&used_sets(beside).into_iter().flat_map(pages).collect::<Vec<usize>>())
 }
 
 /// A write of whole pages not stored in the file's map that takes all free
@@ -552,10 +651,6 @@ fn file_call(
         2 => {
             let (length, seed) = (length(rng, style, offset), data_seed(rng));
             Call::Write { set, file, offset, length, seed }
-        }
-        3 => {
-            let length = rng.pick(&[0, 1, 511, 512, 513, 1_024, 2_000, 40_000]);
-            Call::Read { set, file, offset, length }
         }
         4 => {
             let size = if rng.percent(30) { shorter(rng, size) } else { offset };
@@ -669,7 +764,7 @@ pub fn made_of(rng: &mut Rng, block_count: usize, length: usize) -> Made {
         made.run(call);
     }
     // A few calls leave a family as it was made.
-    for call in start.drops.into_iter().filter(|_| length > FEW_CALLS) {
+    for call in start.then.into_iter().filter(|call| call.changes() && length > FEW_CALLS) {
         made.run(call);
     }
     for _ in 0..length {

@@ -14,10 +14,10 @@ pub struct Failure {
 /// What is told of each line of a script before it is done.
 pub type Watch<'a> = &'a mut dyn FnMut(&Item);
 
-/// A random history of its own seed: format, perhaps calls that fill the store
-/// or make a family and drop its pages, then `length` random calls. The counts
-/// are added to. Where the other implementation has only some of the calls,
-/// these come more often.
+/// A random history of its own seed: format, perhaps calls that fill the store,
+/// make a family and drop its pages, or make a line and read through it, then
+/// `length` random calls. The counts are added to. Where the other
+/// implementation has only some of the calls, these come more often.
 pub fn random_history(
     seed: u64,
     block_count: usize,
@@ -34,7 +34,7 @@ pub fn random_history(
     let mut bench = Bench::new();
     std::mem::swap(&mut bench.counts, counts);
     let mut script = Vec::new();
-    let mut first_calls = [start.calls, start.drops].concat().into_iter();
+    let mut first_calls = [start.calls, start.then].concat().into_iter();
     let mut outcome = Ok(());
     for _ in 0..first_calls.len() + length {
         let call = first_calls.next().unwrap_or_else(|| {

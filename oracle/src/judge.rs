@@ -158,6 +158,8 @@ impl Beside {
                 let (set, file, offset) = (set as usize, file as usize, offset as usize);
                 bytes = self.read(set, file, offset, length);
                 let end = offset + bytes.len();
+                // "Read: bytes, maps looked at, 0." The bytes are the plain
+                // store's, the maps follow from the tally's kinds.
                 [bytes.len() as u32, self.tally.maps_looked_at(set, file, offset, end), 0]
             }
             Call::Truncate { set, file, size } => {

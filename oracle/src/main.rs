@@ -120,4 +120,5 @@ fn show_counts(counts: &Counts) {
     }
     println!("copies {}, files marked {}", counts.copies, counts.files_marked);
     println!("blocks handed over {} in {} calls", counts.handed_over, counts.handing_calls);
+    println!("accepted reads compared {}", counts.reads_beside);
 }

@@ -12,7 +12,9 @@ pub enum Resolved {
     Stored(usize),
 }
 
-/// A resolved page with the maps looked at on the way.
+/// A resolved page with the maps looked at on the way: "one for the file's own
+/// map and one for each parent map gone to, ending at the first that is not
+/// unmapped" (document 02).
 pub struct Look {
     pub resolved: Resolved,
     pub maps: u32,

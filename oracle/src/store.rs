@@ -282,7 +282,8 @@ fn lay_over(state: &State, pages: &mut [u8], set: usize, file: usize, offset: us
 
 /// "A read gives the smaller of the buffer's length and the bytes from the
 /// offset to the size, none at or past it. It fills that many bytes at the
-/// buffer's front and touches no others. It also gives the maps looked at."
+/// buffer's front and touches no others. It also gives the maps looked at", and
+/// by document 02 exactly (see `read_bytes`).
 fn try_read(
     tables: &[u8],
     pages: &[u8],
@@ -303,8 +304,10 @@ fn try_read(
 }
 
 /// Fills the whole buffer from the offset on. The caller has seen to it that
-/// these bytes lie before the size. Gives the maps looked at: one for the own
-/// map and one for each parent map gone to, for each page holding a byte read.
+/// these bytes lie before the size. Gives the maps looked at. Document 02: "For
+/// each page holding a byte read, the count is one for the file's own map and
+/// one for each parent map gone to, ending at the first that is not unmapped."
+/// An empty buffer holds no byte read: 0 maps.
 pub fn read_bytes(
     state: &State,
     pages: &[u8],

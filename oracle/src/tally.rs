@@ -99,15 +99,13 @@ impl Tally {
         self.file(set, file).condition == Condition::Marked
     }
 
-    /// The kind a page resolves to, and how many maps were looked at.
-    fn resolves(&self, set: usize, file: usize, page: usize) -> (TallyKind, u32) {
+    /// The kind a page resolves to.
+    fn resolves(&self, set: usize, file: usize, page: usize) -> TallyKind {
         let mut at = set;
-        let mut maps = 1;
         while self.file(at, file).kinds[page] == Unmapped {
             at = self.set(at).parent.expect("set 0 has no unmapped page");
-            maps += 1;
         }
-        (self.file(at, file).kinds[page], maps)
+        self.file(at, file).kinds[page]
     }
 
     /// The size by reading.
@@ -119,11 +117,14 @@ impl Tally {
         self.file(at, file).size
     }
 
-    /// The pages that hold the bytes from `offset` up to `end`.
+    /// The pages that hold a byte from `offset` up to `end`, so none if there is
+    /// no such byte.
     fn pages_of(offset: usize, end: usize) -> Vec<usize> {
-        (0..PAGES)
-            .filter(|page| page * PAGE_BYTES < end && (page + 1) * PAGE_BYTES > offset)
-            .collect()
+        let holds_one = |page: &usize| {
+            let first = offset.max(page * PAGE_BYTES);
+            first < end.min((page + 1) * PAGE_BYTES)
+        };
+        (0..PAGES).filter(holds_one).collect()
     }
 
     // Step 1.
@@ -144,7 +145,7 @@ impl Tally {
         }
         let page = size / PAGE_BYTES;
         let stored_here = self.file(set, file).kinds[page] == Stored;
-        usize::from(!stored_here && self.resolves(set, file, page).0 == Stored)
+        usize::from(!stored_here && self.resolves(set, file, page) == Stored)
     }
 
     // Step 2.
@@ -199,7 +200,7 @@ impl Tally {
                     given.handed_over += 1;
                 }
             }
-            let (kind, _) = self.resolves(set, file, page);
+            let kind = self.resolves(set, file, page);
             for child in waiting {
                 self.give(child, file, page, kind, &mut given);
             }
@@ -343,10 +344,21 @@ impl Tally {
     }
 
     /// The maps looked at by a read of the bytes from `offset` up to `end`.
+    /// Document 02: "For each page holding a byte read, the count is one for the
+    /// file's own map and one for each parent map gone to, ending at the first
+    /// that is not unmapped." Counted set by set, going up: a set's map is looked
+    /// at for those of the pages that are unmapped in every map before it.
     pub fn maps_looked_at(&self, set: usize, file: usize, offset: usize, end: usize) -> u32 {
-        if offset >= end {
-            return 0;
+        let mut not_found = Tally::pages_of(offset, end);
+        let mut looks = 0;
+        let mut next = Some(set);
+        while let Some(at) = next {
+            looks += not_found.len();
+            let kinds = &self.file(at, file).kinds;
+            not_found.retain(|page| kinds[*page] == Unmapped);
+            next = self.set(at).parent;
         }
-        Tally::pages_of(offset, end).iter().map(|page| self.resolves(set, file, *page).1).sum()
+        assert!(not_found.is_empty(), "set 0 has no unmapped page");
+        looks as u32
     }
 }

@@ -26,6 +26,7 @@ fn histories(block_counts: &[usize], rounds: usize, length: usize) -> Counts {
     println!("numbers {:?}", counts.numbers);
     println!("copies {}, files marked {}", counts.copies, counts.files_marked);
     println!("blocks handed over {} in {} calls", counts.handed_over, counts.handing_calls);
+    println!("accepted reads compared {}", counts.reads_beside);
     counts
 }
 
@@ -37,6 +38,7 @@ fn stores_of_1_to_12_blocks() {
     assert!(counts.calls.iter().all(|count| *count > 0), "every call is done");
     assert!(counts.copies > 600 && counts.files_marked > 800);
     assert!(counts.handed_over > 1_000 && counts.handing_calls > 500);
+    assert!(counts.reads_beside.to_a_parent > 300);
 }
 
 #[test]
@@ -44,6 +46,7 @@ fn stores_of_64_blocks() {
     let counts = histories(&[64], 60, 120);
     assert!(counts.copies > 350 && counts.files_marked > 100);
     assert!(counts.handed_over > 1_000 && counts.handing_calls > 120);
+    assert!(counts.reads_beside.to_a_parent > 60);
 }
 
 #[test]

@@ -404,10 +404,8 @@ exit status: 0 no difference, 1 a difference, 2 bad usage
                 println!("damage {} {}", rule.name(), self.damages_of(*rule));
             }
             println!("damages by random bit flips {}", counts.flips);
-            println!(
-                "reads with the oracle's maps looked at {}, with other {}",
-                counts.maps_same, counts.maps_differ
-            );
+            println!("accepted reads compared with the library {}", counts.reads_linked);
+            println!("accepted reads compared with plain store and tally {}", counts.reads_beside);
         }
     }
 

@@ -7,7 +7,8 @@
 use oracle::agree::read_off;
 use oracle::bench::{handed_over, Bench, Handed, NoOther};
 use oracle::call::*;
-use oracle::gen::{self, Made};
+use oracle::gen::{self, Made, Style};
+use oracle::judge::Beside;
 use oracle::rng::Rng;
 use oracle::state::*;
 
@@ -22,6 +23,34 @@ pub struct Seen<'a> {
     pub pages_after: &'a [u8],
     /// Whether this is the first call shown of its store.
     pub first: bool,
+}
+
+/// An accepted read, with the store that it reads.
+pub struct SeenRead<'a> {
+    pub call: &'a Call,
+    pub answer: Answer,
+    pub state: &'a State,
+}
+
+enum Shown<'a> {
+    Change(Seen<'a>),
+    Read(SeenRead<'a>),
+}
+
+fn changes(mut see: impl FnMut(Seen)) -> impl FnMut(Shown) {
+    move |shown: Shown| {
+        if let Shown::Change(seen) = shown {
+            see(seen);
+        }
+    }
+}
+
+fn reads(mut see: impl FnMut(SeenRead)) -> impl FnMut(Shown) {
+    move |shown: Shown| {
+        if let Shown::Read(read) = shown {
+            see(read);
+        }
+    }
 }
 
 /// A write, truncate or delete.
@@ -95,15 +124,21 @@ impl Walk {
         Walk { bench, first: true }
     }
 
-    fn step(&mut self, call: &Call, see: &mut dyn FnMut(Seen)) {
+    fn step(&mut self, call: &Call, see: &mut dyn FnMut(Shown)) {
         let (before, pages_before) = self.store();
         let answer = self.bench.call(call, &mut NoOther);
         let answer = answer.unwrap_or_else(|text| panic!("{call}: {text}"));
-        if answer.number != 0 || !call.changes() || matches!(call, Call::Format { .. }) {
+        if answer.number != 0 {
+            return;
+        }
+        if let Call::Read { .. } = call {
+            see(Shown::Read(SeenRead { call, answer, state: &before }));
+        }
+        if !call.changes() || matches!(call, Call::Format { .. }) {
             return;
         }
         let (after, pages_after) = self.store();
-        see(Seen {
+        see(Shown::Change(Seen {
             call,
             answer,
             before: &before,
@@ -111,8 +146,14 @@ impl Walk {
             after: &after,
             pages_after: &pages_after,
             first: self.first,
-        });
+        }));
         self.first = false;
+    }
+
+    /// Plain store and tally as they are read off the store now.
+    fn read_off(&mut self) -> &Beside {
+        let (state, pages) = self.store();
+        self.bench.beside.insert(read_off(&state, &pages))
     }
 
     fn store(&self) -> (State, Vec<u8>) {
@@ -121,7 +162,16 @@ impl Walk {
 }
 
 /// Shows the calls of random histories from format on.
-pub fn histories(seed: u64, rounds: usize, mut see: impl FnMut(Seen)) {
+pub fn histories(seed: u64, rounds: usize, see: impl FnMut(Seen)) {
+    show_histories(seed, rounds, &mut changes(see));
+}
+
+/// Shows the reads of random histories from format on.
+pub fn reads_of_histories(seed: u64, rounds: usize, see: impl FnMut(SeenRead)) {
+    show_histories(seed, rounds, &mut reads(see));
+}
+
+fn show_histories(seed: u64, rounds: usize, see: &mut dyn FnMut(Shown)) {
     println!("seed {seed}");
     let mut rng = Rng::new(seed);
     for round in 0..rounds {
@@ -129,23 +179,54 @@ pub fn histories(seed: u64, rounds: usize, mut see: impl FnMut(Seen)) {
         let mut start = gen::start(&mut rng, block_count);
         start.style.weights[0] = 0;
         let mut walk = Walk::new(Bench::with(vec![0; TABLES_BYTES], Vec::new()));
-        for call in start.calls.into_iter().chain(start.drops) {
+        for call in start.calls.into_iter().chain(start.then) {
             match call {
                 Call::Format { .. } => drop(walk.bench.call(&call, &mut NoOther).unwrap()),
-                _ => walk.step(&call, &mut see),
+                _ => walk.step(&call, see),
             }
         }
         for _ in 0..80 {
             let beside = walk.bench.beside.as_ref().expect("a history begins with format");
             let call = gen::call(&mut rng, &start.style, beside);
-            walk.step(&call, &mut see);
+            walk.step(&call, see);
         }
     }
 }
 
 /// Shows calls on random well-formed stores, whether or not calls could bring
 /// them there. Plain store and tally are read off before each call.
-pub fn stores(seed: u64, rounds: usize, mut see: impl FnMut(Seen)) {
+pub fn stores(seed: u64, rounds: usize, see: impl FnMut(Seen)) {
+    let mut see = changes(see);
+    each_store(seed, rounds, |rng, style, mut walk| {
+        for _ in 0..5 {
+            let beside = walk.read_off();
+            // Most of them are truncates and deletes.
+            let call = match rng.below(6) {
+                0 | 1 => gen::call_of(rng, style, beside, 4),
+                2 | 3 => gen::call_of(rng, style, beside, 5),
+                _ => gen::call(rng, style, beside),
+            };
+            if !grows_over_a_gap(&walk.store().0, &call) {
+                walk.step(&call, &mut see);
+            }
+        }
+    });
+}
+
+/// Shows reads of such stores.
+pub fn reads_of_stores(seed: u64, rounds: usize, see: impl FnMut(SeenRead)) {
+    let mut see = reads(see);
+    each_store(seed, rounds, |rng, style, mut walk| {
+        let beside = walk.read_off().clone();
+        for _ in 0..8 {
+            let call = gen::call_of(rng, style, &beside, 3);
+            walk.step(&call, &mut see);
+        }
+    });
+}
+
+/// Random well-formed stores, with the style of the calls that made them.
+fn each_store(seed: u64, rounds: usize, mut use_it: impl FnMut(&mut Rng, &Style, Walk)) {
     println!("seed {seed}");
     let mut rng = Rng::new(seed);
     let mut pool: Vec<Made> = Vec::new();
@@ -162,21 +243,7 @@ pub fn stores(seed: u64, rounds: usize, mut see: impl FnMut(Seen)) {
         let made = rng.pick(&pool);
         let (mut tables, mut pages) = (made.tables, made.pages);
         gen::twist(&mut rng, &mut tables, &mut pages);
-        let mut walk = Walk::new(Bench::with(tables, pages));
-        for _ in 0..5 {
-            let (state, pages) = walk.store();
-            walk.bench.beside = Some(read_off(&state, &pages));
-            let beside = walk.bench.beside.as_ref().expect("read off");
-            // Most of them are truncates and deletes.
-            let call = match rng.below(6) {
-                0 | 1 => gen::call_of(&mut rng, &made.style, beside, 4),
-                2 | 3 => gen::call_of(&mut rng, &made.style, beside, 5),
-                _ => gen::call(&mut rng, &made.style, beside),
-            };
-            if !grows_over_a_gap(&state, &call) {
-                walk.step(&call, &mut see);
-            }
-        }
+        use_it(&mut rng, &made.style, Walk::new(Bench::with(tables, pages)));
     }
 }
 
