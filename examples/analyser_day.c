@@ -40,8 +40,8 @@ static uint32_t store_sweep(uint32_t file, uint8_t level, size_t length)
     return done.number;
 }
 
-/* Reads a sweep's first points, which lie in one page; the count of maps tells how far up the copy had to look for it. A
- * marked file gives number 6. */
+/* Reads a sweep's first points, which lie in one page: the maps looked at are 1 where the set's own map has that page, and one
+ * more for each parent gone to. A marked file gives number 6. */
 static uint32_t print_sweep(uint32_t set, uint32_t file)
 {
     uint8_t points[4];

@@ -80,7 +80,8 @@ sweep_answer sweep_write(uint8_t *tables, size_t tables_length, uint8_t *pages, 
 
 /* Reads from offset as many bytes as the buffer and the file have, into the buffer's front; touches no others.
  * Counts: bytes read, maps looked at, 0. Maps looked at: for each page holding a byte read, one for the file's own map and one
- * for each parent set's map gone to, up to the first that has the page, stored or as a hole; so at most 6 for each page. */
+ * for each parent map gone to, ending at the first that has the page, stored or as a hole. So 1 to SWEEP_LEVEL_MAX + 1 for each
+ * such page, and 0 where no byte is read. */
 sweep_answer sweep_read(const uint8_t *tables, size_t tables_length, const uint8_t *pages, size_t pages_length,
                         uint32_t set, uint32_t file, uint32_t offset, uint8_t *buffer, size_t buffer_length);
 

@@ -12,9 +12,9 @@ use Rattle.base.specs.Tabulate.{tab}
 use Rattle.maps.specs.ManyPages.{RangeResolved}
 use Rattle.maps.specs.declared.resolving.ResolvedPages.{ResolvedPages}
 use Rattle.pages.specs.Run.{run, run-front, run-none, run-same, run-then}
+use Rattle.rules.proofs.Agreement.Agree.{touched-is}
 use Rattle.rules.proofs.Formed.Shape.{size-most}
 use Rattle.rules.proofs.Blocks.Tidy.{resolve-named}
-use Rattle.rules.proofs.Agreement.Agree.{touched-is}
 use Rattle.rules.specs.Calls.{byteByReading, readCount, readInto, readLooks}
 use Rattle.rules.specs.Reading.{looks, resolve, sizeByReading}
 use Rattle.rules.specs.Rules.{pageOf, sumIn, touched}
@@ -58,8 +58,8 @@ pub in-file : (m off z n : ℕ) → n ≡ readCount m off z → z ≤ 32768 → 
 in-file m off z n e h some = (omega arith, omega arith)
 
 -- so are their pages
-pub pages-in : (off n first : ℕ) → first ≤ off / 512 → off + n ≤ 32768 → (n ≡ 0 → ⊥) → first + ((off + n - 1) / 512 - first + 1) ≤ 64
-pages-in off n first l h some = let a : off / 512 ≤ (off + n - 1) / 512 = omega arith in let b : (off + n - 1) / 512 < 64 = omega arith in omega arith
+pub pages-in : (first last : ℕ) → first ≤ last → last < 64 → first + (last - first + 1) ≤ 64
+pages-in first last l h = omega arith
 
 -- a size by reading is in range
 pub size-in : (t p : List ℕ) → FormedStore t p → (s f : ℕ) → sizeByReading (treeOf (unpack t .sets)) (unpack t .files f) s ≤ 32768

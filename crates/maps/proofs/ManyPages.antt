@@ -13,6 +13,7 @@ use Rattle.base.specs.Update.{upd, upd-other, upd-same}
 use Rattle.masks.proofs.MaskPages.{and-pages, lowest-gone, lowest-others, lowest-page, no-pages, not-pages}
 use Rattle.masks.proofs.PageMasks.{mask-page}
 use Rattle.masks.specs.Pages.{IsRange, pageMask, pages}
+use Rattle.rules.proofs.Blocks.Sums.{count-sum, sum-most, sum-same}
 use Rattle.rules.proofs.Steps.States.{unmapped-is}
 use Rattle.rules.proofs.Tally.TallyLoops.{PagesOf, sum-pages}
 use Rattle.rules.specs.Rules.{from, sumIn}
@@ -82,16 +83,6 @@ unfolding count sum
 sum-count zero f g h e = refl
 sum-count (suc n) f g h e = let a = e n (omega arith) in let b = sum-count n f g h (λ p l. e p (omega arith)) in omega arith
 
-count-sum : (n : ℕ) (f : ℕ → Bool) (h : ℕ → ℕ) → ((p : ℕ) → p < n → cond (f p) 1 0 ≡ h p) → count n f ≡ sum n h
-unfolding count sum
-count-sum zero f h e = refl
-count-sum (suc n) f h e = let a = e n (omega arith) in let b = count-sum n f h (λ p l. e p (omega arith)) in omega arith
-
-sum-most : (n b : ℕ) (g : ℕ → ℕ) → ((p : ℕ) → g p ≤ b) → sum n g ≤ n * b
-unfolding sum
-sum-most zero b g h = omega arith
-sum-most (suc n) b g h = let a = h n in let c = sum-most n b g h in omega arith
-
 -- ---- the way up
 
 module _ (m : ℕ) (map : ℕ → Entry ℕ) (rest mapped : ℕ) (u : UnmappedIn m map rest) (em : mapped ≡ bitAnd m ((2 ^ 64 - 1) - rest)) where
@@ -129,7 +120,7 @@ module _ (tb : Tables) (f s level m rest mapped : ℕ) (l₀ l : List Kept) (u :
   module _ (looks : ℕ) (n : looks ≡ count 64 (pages m)) where
     -- one look for each page
     looked-here : ((p : ℕ) → p < 64 → pages m p ≡ true → looksFrom tb f p s level ≡ 1) → looks ≡ sum 64 (λ p. cond (pages m p) (looksFrom tb f p s level) 0)
-    looked-here one = n ∙ count-sum 64 (pages m) _ (λ p q. test? (pages m p)
+    looked-here one = n ∙ count-sum 64 (pages m) ∙ sum-same 64 _ _ (λ p q. test? (pages m p)
         (λ on. ap (λ b. cond b 1 0) on ∙ sym (ap (λ b. cond b (looksFrom tb f p s level) 0) on ∙ one p q on))
         (λ off. ap (λ b. cond b 1 0) off ∙ sym (ap (λ b. cond b (looksFrom tb f p s level) 0) off)))
 
@@ -162,14 +153,14 @@ module _ (tb : Tables) (f s level m rest mapped : ℕ) (l₀ l : List Kept) (u :
     resolved-above above up pos e el r = record {
       len = k .len;
       found = found-all
-          (λ p q off. from p q ∙ ap (λ b. cond b (resolveFrom tb f p above (level - 1)) hole) (u .rest-is p q ∙ ap (λ a. a && isUnmapped (map p)) off))
-          (λ p q on d. from p q ∙ ap (λ b. cond b (resolveFrom tb f p above (level - 1)) hole) (u .rest-is p q ∙ ap₂ _&&_ on d)
+          (λ p q off. above-is p q ∙ ap (λ b. cond b (resolveFrom tb f p above (level - 1)) hole) (u .rest-is p q ∙ ap (λ a. a && isUnmapped (map p)) off))
+          (λ p q on d. above-is p q ∙ ap (λ b. cond b (resolveFrom tb f p above (level - 1)) hole) (u .rest-is p q ∙ ap₂ _&&_ on d)
           ∙ ap (λ x. resolveFrom tb f p x (level - 1)) e ∙ sym (resolve-above tb f p s level pos (unmapped-is (map p) d)));
       looked = ap₂ _+_ n (r .looked) ∙ sum-count 64 (pages m) _ _ (λ p q. more p q);
     }
       where
-        from : (p : ℕ) → p < 64 → entriesOf l₀ p ≡ cond (pages rest p) (resolveFrom tb f p above (level - 1)) hole
-        from p q = ap (λ x. entriesOf x p) el ∙ r .found p q
+        above-is : (p : ℕ) → p < 64 → entriesOf l₀ p ≡ cond (pages rest p) (resolveFrom tb f p above (level - 1)) hole
+        above-is p q = ap (λ x. entriesOf x p) el ∙ r .found p q
 
         more : (p : ℕ) → p < 64 → cond (pages m p) 1 0 + cond (pages rest p) (looksFrom tb f p above (level - 1)) 0 ≡ cond (pages m p) (looksFrom tb f p s level) 0
         more p q = test? (pages m p)

@@ -59,8 +59,8 @@ unfolding looksFrom
 looks-most tb f p s n = omega (arith, looks-up-most (λ x. tb .sets x .parent) p n (tb .files f) s)
 
 -- so at most 8
-pub few-looks-up : (tb : Tables) (f p s n x : ℕ) → x ≡ looksFrom tb f p s n → n < 8 → x ≤ 8
-few-looks-up tb f p s n x e l = omega (arith, looks-most tb f p s n)
+pub looks-in-8 : (tb : Tables) (f p s n x : ℕ) → x ≡ looksFrom tb f p s n → n < 8 → x ≤ 8
+looks-in-8 tb f p s n x e l = omega (arith, looks-most tb f p s n)
 
 module _ (tb : Tables) (f p s : ℕ) where
   pub looks-low : (n : ℕ) → n ≡ 0 → looksFrom tb f p s n ≡ 1

@@ -8,7 +8,7 @@ use Prim.Native.Nat.{_-_, _<_, ℕ}
 use lib.ListN.{length}
 use Rattle.rules.specs.Numbers.{Call, delete, make, truncate, write}
 use Rattle.rules.specs.State.{Tree, isMarked, isStored, live, pageCount, stored, unmapped}
-use Rattle.rules.specs.Tally.{Tally, TallyFiles, Turn, atPage, childTurn, eachChild, eachPage, kindAt, partPage, tallyNeeds, tallySize, tallyTruncateNeed, tallyWriteNeed, truncateTouches, writeTouches}
+use Rattle.rules.specs.Tally.{Tally, TallyFiles, Turn, atPage, childTurn, eachChild, eachPage, kindAt, partPage, tallyNeeds, tallySize, tallyTruncateNeed, tallyWriteNeed, truncateTouches, holdsByte}
 
 -- "Marking a file marks every own or virgin file of its number in a child set that has any unmapped page, and so on down":
 -- the file of set y is the one of set c, or it still depends on it
@@ -62,7 +62,7 @@ pub record MarkingTurn (t : Tree) (s : ℕ) (touches hands : ℕ → Bool) (x : 
 -- of a delete of an own or virgin file; or its set is made from one where it is marked. No other call marks a file.
 pub data BecomesMarked (ta : Tally) (c : Call) (f y : ℕ) : Type 0 where
   in-write : (s off : ℕ) (bs : List ℕ) → c ≡ write s f off bs
-      → MarkingTurn (ta .tree) s (writeTouches off (length bs)) (λ p. false) (ownTaken ta f (tallyWriteNeed (ta .files f) s off (length bs))) y → BecomesMarked ta c f y
+      → MarkingTurn (ta .tree) s (holdsByte off (length bs)) (λ p. false) (ownTaken ta f (tallyWriteNeed (ta .files f) s off (length bs))) y → BecomesMarked ta c f y
   in-truncate : (s n : ℕ) → c ≡ truncate s f n → n < tallySize (ta .tree) (ta .files f) s
       → MarkingTurn (ta .tree) s (truncateTouches n (tallySize (ta .tree) (ta .files f) s)) (λ p. not (partPage n p)) (ownTaken ta f (tallyTruncateNeed (ta .tree) (ta .files f) s n)) y
       → BecomesMarked ta c f y

@@ -37,7 +37,7 @@ module _ {K : Type 0} where
   looksUp parent p zero files s = 1
   looksUp parent p (suc n) files s = suc (cond (isUnmapped (files s .map p)) (looksUp parent p n files (parent s)) 0)
 
-  -- the same, by recursion on the level
+  -- how many maps are looked at for page p of the file in set s, up to set 0
   unfoldable pub looks : Tree → Files K → ℕ → ℕ → ℕ
   looks t files s p = looksUp (t .parent) p (t .level s) files s
 

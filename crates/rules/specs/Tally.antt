@@ -161,11 +161,11 @@ module _ (t : Tree) where
   unfoldable pub tallyGive : ℕ → (ℕ → Bool) → (ℕ → Bool) → Turn → Turn
   tallyGive s touches hands x = eachPage (atPage s touches hands) pageCount x
 
--- which pages hold one of n bytes from off on: a write of these bytes touches them, and a read counts the maps looked at for them
-unfoldable pub writeTouches : ℕ → ℕ → ℕ → Bool
-writeTouches off n p = not (eqb n 0) && leb (off / pageBytes) p && leb p ((off + n - 1) / pageBytes)
+-- does page p hold one of the n bytes from off on: of a write "the pages that hold its bytes", of a read "each page holding a byte read"
+unfoldable pub holdsByte : ℕ → ℕ → ℕ → Bool
+holdsByte off n p = not (eqb n 0) && leb (off / pageBytes) p && leb p ((off + n - 1) / pageBytes)
 
--- which pages a truncate from z to n bytes touches
+-- does a truncate from z to n bytes touch page p
 unfoldable pub truncateTouches : ℕ → ℕ → ℕ → Bool
 truncateTouches n z p = leb (n / pageBytes) p && leb p ((z - 1) / pageBytes)
 
@@ -174,7 +174,7 @@ unfoldable pub partPage : ℕ → ℕ → Bool
 partPage n p = not (eqb (n % pageBytes) 0) && eqb p (n / pageBytes)
 
 unfoldable pub tallyWriteNeed : TallyFiles → ℕ → ℕ → ℕ → ℕ
-tallyWriteNeed fs s off n = count pageCount (λ p. writeTouches off n p && not (isStored (fs s .map p)))
+tallyWriteNeed fs s off n = count pageCount (λ p. holdsByte off n p && not (isStored (fs s .map p)))
 
 unfoldable pub tallyTruncateNeed : Tree → TallyFiles → ℕ → ℕ → ℕ
 tallyTruncateNeed t fs s n =
@@ -200,9 +200,9 @@ tallyLeaves ta f s taken x y released = record {
 unfoldable pub tallyWrite : ℕ → ℕ → ℕ → ℕ → Tally → TallyResult
 tallyWrite s f off n ta =
     let taken : ℕ = tallyWriteNeed (ta .files f) s off n in
-    let x : Turn = tallyTurns ta f s (s ∷ ta .tree .children s) taken (writeTouches off n) (λ p. false) in
+    let x : Turn = tallyTurns ta f s (s ∷ ta .tree .children s) taken (holdsByte off n) (λ p. false) in
     tallyLeaves ta f s taken x
-    (record { state = own; size = max (x .files s .size) (off + n); map = λ p. cond (ltb p pageCount && writeTouches off n p) (stored tt) (x .files s .map p) })
+    (record { state = own; size = max (x .files s .size) (off + n); map = λ p. cond (ltb p pageCount && holdsByte off n p) (stored tt) (x .files s .map p) })
     0
 
 -- the kinds of a file of z bytes after a truncate to n: k is the kind of the page in which it ends
@@ -250,7 +250,7 @@ tallyTold n ta = record { answer = record { number = 0; first = n; second = 0; t
 -- n bytes are read from off on: "For each page holding a byte read", the maps looked at
 unfoldable pub tallyRead : ℕ → ℕ → ℕ → ℕ → Tally → TallyResult
 tallyRead s f off n ta = record {
-  answer = record { number = 0; first = n; second = sum pageCount (λ p. cond (writeTouches off n p) (tallyLooks (ta .tree) (ta .files f) s p) 0); third = 0 };
+  answer = record { number = 0; first = n; second = sum pageCount (λ p. cond (holdsByte off n p) (tallyLooks (ta .tree) (ta .files f) s p) 0); third = 0 };
   tally = ta;
 }
 

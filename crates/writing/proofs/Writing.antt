@@ -64,7 +64,7 @@ module _ {t p t₁ t₂ t₃ t₄ p₄ t₅ p₅ t₆ : List ℕ} {l₀ l : List
             ∙ ap (λ (h : ℕ → Entry ℕ). change real (treeOf S) s (from q n) (from q n) [] lay (λ m. max m end) (work (unpack t) (pagesOf p) f h k)) (ap pendingOf el ∙ none-pending);
       }
 
--- ---- the pages that a write touches
+-- ---- the rule of write
 
 -- LAW: the rule of write
 pub is-write : (tree : Tree) (s off first m : ℕ) (bs : List ℕ) → touched off (length bs) ≡ from first m → (w : Work real)

@@ -34,7 +34,8 @@ resolve-range-requires : tie.Need-resolve-range-requires
 resolve-range-requires c κs =
     let n = c .before in
     let s = n .before .before .before .before .before in
-    (s .pre .0 .packed .len, s .pre .1, s .pre .2, pages-in (s .args .off) (n .read-count .result) _ (omega arith) (fits c .0) (c .if1 .left))
+    let z = fits c .0 in
+    (s .pre .0 .packed .len, s .pre .1, s .pre .2, pages-in _ _ (omega arith) (omega arith))
 
 read-pages-requires : tie.Need-read-pages-requires
 read-pages-requires c κs =

@@ -1,7 +1,7 @@
 -- Sums of numbers below a bound, and sums over three numbers: one term, two terms, and terms that are not zero. Assumes nothing.
 use mathlib.Core.Bool.{Bool, cond}
 use mathlib.Core.Path.{ap, ap₂, refl, sym, _∙_, _≡_}
-use Prim.Native.Nat.{_+_, _<_, suc, zero, ℕ, _≤_}
+use Prim.Native.Nat.{_*_, _+_, _<_, suc, zero, ℕ, _≤_}
 use native.Mathlib.Omega.{arith}
 use Rattle.base.specs.Count.{count, sum}
 use Rattle.base.specs.Logic.{same?}
@@ -50,6 +50,12 @@ sum-some (suc n) g l =
     same? (g n) 0
     (λ e. let r = sum-some n g (omega arith) in (r .0, omega (arith, r .1), r .2))
     (λ e. (n, omega arith, omega arith))
+
+-- no term is over b
+pub sum-most : (n b : ℕ) (g : ℕ → ℕ) → ((x : ℕ) → g x ≤ b) → sum n g ≤ n * b
+unfolding sum
+sum-most zero b g h = omega arith
+sum-most (suc n) b g h = let a = h n in let c = sum-most n b g h in omega arith
 
 -- a count is a sum of ones
 pub count-sum : (n : ℕ) (f : ℕ → Bool) → count n f ≡ sum n (λ x. cond (f x) 1 0)

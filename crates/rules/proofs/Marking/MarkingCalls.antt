@@ -18,7 +18,7 @@ use Rattle.rules.proofs.Tally.TallyWriter.{turns-state}
 use Rattle.rules.specs.Marking.{BecomesMarked, MarkingTurn, in-delete, in-make, in-truncate, in-write, ownTaken}
 use Rattle.rules.specs.Numbers.{Call, create, delete, format, make, read, refusal, remove, tellFree, tellSize, truncate, write}
 use Rattle.rules.specs.State.{State, Tree, absent, isMarked, isVirgin, live, marked, own, setCount, virgin}
-use Rattle.rules.specs.Tally.{Tally, TallyFile, TallyFiles, TallyResult, Turn, eachChild, partPage, tallyCall, tallyChild, tallyCut, tallyDelete, tallyFormat, tallyGrow, tallyLeaves, tallyRead, tallySettle, tallySize, tallyTold, tallyTruncate, tallyTruncateNeed, tallyTurns, tallyWrite, tallyWriteNeed, truncateTouches, writeTouches}
+use Rattle.rules.specs.Tally.{Tally, TallyFile, TallyFiles, TallyResult, Turn, eachChild, partPage, tallyCall, tallyChild, tallyCut, tallyDelete, tallyFormat, tallyGrow, tallyLeaves, tallyRead, tallySettle, tallySize, tallyTold, tallyTruncate, tallyTruncateNeed, tallyTurns, tallyWrite, tallyWriteNeed, truncateTouches, holdsByte}
 
 -- STEP 2 marks nothing
 settle-mark : (t : Tree) (c : ℕ) (fs : TallyFiles) (y : ℕ) → isMarked (tallySettle t c fs y .state) ≡ isMarked (fs y .state)
@@ -119,7 +119,7 @@ abbrev WhyMarked : Tally → Call → ℕ → ℕ → Type 0
 WhyMarked ta format g y = ⊥
 WhyMarked ta (create s f) g y = ⊥
 WhyMarked ta (write s f off bs) g y =
-    (f ≡ g) × MarkingTurn (ta .tree) s (writeTouches off (length bs)) (λ p. false) (turnsStart ta f (s ∷ ta .tree .children s) (tallyWriteNeed (ta .files f) s off (length bs))) y
+    (f ≡ g) × MarkingTurn (ta .tree) s (holdsByte off (length bs)) (λ p. false) (turnsStart ta f (s ∷ ta .tree .children s) (tallyWriteNeed (ta .files f) s off (length bs))) y
 WhyMarked ta (read s f off buffer) g y = ⊥
 WhyMarked ta (truncate s f n) g y =
     (n < tallySize (ta .tree) (ta .files f) s) × ((f ≡ g) × MarkingTurn (ta .tree) s (truncateTouches n (tallySize (ta .tree) (ta .files f) s)) (λ p. not (partPage n p))
@@ -189,10 +189,10 @@ module _ (ta : Tally) (proper : ProperTree (ta .tree)) (shallow : (x : ℕ) → 
   marksIn c = (isMarked (tallyCall blocks c ta .tally .files g y .state) ≡ true) ↔ WhyMarked ta c g y
 
   write-marks : (s f off : ℕ) (bs : List ℕ) → marksIn (write s f off bs)
-  unfolding tallyCall tallyTold tallyWrite writeTouches
+  unfolding tallyCall tallyTold tallyWrite holdsByte
   write-marks s f off [] = (λ a. absurd (true≢false (sym a ∙ h)), λ r. absurd (no-turn (ta .tree) s _ _ _ y (λ p. refl) (r .1)))
   write-marks s f off (b ∷ bs) =
-      change-marks ta proper shallow f s _ (s ∷ ta .tree .children s) (writeTouches off (length (b ∷ bs))) (λ p. false) _ 0 refl g y h
+      change-marks ta proper shallow f s _ (s ∷ ta .tree .children s) (holdsByte off (length (b ∷ bs))) (λ p. false) _ 0 refl g y h
 
   truncate-marks : (s f n : ℕ) → marksIn (truncate s f n)
   unfolding tallyCall tallyGrow tallyCut

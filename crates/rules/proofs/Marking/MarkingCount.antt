@@ -19,7 +19,7 @@ use Rattle.rules.proofs.Tally.TallyWriter.{over-state, turns-inv}
 use Rattle.rules.specs.Marking.{MarkedDown, mark-below, mark-itself}
 use Rattle.rules.specs.Numbers.{delete, truncate, write}
 use Rattle.rules.specs.State.{Tree, hole, isMarked, isStored, isUnmapped, live, setCount, stored, unmapped}
-use Rattle.rules.specs.Tally.{Kind, Tally, TallyFile, TallyFiles, Turn, childPage, childTurn, kindAt, markedWith, neededCopy, partPage, takenOver, tallyCall, tallyCut, tallyDelete, tallyGive, tallyGrow, tallyLeaves, tallySize, tallyTold, tallyTurns, tallyWrite, truncateTouches, writeTouches}
+use Rattle.rules.specs.Tally.{Kind, Tally, TallyFile, TallyFiles, Turn, childPage, childTurn, kindAt, markedWith, neededCopy, partPage, takenOver, tallyCall, tallyCut, tallyDelete, tallyGive, tallyGrow, tallyLeaves, tallySize, tallyTold, tallyTurns, tallyWrite, truncateTouches, holdsByte}
 
 -- numbers that pass one test or another, none both; and those that pass the one and not the other
 count-or : (n : ℕ) (f g : ℕ → Bool) → ((y : ℕ) → f y ≡ true → g y ≡ true → ⊥) → count n (λ y. f y || g y) ≡ count n f + count n g
@@ -124,7 +124,7 @@ module _ (ta : Tally) (proper : ProperTree (ta .tree)) (shallow : (x : ℕ) → 
   pub write-newly : (blocks s f off : ℕ) (bs : List ℕ) → let r = tallyCall blocks (write s f off bs) ta in r .answer .third ≡ newlyMarked (ta .files f) (r .tally .files f)
   unfolding tallyCall tallyTold tallyWrite
   write-newly blocks s f off [] = sym (newly-none (ta .files f))
-  write-newly blocks s f off (b ∷ bs) = change-newly f s _ (s ∷ ta .tree .children s) (writeTouches off (length (b ∷ bs))) (λ p. false) _ 0 refl
+  write-newly blocks s f off (b ∷ bs) = change-newly f s _ (s ∷ ta .tree .children s) (holdsByte off (length (b ∷ bs))) (λ p. false) _ 0 refl
 
   pub truncate-newly : (blocks s f n : ℕ) → let r = tallyCall blocks (truncate s f n) ta in r .answer .third ≡ newlyMarked (ta .files f) (r .tally .files f)
   unfolding tallyCall tallyGrow tallyCut

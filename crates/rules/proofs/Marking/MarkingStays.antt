@@ -15,7 +15,7 @@ use Rattle.rules.proofs.Whole.Accepted.{passed-create, passed-truncate,
 use Rattle.rules.specs.Numbers.{Call, create, delete, format, make, numberOf, read, remove, tellFree, tellSize, truncate, write}
 use Rattle.rules.specs.Plain.{Plain}
 use Rattle.rules.specs.State.{State, absent, isAbsent, isMarked, marked, own, setCount, virgin}
-use Rattle.rules.specs.Tally.{Tally, TallyFile, TallyFiles, judged, partPage, tallyCall, tallyCut, tallyDelete, tallyGrow, tallyLeaves, tallyRead, tallySize, tallyTold, tallyTurns, tallyWrite, truncateTouches, writeTouches}
+use Rattle.rules.specs.Tally.{Tally, TallyFile, TallyFiles, judged, partPage, tallyCall, tallyCut, tallyDelete, tallyGrow, tallyLeaves, tallyRead, tallySize, tallyTold, tallyTurns, tallyWrite, truncateTouches, holdsByte}
 
 -- where a call ends the marking of file g of set y. The set that is made had an unused number, so no file of it was marked.
 abbrev pub EndsMarked : Call → ℕ → ℕ → Type 0
@@ -65,7 +65,7 @@ module _ (ta : Tally) (proper : ProperTree (ta .tree)) (shallow : (x : ℕ) → 
   write-stays : (blocks s f off : ℕ) (bs : List ℕ) → isMarked (ta .files f s .state) ≡ false → staysIn blocks (write s f off bs)
   unfolding tallyCall tallyTold tallyWrite
   write-stays blocks s f off [] e = inl h
-  write-stays blocks s f off (b ∷ bs) e = elsewhere f s e (change-stays f s _ (s ∷ ta .tree .children s) (writeTouches off (length (b ∷ bs))) (λ p. false) _ 0)
+  write-stays blocks s f off (b ∷ bs) e = elsewhere f s e (change-stays f s _ (s ∷ ta .tree .children s) (holdsByte off (length (b ∷ bs))) (λ p. false) _ 0)
 
   truncate-stays : (blocks s f n : ℕ) → isMarked (ta .files f s .state) ≡ false → staysIn blocks (truncate s f n)
   unfolding tallyCall tallyGrow tallyCut

@@ -1,4 +1,4 @@
--- Walks up the parents: what changes none of them, what they see after a change, and how many maps they look at at most. Assumes nothing.
+-- Walks up the parents: what changes none of them, what they see after a change, and the most maps that they look at. Assumes nothing.
 use mathlib.Core.Bool.{true}
 use mathlib.Core.List.{List, _∷_, []}
 use mathlib.Core.Option.{Option, none, some}
@@ -58,12 +58,13 @@ looks-up-most parent p (suc n) files s =
     let up = looks-up-most parent p n files (parent s) in
     test? (isUnmapped (files s .map p)) (λ e. rw e (omega arith)) (λ e. rw e (omega arith))
 
-sum-most : (ps : List ℕ) (b : ℕ) (g : ℕ → ℕ) → ((p : ℕ) → g p ≤ b) → sumIn ps g ≤ countIn ps (λ p. true) * b
+-- a sum over a list, where no term is over b
+sum-in-most : (xs : List ℕ) (b : ℕ) (g : ℕ → ℕ) → ((x : ℕ) → g x ≤ b) → sumIn xs g ≤ countIn xs (λ x. true) * b
 unfolding sumIn countIn
-sum-most [] b g h = omega arith
-sum-most (p ∷ ps) b g h = let a = h p in let c = sum-most ps b g h in omega arith
+sum-in-most [] b g h = omega arith
+sum-in-most (x ∷ xs) b g h = let a = h x in let c = sum-in-most xs b g h in omega arith
 
 -- LAW: "It also gives the maps looked at, at most pages read × (level + 1)."
 pub read-looks-most : {K : Type 0} (t : Tree) (files : Files K) (s off n : ℕ) → readLooks t files s off n ≤ countIn (touched off n) (λ p. true) * suc (t .level s)
 unfolding readLooks looks
-read-looks-most t files s off n = sum-most (touched off n) (suc (t .level s)) (looks t files s) (λ p. looks-up-most (t .parent) p (t .level s) files s)
+read-looks-most t files s off n = sum-in-most (touched off n) (suc (t .level s)) (looks t files s) (λ p. looks-up-most (t .parent) p (t .level s) files s)

@@ -13,7 +13,7 @@ use Rattle.base.specs.Logic.{and-left, and-right, pick, test?}
 use Rattle.base.specs.Update.{upd, upd-self}
 use Rattle.rules.proofs.Storages.Model.{counting}
 use Rattle.rules.proofs.Tally.TallyChange.{change-leaves, changeLeaves, newKinds}
-use Rattle.rules.proofs.Tally.TallyLoops.{PagesOf, all-pages, count-pages, cut-pages, dropped-pages, kept-pages, no-pages, page-inv, pages-once, pages-passed, put-pages, sum-loop, sum-pages, write-pages}
+use Rattle.rules.proofs.Tally.TallyLoops.{PagesOf, all-pages, count-pages, cut-pages, dropped-pages, kept-pages, no-pages, page-inv, pages-once, pages-passed, put-pages, sum-loop, sum-pages, byte-pages}
 use Rattle.rules.proofs.Tally.TallyNumbers.{Tallies, TallyOrderly, kept-need, same-numbers, tallies-is, tallies-of, tallyOf, write-need}
 use Rattle.rules.proofs.Whole.Accepted.{passed-write}
 use Rattle.rules.proofs.Tally.TallyReach.{NoVirginRoot, kind-resolve, looks-reading, no-virgin-root, size-reading}
@@ -27,7 +27,7 @@ use Rattle.rules.specs.Reading.{looks, resolve, shownSize, sizeByReading
 use Rattle.rules.specs.Rules.{Work, change, copied, countIn, cutPages, deleteAs, deleteFile, droppedPages, each, eraseFile, freeMap, from, giveAll, handed, holes, keptPages, ownNeed, partPages, touched, truncateAs, truncateFile, withFiles, writeFile}
 use Rattle.rules.specs.Sets.{appendSet, childFile, childState, unlinkSet}
 use Rattle.rules.specs.State.{State, Tree, absent, absentFile, fileCount, hole, isStored, largestSize, live, marked, own, pageBytes, pageCount, setCount, stored, treeOf, unmapped, virgin}
-use Rattle.rules.specs.Tally.{Both, Kind, Tally, TallyFile, TallyFiles, TallyResult, Turn, bothAs, bothStep, cutKinds, eachChild, kindAt, tallyLooks, partPage, storedPages, tallyCall, tallyChild, tallyCut, tallyDelete, tallyFormat, tallyGive, tallyGrow, tallyLeaves, tallyRead, tallySettle, tallySize, tallyTold, tallyTruncate, tallyTruncateNeed, tallyTurns, tallyWrite, truncateTouches, writeTouches}
+use Rattle.rules.specs.Tally.{Both, Kind, Tally, TallyFile, TallyFiles, TallyResult, Turn, bothAs, bothStep, cutKinds, eachChild, kindAt, partPage, storedPages, tallyCall, tallyChild, tallyCut, tallyDelete, tallyFormat, tallyGive, tallyGrow, tallyLeaves, tallyLooks, tallyRead, tallySettle, tallySize, tallyTold, tallyTruncate, tallyTruncateNeed, tallyTurns, tallyWrite, truncateTouches, holdsByte}
 use Rattle.rules.specs.Trees.{addChild, takeAway}
 use mathlib.Core.Logic.{⊎-elim}
 
@@ -118,15 +118,15 @@ module _ (k : Store counting) (o : TallyOrderly k) where
       resultOfTally (worked counting k f (change counting sets s (touched off n) (touched off n) [] lay (λ m. max m (off + n)) (begin counting k f))) ≡ tallyWrite s f off n (tallyOf k)
   unfolding tallyWrite tallyTurns countIn each
   write-same s f off n l lay =
-      let r : PagesOf (touched off n) (writeTouches off n) = write-pages off n (λ z. l) in
+      let r : PagesOf (touched off n) (holdsByte off n) = byte-pages off n (λ z. l) in
       let need : ℕ = ownNeed counting s (touched off n) (k .files f) in
-      let turns : ℕ → Turn = λ m. tallyTurns (tallyOf k) f s (s ∷ sets .children s) m (writeTouches off n) (λ p. false) in
+      let turns : ℕ → Turn = λ m. tallyTurns (tallyOf k) f s (s ∷ sets .children s) m (holdsByte off n) (λ p. false) in
       let own-file : Turn → (ℕ → Kind) → TallyFile = λ x m. record { state = own; size = max (x .files s .size) (off + n); map = m } in
       ap (λ (w : Work counting). resultOfTally (worked counting k f w))
-      (change-leaves sets (o .proper) levels s (touched off n) (touched off n) [] (writeTouches off n) (λ p. false) (subst (λ l. PagesOf l (writeTouches off n)) (sym (append-nil (touched off n))) r) (λ p m. refl) (λ p m. elim m [ ]) tt (λ p m. elim m [ ]) lay (λ m. max m (off + n)) (begin counting k f) (above f))
+      (change-leaves sets (o .proper) levels s (touched off n) (touched off n) [] (holdsByte off n) (λ p. false) (subst (λ l. PagesOf l (holdsByte off n)) (sym (append-nil (touched off n))) r) (λ p m. refl) (λ p m. elim m [ ]) tt (λ p m. elim m [ ]) lay (λ m. max m (off + n)) (begin counting k f) (above f))
       ∙ worked-leaves k f s (turns need) need (own-file (turns need) (each (λ p g. upd g p (stored tt)) (touched off n) (turns need .files s .map))) 0 _
       ∙ ap (λ m. tallyLeaves (tallyOf k) f s need (turns need) (own-file (turns need) m) 0) (fun-ext (put-pages (stored tt) r (turns need .files s .map)))
-      ∙ ap (λ m. tallyLeaves (tallyOf k) f s m (turns m) (own-file (turns m) (λ p. cond (ltb p pageCount && writeTouches off n p) (stored tt) (turns m .files s .map p))) 0)
+      ∙ ap (λ m. tallyLeaves (tallyOf k) f s m (turns m) (own-file (turns m) (λ p. cond (ltb p pageCount && holdsByte off n p) (stored tt) (turns m .files s .map p))) 0)
       (sym (write-need (k .files f) s off n l))
 
   -- TRUNCATE
@@ -184,11 +184,11 @@ module _ (k : Store counting) (o : TallyOrderly k) where
 
   -- READ
   looks-same : (s f off n : ℕ) → ((n ≡ 0 → ⊥) → off + n ≤ largestSize) →
-      readLooks sets (k .files f) s off n ≡ sum pageCount (λ p. cond (writeTouches off n p) (tallyLooks sets (k .files f) s p) 0)
+      readLooks sets (k .files f) s off n ≡ sum pageCount (λ p. cond (holdsByte off n p) (tallyLooks sets (k .files f) s p) 0)
   unfolding readLooks
   looks-same s f off n l =
-      sym (sum-pages (write-pages off n l) (looks sets (k .files f) s))
-      ∙ ap (λ (g : ℕ → ℕ). sum pageCount (λ p. cond (writeTouches off n p) (g p) 0)) (fun-ext (λ p. sym (looks-reading sets (k .files f) s p)))
+      sym (sum-pages (byte-pages off n l) (looks sets (k .files f) s))
+      ∙ ap (λ (g : ℕ → ℕ). sum pageCount (λ p. cond (holdsByte off n p) (g p) 0)) (fun-ext (λ p. sym (looks-reading sets (k .files f) s p)))
 
   read-same : (s f off m : ℕ) →
       resultOfTally (readOf counting s f off (readCount m off (sizeByReading sets (k .files f) s)) k) ≡ tallyRead s f off (readCount m off (tallySize sets (k .files f) s)) (tallyOf k)

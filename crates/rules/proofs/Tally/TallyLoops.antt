@@ -11,13 +11,13 @@ use borrow.Author.Tests.{eq-eqb, le-leb, lt-leb, lt-ltb, ltb-false, ltb-true, ne
 use Rattle.base.specs.Count.{count, sum}
 use Rattle.base.specs.Logic.{and-both, and-false, and-left, and-right, and-true, same?, test?}
 use Rattle.base.specs.Update.{upd, upd-other, upd-same}
-use Rattle.rules.proofs.Blocks.Sums.{count-sum, sum-same}
 use Rattle.rules.proofs.Agreement.Agree.{from-high, from-low, from-mem, from-once}
+use Rattle.rules.proofs.Blocks.Sums.{count-sum, sum-same}
 use Rattle.rules.proofs.Steps.StepFour.{each-all, each-inv}
 use Rattle.rules.proofs.Steps.WriterSteps.{NoDup, mem?}
 use Rattle.rules.specs.Rules.{countIn, cutPages, droppedPages, each, from, keptPages, sumIn, touched}
 use Rattle.rules.specs.State.{isStored, largestSize, pageBytes, pageCount}
-use Rattle.rules.specs.Tally.{Kind, eachChild, eachPage, partPage, truncateTouches, writeTouches}
+use Rattle.rules.specs.Tally.{Kind, eachChild, eachPage, partPage, truncateTouches, holdsByte}
 
 pub each-child : {W : Type 0} (f : ℕ → W → W) (cs : List ℕ) (w : W) → eachChild f cs w ≡ each f cs w
 unfolding eachChild each
@@ -109,10 +109,10 @@ module _ {ps : List ℕ} {touches : ℕ → Bool} (r : PagesOf ps touches) where
 add-at : (ℕ → ℕ) → ℕ → ℕ → ℕ
 add-at h p n = h p + n
 
-sum-pages-loop : (n : ℕ) (h : ℕ → ℕ) → sum n h ≡ eachPage (add-at h) n 0
+sum-each-page : (n : ℕ) (h : ℕ → ℕ) → sum n h ≡ eachPage (add-at h) n 0
 unfolding sum eachPage add-at
-sum-pages-loop zero h = refl
-sum-pages-loop (suc n) h = rw (sum-pages-loop n h)
+sum-each-page zero h = refl
+sum-each-page (suc n) h = rw (sum-each-page n h)
 
 sum-list : (ps : List ℕ) (h : ℕ → ℕ) (n : ℕ) → each (add-at h) ps n ≡ sumIn ps h + n
 unfolding sumIn each add-at
@@ -139,7 +139,7 @@ module _ {ps : List ℕ} {touches : ℕ → Bool} (r : PagesOf ps touches) where
   pub sum-pages : (h : ℕ → ℕ) → sum pageCount (λ p. cond (touches p) (h p) 0) ≡ sumIn ps h
   unfolding add-at
   sum-pages h =
-      sum-pages-loop pageCount (λ p. cond (touches p) (h p) 0)
+      sum-each-page pageCount (λ p. cond (touches p) (h p) 0)
       ∙ each-page r (add-at h) (add-at (λ p. cond (touches p) (h p) 0)) (λ p w l e. rw e) (λ p w l e. rw e (zero-add w)) 0
       ∙ sum-list ps h 0 ∙ add-zero _
 
@@ -185,10 +185,10 @@ beyond : (a b p : ℕ) → b < p → (leb a p && leb p b) ≡ false
 beyond a b p h = rw (lt-leb p b h) (and-false (leb a p))
 
 -- a write or a read: no byte lies past the largest size
-pub write-pages : (off n : ℕ) → ((n ≡ 0 → ⊥) → off + n ≤ largestSize) → PagesOf (touched off n) (writeTouches off n)
-unfolding touched writeTouches from
-write-pages off zero l = record { first = 0; number = 0; is = refl; fit = omega arith; passes = λ p a b. absurd (omega arith); before = λ p a. refl; behind = λ p a b. refl }
-write-pages off (suc n) l =
+pub byte-pages : (off n : ℕ) → ((n ≡ 0 → ⊥) → off + n ≤ largestSize) → PagesOf (touched off n) (holdsByte off n)
+unfolding touched holdsByte from
+byte-pages off zero l = record { first = 0; number = 0; is = refl; fit = omega arith; passes = λ p a b. absurd (omega arith); before = λ p a. refl; behind = λ p a b. refl }
+byte-pages off (suc n) l =
     let b = l (λ z. omega arith) in
     let e : off + suc n - 1 ≡ off + n = omega arith in
     record {

@@ -11,7 +11,7 @@ use Rattle.base.specs.Logic.{test?}
 use Rattle.rules.proofs.Storages.Model.{counting}
 use Rattle.rules.proofs.Steps.Handing.{ProperTree}
 use Rattle.rules.proofs.Steps.OneStep.{FilesOk, TreeOk}
-use Rattle.rules.proofs.Tally.TallyLoops.{count-pages, write-pages}
+use Rattle.rules.proofs.Tally.TallyLoops.{count-pages, byte-pages}
 use Rattle.rules.proofs.Tally.TallyReach.{NoVirginRoot, kind-resolve, no-virgin-root, size-reading}
 use Rattle.rules.specs.Calls.{Store, treeIn, viewOf}
 use Rattle.rules.specs.Numbers.{Call, View, conditions, create, delete, format, lowest, make, numberOf, read, remove, tellFree, tellSize, truncate, write}
@@ -47,7 +47,7 @@ pub record TallyOrderly (k : Store counting) : Type 0 where
 -- THE NEEDS
 pub write-need : (fs : TallyFiles) (s off n : ℕ) → off + n ≤ largestSize → tallyWriteNeed fs s off n ≡ ownNeed counting s (touched off n) fs
 unfolding tallyWriteNeed ownNeed
-write-need fs s off n l = count-pages (write-pages off n (λ z. l)) (λ p. not (isStored (fs s .map p)))
+write-need fs s off n l = count-pages (byte-pages off n (λ z. l)) (λ p. not (isStored (fs s .map p)))
 
 one-page : (a b : Bool) (p : ℕ) (h : ℕ → Bool) → cond (a && b && h p) 1 0 ≡ countIn (cond (a && b) (p ∷ []) []) h
 unfolding countIn

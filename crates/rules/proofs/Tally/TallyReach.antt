@@ -14,7 +14,7 @@ use Rattle.rules.proofs.Steps.Reached.{reaches-self}
 use Rattle.rules.specs.Reading.{dependent, dependsOn, looks, looksUp, reaches, resolve, shownEntry, shownSize, sizeByReading, someUnmapped, walk}
 use Rattle.rules.specs.Rules.{markDown, markFile}
 use Rattle.rules.specs.State.{Files, State, Tree, absent, hole, isUnmapped, isVirgin, live, marked, own, setCount, stored, unmapped, virgin}
-use Rattle.rules.specs.Tally.{Kind, TallyFile, TallyFiles, anyOf, anyUnmapped, dependsAbove, goneTo, kindAt, kindIn, kindOver, tallyLooks, markedWith, reachedDown, sizeIn, tallyMark, tallySize}
+use Rattle.rules.specs.Tally.{Kind, TallyFile, TallyFiles, anyOf, anyUnmapped, dependsAbove, goneTo, kindAt, kindIn, kindOver, markedWith, reachedDown, sizeIn, tallyLooks, tallyMark, tallySize}
 
 -- no virgin file stands at level 0
 abbrev pub NoVirginRoot : {K : Type 0} → Tree → Files K → Type 0

@@ -3,7 +3,7 @@ use mathlib.Core.Bool.{false, true}
 use mathlib.Core.List.{_++_, List, _∷_, []}
 use mathlib.Core.Option.{Option, some}
 use mathlib.Core.Path.{_≡_, ap, refl, subst, sym, _∙_}
-use Prim.Native.Nat.{_%_, _+_, _-_, _/_, _<_, min, suc, zero, ℕ, _≤_}
+use Prim.Native.Nat.{_%_, _+_, _-_, _/_, _<_, suc, zero, ℕ, _≤_}
 use native.Mathlib.Omega.{arith}
 use lib.ListN.{drop, getD, length, length-drop, length-take, take}
 use lib.Seq.{getD-drop, getD-take, take-at}
@@ -113,18 +113,19 @@ module _ (B : ℕ) (r : Store real) (pl : Plain) (ta : Tally) (v : Holds B r pl 
       pub shown : front c (resultOf real n (blankMemory B) c r .answer) (bufferAfter c (resultOf real n (blankMemory B) c r .answer .number) r)
           ≡ front c (resultOf real n (blankMemory B) c r .answer) (plainBytes (lookOf c) pl)
 
-    -- an accepted look's answer with another first count
-    abbrev firstCount : ℕ → ℕ → Answer
-    firstCount second n = record { number = 0; first = n; second = second; third = 0 }
+    -- the answer of an accepted look with these two counts
+    abbrev lookAnswer : ℕ → ℕ → Answer
+    lookAnswer first second = record { number = 0; first = first; second = second; third = 0 }
 
     read-same : (s f off : ℕ) (buffer : List ℕ) → live (r .files f s .state) ≡ true → LooksSame (read s f off buffer) 0
     unfolding resultOf accepted bufferOf frontOf plainBytes bothAnswer plainFirst
     read-same s f off buffer al =
         let q = listed s f al in
+        let n : ℕ → ℕ = λ z. readCount (length buffer) off z in
+        let z : ℕ = sizeByReading (treeIn real r) (r .files f) s in
         record {
-          count = ap (firstCount (readLooks (treeIn real r) (r .files f) s off (readCount (length buffer) off (sizeByReading (treeIn real r) (r .files f) s)))) (ap (λ z. min (length buffer) (z - off)) (size-plain f s (q .0) (q .1) al ∙ ap (λ (o : Option (List ℕ)). length (bytesIn o)) (sym (q .1))));
-          shown = read-bytes s f off buffer (q .0) (q .1) al
-              ∙ ap (λ (o : Option (List ℕ)). take (readCount (length buffer) off (sizeByReading (treeIn real r) (r .files f) s)) (drop off (bytesIn o))) (sym (q .1));
+          count = ap (λ x. lookAnswer (n x) (readLooks (treeIn real r) (r .files f) s off (n z))) (size-plain f s (q .0) (q .1) al ∙ ap (λ (o : Option (List ℕ)). length (bytesIn o)) (sym (q .1)));
+          shown = read-bytes s f off buffer (q .0) (q .1) al ∙ ap (λ (o : Option (List ℕ)). take (n z) (drop off (bytesIn o))) (sym (q .1));
         }
 
     size-same : (s f : ℕ) → live (r .files f s .state) ≡ true → LooksSame (tellSize s f) 0
@@ -132,7 +133,7 @@ module _ (B : ℕ) (r : Store real) (pl : Plain) (ta : Tally) (v : Holds B r pl 
     size-same s f al =
         let q = listed s f al in
         record {
-          count = ap (firstCount 0) (size-plain f s (q .0) (q .1) al ∙ ap (λ (o : Option (List ℕ)). length (bytesIn o)) (sym (q .1)));
+          count = ap (λ x. lookAnswer x 0) (size-plain f s (q .0) (q .1) al ∙ ap (λ (o : Option (List ℕ)). length (bytesIn o)) (sym (q .1)));
           shown = refl;
         }
 

@@ -4,10 +4,10 @@ use Prim.Native.Nat.{_+_, _-_, _/_}
 use native.Mathlib.Omega.{arith}
 use lib.ListN.{length}
 use borrow.Author.Needs.{needs}
+use Rattle.rules.proofs.Agreement.Agree.{touched-is}
 use Rattle.tables.proofs.FormedStore.{formed-store}
 use Rattle.copying.proofs.Begin.{formed-packed, ready-begin}
 use Rattle.writing.proofs.Writing.{need-begin, wrote}
-use Rattle.rules.proofs.Agreement.Agree.{touched-is}
 use Rattle.writing.proofs.write_file.Statement.{statement}
 use Rattle.writing.proofs.write_file.Tie as tie
 

@@ -9,7 +9,7 @@ use Rattle.rules.specs.State.{isUnmapped}
 use Rattle.tables.specs.Meaning.{entryMeant}
 use Rattle.tables.specs.Packed.{unpack}
 use Rattle.maps.specs.Upward.{looksFrom, resolveFrom}
-use Rattle.maps.proofs.Steps.{few-looks-up, looks-above, looks-here, looks-low, resolve-above, resolve-hole, resolve-low, resolve-stored}
+use Rattle.maps.proofs.Steps.{looks-above, looks-here, looks-in-8, looks-low, resolve-above, resolve-hole, resolve-low, resolve-stored}
 use Rattle.maps.proofs.reading.resolve.Reads as resolve
 use Rattle.maps.proofs.reading.resolve.Kinds as resolve-kinds
 use Rattle.maps.proofs.reading.+resolve.Lts-resolve as resolve-lts
@@ -49,7 +49,7 @@ module _ (t : ℕ) where
   add-looks : resolve-lts.Need-add-t15 (cs t) (resolve-at t) resolve.Post
   add-looks c =
       let r = c .before in
-      let z = few-looks-up _ _ _ _ _ _ (r .resolve .ensures .1) (omega arith) in
+      let z = looks-in-8 _ _ _ _ _ _ (r .resolve .ensures .1) (omega arith) in
       omega arith
 
   returns-2 : resolve-lts.Need-returns-2 (cs t) (resolve-at t) resolve.Post
