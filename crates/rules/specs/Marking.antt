@@ -8,7 +8,7 @@ use Prim.Native.Nat.{_-_, _<_, ℕ}
 use lib.ListN.{length}
 use Rattle.rules.specs.Numbers.{Call, delete, make, truncate, write}
 use Rattle.rules.specs.State.{Tree, isMarked, isStored, live, pageCount, stored, unmapped}
-use Rattle.rules.specs.Tally.{Tally, TallyFiles, Turn, atPage, childTurn, eachChild, eachPage, kindAt, partPage, tallyNeeds, tallySize, tallyTruncateNeed, tallyWriteNeed, truncateTouches, holdsByte}
+use Rattle.rules.specs.Tally.{Tally, TallyFiles, Turn, atPage, childTurn, eachChild, eachPage, holdsByte, kindAt, partPage, tallyNeeds, tallySize, tallyTruncateNeed, tallyWriteNeed, truncateTouches}
 
 -- "Marking a file marks every own or virgin file of its number in a child set that has any unmapped page, and so on down":
 -- the file of set y is the one of set c, or it still depends on it

@@ -18,7 +18,7 @@ use Rattle.rules.proofs.Tally.TallyWriter.{turns-state}
 use Rattle.rules.specs.Marking.{BecomesMarked, MarkingTurn, in-delete, in-make, in-truncate, in-write, ownTaken}
 use Rattle.rules.specs.Numbers.{Call, create, delete, format, make, read, refusal, remove, tellFree, tellSize, truncate, write}
 use Rattle.rules.specs.State.{State, Tree, absent, isMarked, isVirgin, live, marked, own, setCount, virgin}
-use Rattle.rules.specs.Tally.{Tally, TallyFile, TallyFiles, TallyResult, Turn, eachChild, partPage, tallyCall, tallyChild, tallyCut, tallyDelete, tallyFormat, tallyGrow, tallyLeaves, tallyRead, tallySettle, tallySize, tallyTold, tallyTruncate, tallyTruncateNeed, tallyTurns, tallyWrite, tallyWriteNeed, truncateTouches, holdsByte}
+use Rattle.rules.specs.Tally.{Tally, TallyFile, TallyFiles, TallyResult, Turn, eachChild, holdsByte, partPage, tallyCall, tallyChild, tallyCut, tallyDelete, tallyFormat, tallyGrow, tallyLeaves, tallyRead, tallySettle, tallySize, tallyTold, tallyTruncate, tallyTruncateNeed, tallyTurns, tallyWrite, tallyWriteNeed, truncateTouches}
 
 -- STEP 2 marks nothing
 settle-mark : (t : Tree) (c : ℕ) (fs : TallyFiles) (y : ℕ) → isMarked (tallySettle t c fs y .state) ≡ isMarked (fs y .state)

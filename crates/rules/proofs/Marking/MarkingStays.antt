@@ -15,7 +15,7 @@ use Rattle.rules.proofs.Whole.Accepted.{passed-create, passed-truncate,
 use Rattle.rules.specs.Numbers.{Call, create, delete, format, make, numberOf, read, remove, tellFree, tellSize, truncate, write}
 use Rattle.rules.specs.Plain.{Plain}
 use Rattle.rules.specs.State.{State, absent, isAbsent, isMarked, marked, own, setCount, virgin}
-use Rattle.rules.specs.Tally.{Tally, TallyFile, TallyFiles, judged, partPage, tallyCall, tallyCut, tallyDelete, tallyGrow, tallyLeaves, tallyRead, tallySize, tallyTold, tallyTurns, tallyWrite, truncateTouches, holdsByte}
+use Rattle.rules.specs.Tally.{Tally, TallyFile, TallyFiles, holdsByte, judged, partPage, tallyCall, tallyCut, tallyDelete, tallyGrow, tallyLeaves, tallyRead, tallySize, tallyTold, tallyTurns, tallyWrite, truncateTouches}
 
 -- where a call ends the marking of file g of set y. The set that is made had an unused number, so no file of it was marked.
 abbrev pub EndsMarked : Call → ℕ → ℕ → Type 0

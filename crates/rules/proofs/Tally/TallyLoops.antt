@@ -17,7 +17,7 @@ use Rattle.rules.proofs.Steps.StepFour.{each-all, each-inv}
 use Rattle.rules.proofs.Steps.WriterSteps.{NoDup, mem?}
 use Rattle.rules.specs.Rules.{countIn, cutPages, droppedPages, each, from, keptPages, sumIn, touched}
 use Rattle.rules.specs.State.{isStored, largestSize, pageBytes, pageCount}
-use Rattle.rules.specs.Tally.{Kind, eachChild, eachPage, partPage, truncateTouches, holdsByte}
+use Rattle.rules.specs.Tally.{Kind, eachChild, eachPage, holdsByte, partPage, truncateTouches}
 
 pub each-child : {W : Type 0} (f : ℕ → W → W) (cs : List ℕ) (w : W) → eachChild f cs w ≡ each f cs w
 unfolding eachChild each

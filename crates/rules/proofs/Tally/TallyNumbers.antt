@@ -11,7 +11,7 @@ use Rattle.base.specs.Logic.{test?}
 use Rattle.rules.proofs.Storages.Model.{counting}
 use Rattle.rules.proofs.Steps.Handing.{ProperTree}
 use Rattle.rules.proofs.Steps.OneStep.{FilesOk, TreeOk}
-use Rattle.rules.proofs.Tally.TallyLoops.{count-pages, byte-pages}
+use Rattle.rules.proofs.Tally.TallyLoops.{byte-pages, count-pages}
 use Rattle.rules.proofs.Tally.TallyReach.{NoVirginRoot, kind-resolve, no-virgin-root, size-reading}
 use Rattle.rules.specs.Calls.{Store, treeIn, viewOf}
 use Rattle.rules.specs.Numbers.{Call, View, conditions, create, delete, format, lowest, make, numberOf, read, remove, tellFree, tellSize, truncate, write}
