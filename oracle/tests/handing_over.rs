@@ -4,37 +4,14 @@
 //! store and tally beside. All files have number 0; in the comments "set 1" is
 //! short for the file of set 1.
 
-use oracle::bench::{Bench, NoOther};
 use oracle::call::*;
-use oracle::check::is_well_formed;
 use oracle::state::*;
 use oracle::store;
 
-struct Store(Bench);
+mod script;
+use script::Store;
 
 impl Store {
-    /// A store after a script, whose calls are all accepted.
-    fn after(blocks: usize, script: &str) -> Store {
-        let mut store = Store(Bench::new());
-        store.accepts(&format!("format {}; {script}", blocks * PAGE_BYTES));
-        store
-    }
-
-    fn accepts(&mut self, script: &str) {
-        for item in Item::parse_script(script).unwrap() {
-            let answer = self.0.step(&item, &mut NoOther).unwrap_or_else(|t| panic!("{item}: {t}"));
-            assert_eq!(answer.unwrap().number, 0, "{item} is accepted");
-        }
-    }
-
-    /// The answer of one call.
-    fn does(&mut self, call: &str) -> String {
-        let item = Item::parse(call).unwrap();
-        let answer = self.0.step(&item, &mut NoOther).unwrap_or_else(|t| panic!("{item}: {t}"));
-        assert!(is_well_formed(self.0.tables(), self.0.pages().len()));
-        answer.unwrap().to_string()
-    }
-
     fn state(&self) -> State {
         State::unpack(self.0.tables())
     }

@@ -5,40 +5,19 @@
 //! store and tally beside. Where nothing else is said, the file has number 0,
 //! and in the comments "set 1" is short for the file of set 1.
 
-use oracle::bench::{Bench, NoOther, Other, Reads};
+use oracle::bench::{NoOther, Other, Reads};
 use oracle::call::*;
 use oracle::state::*;
 use oracle::store;
 use oracle::tally::TallyKind;
 use std::collections::{BTreeMap, BTreeSet};
 
+mod script;
+use script::Store;
 mod walk;
 use walk::SeenRead;
 
-struct Store(Bench);
-
 impl Store {
-    /// A store after a script, whose calls are all accepted.
-    fn after(blocks: usize, script: &str) -> Store {
-        let mut store = Store(Bench::new());
-        store.accepts(&format!("format {}; {script}", blocks * PAGE_BYTES));
-        store
-    }
-
-    fn accepts(&mut self, script: &str) {
-        for item in Item::parse_script(script).unwrap() {
-            let answer = self.0.step(&item, &mut NoOther).unwrap_or_else(|t| panic!("{item}: {t}"));
-            assert_eq!(answer.unwrap().number, 0, "{item} is accepted");
-        }
-    }
-
-    /// The answer of one call; of a change of the buffers, nothing.
-    fn does(&mut self, line: &str) -> String {
-        let item = Item::parse(line).unwrap();
-        let answer = self.0.step(&item, &mut NoOther).unwrap_or_else(|t| panic!("{item}: {t}"));
-        answer.map_or(String::new(), |answer| answer.to_string())
-    }
-
     /// Calls with the answers they must give.
     fn answers(&mut self, cases: &[(&str, &str)]) {
         for (call, wanted) in cases {
