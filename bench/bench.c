@@ -41,11 +41,13 @@ struct calls {
     sweep_answer (*remove)(uint8_t *, size_t, uint8_t *, size_t, uint32_t);
     sweep_answer (*size)(const uint8_t *, size_t, const uint8_t *, size_t, uint32_t, uint32_t);
     sweep_answer (*free)(const uint8_t *, size_t, const uint8_t *, size_t);
+    sweep_answer (*check_blocks)(const uint8_t *, size_t);
+    sweep_answer (*check)(const uint8_t *, size_t, const uint8_t *, size_t);
 };
 
 #define ALL(prefix)                                                                                                    \
     prefix##_format, prefix##_create, prefix##_write, prefix##_read, prefix##_truncate, prefix##_delete, prefix##_make,    \
-        prefix##_remove, prefix##_size, prefix##_free
+        prefix##_remove, prefix##_size, prefix##_free, prefix##_check_blocks, prefix##_check
 static const struct calls store = { "store", ALL(sweep) };
 static const struct calls twin = { "twin", ALL(twin) };
 
@@ -252,7 +254,8 @@ static void chain(unsigned blocks)
 
 #define CASE(name, call)                                                                                               \
     static sweep_answer name(const struct calls *c) { return c->call; }
-CASE(check, size(LENT, 8, 0)) /* refused with 2, after the whole check */
+CASE(check, check(LENT))
+CASE(check_blocks, check_blocks(tables, TABLES))
 CASE(free_of, free(LENT))
 CASE(size_root, size(LENT, 0, 3))
 CASE(size_far, size(LENT, 7, 3))
@@ -288,11 +291,16 @@ struct bench_case {
 };
 
 static const struct bench_case cases[] = {
-    { "check", "whole check", "empty", check, empty, false, 2, { 64, 4096 }, { 2.7, 2.7 } },
-    { "check", "whole check", "typical", check, typical, false, 2, { 64, 4096 }, { 7, 24 } },
-    { "check", "whole check", "full, deep", check, deep, false, 2, { 64, 4096 }, { 11, 21 } },
-    { "check", "whole check", "scattered", check, scattered, false, 2, { 64, 4096 }, { 0, 0 } },
-    { "check", "whole check", "sizes", check, sizes, false, 2, { 64, 4096 }, { 32, 32 } },
+    { "check", "whole check", "empty", check, empty, false, 0, { 64, 4096 }, { 2.7, 2.7 } },
+    { "check", "whole check", "typical", check, typical, false, 0, { 64, 4096 }, { 7, 24 } },
+    { "check", "whole check", "full, deep", check, deep, false, 0, { 64, 4096 }, { 11, 21 } },
+    { "check", "whole check", "scattered", check, scattered, false, 0, { 64, 4096 }, { 0, 0 } },
+    { "check", "whole check", "sizes", check, sizes, false, 0, { 64, 4096 }, { 32, 32 } },
+    { "check", "first part", "empty", check_blocks, empty, false, 0, { 64, 4096 }, { 0, 0 } },
+    { "check", "first part", "typical", check_blocks, typical, false, 0, { 64, 4096 }, { 0, 0 } },
+    { "check", "first part", "full, deep", check_blocks, deep, false, 0, { 64, 4096 }, { 0, 0 } },
+    { "check", "first part", "scattered", check_blocks, scattered, false, 0, { 64, 4096 }, { 0, 0 } },
+    { "check", "first part", "sizes", check_blocks, sizes, false, 0, { 64, 4096 }, { 0, 0 } },
     { "free", "", "empty", free_of, empty, false, 0, { 64, 4096 }, { 0, 0 } },
     { "free", "", "typical", free_of, typical, false, 0, { 64, 4096 }, { 0, 0 } },
     { "free", "", "full, deep", free_of, deep, false, 0, { 64, 4096 }, { 0, 0 } },

@@ -248,19 +248,19 @@ static inline bool head_formed(uint32_t head)
 }
 
 /* The files of one number, parents first: their records, and what their pages resolve to. */
-static bool check_number(const uint8_t *t, const struct store *x, unsigned file, struct pass *k)
+static bool check_number(const uint8_t *t, const struct store *x, unsigned file, const struct masks *masks)
 {
     uint64_t resolved[SETS]; /* the pages that resolve to stored, in the order of the sets */
     unsigned alive = 0;      /* where the file is own or virgin */
     const uint8_t *files = t + HEADS + file * RECORD;
     uint32_t head = load32(files);
     if (head == 0) {
-        if (!zero_words(files + 4, 16))
+        if (~masks[file].unmapped)
             return false;
     } else {
         if (!head_formed(head) || state_of(head) != OWN)
             return false;
-        struct masks m = pass_map(k, files + 4);
+        struct masks m = masks[file];
         if (m.unmapped || !past_clear(head, m.stored))
             return false;
         resolved[0] = m.stored;
@@ -269,10 +269,11 @@ static bool check_number(const uint8_t *t, const struct store *x, unsigned file,
     for (unsigned i = 1; i < x->count; i++) {
         const uint8_t *r = files + x->order[i] * SET_FILES;
         unsigned up = x->above[i];
+        struct masks m = masks[x->order[i] * FILES + file];
         head = load32(r);
         if (!(head & 0x7fffffff)) {
             /* absent, or virgin under a live file of the parent */
-            if (!zero_words(r + 4, 16))
+            if (~m.unmapped)
                 return false;
             if (head == 0)
                 continue;
@@ -284,7 +285,6 @@ static bool check_number(const uint8_t *t, const struct store *x, unsigned file,
         }
         if (!head_formed(head))
             return false;
-        struct masks m = pass_map(k, r + 4);
         if (state_of(head) == MARKED)
             continue;
         if (m.unmapped) {
@@ -313,26 +313,52 @@ static bool check_bits(const uint8_t *t, const struct pass *k, unsigned b)
     return (differ | past) == 0;
 }
 
-static bool well_formed(const uint8_t *t, size_t length, size_t pages, struct store *x)
+/* The first part of the check: the header, the entries of every record and the bits. The masks of the records of the sets
+ * before set *to are kept; those after it are zero. */
+static bool check_blocks(const uint8_t *t, size_t length, struct masks *masks, unsigned *to)
 {
     if (length != TABLES)
         return false;
     uint32_t head = load32(t);
+    unsigned b = head >> 19, n = SETS;
+    if (b - 1 >= MAX_BLOCKS || (head >> 7 & 0xfff) >= b)
+        return false;
+    while (n > 0 && !(t[RECORDS + (n - 1) * 3] >> 7))
+        n--;
+    for (unsigned s = n; s < SETS; s++)
+        if (!zero_words(t + record_at(s, 0), SET_FILES / 8))
+            n = SETS;
+    struct pass k;
+    zero_bytes((uint8_t *)&k, sizeof k);
+    for (unsigned i = 0; i < n * FILES; i++) {
+        const uint8_t *r = t + HEADS + i * RECORD;
+        if (!(load32(r) & 0x7fffffff) && zero_words(r + 4, 16))
+            masks[i] = (struct masks){ 0, ~(uint64_t)0 };
+        else
+            masks[i] = pass_map(&k, r + 4);
+    }
+    *to = n;
+    return !k.bad && !k.twice && check_bits(t, &k, b);
+}
+
+static bool well_formed(const uint8_t *t, size_t length, size_t pages, struct store *x)
+{
+    struct masks masks[SETS * FILES];
+    unsigned n;
+    if (!check_blocks(t, length, masks, &n))
+        return false;
+    uint32_t head = load32(t);
     unsigned b = head >> 19;
-    if (head & 0x7f || b - 1 >= MAX_BLOCKS || (head >> 7 & 0xfff) >= b || pages != (size_t)b * PAGE)
+    if (head & 0x7f || pages != (size_t)b * PAGE)
         return false;
     if (!check_sets(t, x))
         return false;
-    for (unsigned s = 0; s < SETS; s++)
+    for (unsigned s = 0; s < n; s++)
         if (!(x->used >> s & 1) && !zero_words(t + record_at(s, 0), SET_FILES / 8))
             return false;
-    struct pass k;
-    zero_bytes((uint8_t *)&k, sizeof k);
     for (unsigned f = 0; f < FILES; f++)
-        if (!check_number(t, x, f, &k))
+        if (!check_number(t, x, f, masks))
             return false;
-    if (k.bad || k.twice || !check_bits(t, &k, b))
-        return false;
     x->blocks = b;
     return true;
 }
@@ -344,6 +370,7 @@ static inline sweep_answer answer(uint32_t number, uint32_t first, uint32_t seco
     return (sweep_answer){ number, first, second, third };
 }
 
+/* A number with zero counts. */
 static inline sweep_answer refused(uint32_t number) { return answer(number, 0, 0, 0); }
 
 /* The free blocks: bits from B on are 0. */
@@ -434,6 +461,20 @@ sweep_answer twin_free(const uint8_t *t, size_t tl, const uint8_t *p, size_t pl)
     if (!well_formed(t, tl, pl, &x))
         return refused(SWEEP_BAD_TABLES);
     return answer(0, count_free(t, &x), 0, 0);
+}
+
+sweep_answer twin_check_blocks(const uint8_t *t, size_t tl)
+{
+    struct masks masks[SETS * FILES];
+    unsigned n;
+    return refused(check_blocks(t, tl, masks, &n) ? SWEEP_OK : SWEEP_BAD_TABLES);
+}
+
+sweep_answer twin_check(const uint8_t *t, size_t tl, const uint8_t *p, size_t pl)
+{
+    (void)p;
+    struct store x;
+    return refused(well_formed(t, tl, pl, &x) ? SWEEP_OK : SWEEP_BAD_TABLES);
 }
 
 sweep_answer twin_read(const uint8_t *t, size_t tl, const uint8_t *p, size_t pl, uint32_t set, uint32_t file,

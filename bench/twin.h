@@ -21,5 +21,7 @@ sweep_answer twin_remove(uint8_t *tables, size_t tables_length, uint8_t *pages, 
 sweep_answer twin_size(const uint8_t *tables, size_t tables_length, const uint8_t *pages, size_t pages_length,
                        uint32_t set, uint32_t file);
 sweep_answer twin_free(const uint8_t *tables, size_t tables_length, const uint8_t *pages, size_t pages_length);
+sweep_answer twin_check_blocks(const uint8_t *tables, size_t tables_length);
+sweep_answer twin_check(const uint8_t *tables, size_t tables_length, const uint8_t *pages, size_t pages_length);
 
 #endif

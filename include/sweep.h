@@ -1,7 +1,8 @@
 /*
  * The sweep store: sets of files in a small block store, copied by sharing blocks (copy on write).
  *
- * The caller lends two buffers to each call, and the store keeps nothing between calls:
+ * The caller lends two buffers to each call (sweep_check_blocks wants the first alone), and the store keeps nothing between
+ * calls:
  *   tables  SWEEP_TABLES_BYTES bytes: header, bitmap, set records, file records;
  *   pages   the blocks, SWEEP_PAGE_BYTES bytes each, at least one and at most SWEEP_BLOCKS_MAX.
  * sweep_format makes a store of as many blocks as the pages buffer holds; every later call wants the same length.
@@ -112,6 +113,16 @@ sweep_answer sweep_size(const uint8_t *tables, size_t tables_length, const uint8
 
 /* Counts: the free blocks, 0, 0. */
 sweep_answer sweep_free(const uint8_t *tables, size_t tables_length, const uint8_t *pages, size_t pages_length);
+
+/* The first part of the check that every call but format begins with, on the tables alone: SWEEP_OK where they have the right
+ * length and the block count, next start, the kinds and blocks of all entries of all file records, and the bitmap are as they
+ * must be, whatever else the tables hold; else SWEEP_BAD_TABLES. SWEEP_OK does not say that the store is well formed: zero
+ * fields, set records and the other rules on files are not looked at, nor are there pages. */
+sweep_answer sweep_check_blocks(const uint8_t *tables, size_t tables_length);
+
+/* The whole check: SWEEP_OK where the tables are well formed and the pages have the length that the tables tell; else
+ * SWEEP_BAD_TABLES. What the pages hold does not matter. */
+sweep_answer sweep_check(const uint8_t *tables, size_t tables_length, const uint8_t *pages, size_t pages_length);
 
 #ifdef __cplusplus
 }

@@ -2,4 +2,5 @@ pub mod CallCases
 pub mod Formatting
 pub mod ChangedRecords
 pub mod Told
+pub mod Checked
 pub mod WorkedOn

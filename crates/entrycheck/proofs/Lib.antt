@@ -10,4 +10,5 @@ pub mod PageBits
 pub mod RowSteps
 pub mod InRow
 pub mod PlainBlocks
-pub mod FileEntries
+pub mod MapEntries
+pub mod RecordsPassed

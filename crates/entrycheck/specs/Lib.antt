@@ -1,3 +1,4 @@
 pub mod Seeing
 pub mod Plain
 pub mod Moving
+pub mod Records

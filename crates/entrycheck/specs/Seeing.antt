@@ -4,15 +4,16 @@ use mathlib.Core.Bool.{Bool, Bool·beq, _&&_, cond, false, not, true}
 use mathlib.Core.List.{List, []}
 use mathlib.Core.Option.{Option, none, some}
 use mathlib.Core.Path.{refl, sym, _≡_}
-use Prim.Native.Nat.{_<_, suc, zero, ℕ}
+use Prim.Native.Nat.{_*_, _+_, _<_, suc, zero, ℕ}
 use lib.Dec.{ltb}
 use lib.ListN.{length}
 use Rattle.base.specs.Count.{all, all-at, all-of}
 use Rattle.base.specs.Update.{upd}
-use Rattle.masks.specs.Pages.{pageMask}
+use Rattle.masks.specs.Pages.{entriesAt, pageMask}
 use Rattle.packing.specs.Bitmap.{bitAt}
+use Rattle.packing.specs.Words.{getWord}
 use Rattle.rules.specs.State.{Entry, fileCount, hole, isStored, isUnmapped, largestBlocks, pageCount, setCount, stored, unmapped}
-use Rattle.tables.specs.Layout.{entryWord, readEntry}
+use Rattle.tables.specs.Layout.{entryBytes, fileBytes, headBytes, readEntry}
 use Rattle.tables.specs.Packed.{entryFormed, unpack}
 use Rattle.entrycheck.specs.declared.seeing.Masks.{Masks}
 
@@ -55,22 +56,21 @@ seeNamed limit (stored b) seen = cond (ltb b limit && not (seen b)) (some (upd s
 unfoldable pub seeEntry : ℕ → ℕ → Pass
 seeEntry limit w seen = cond (entryFormed [] w) (seeNamed limit (readEntry w) seen) none
 
-module _ (limit : ℕ) (t : List ℕ) where
-  -- the entries of file f in set s
-  unfoldable pub seeFile : ℕ → ℕ → Pass
-  seeFile f s = through pageCount (λ p. seeEntry limit (entryWord t f s p))
+-- the entries of the map that begins at byte `at`
+unfoldable pub seeMap : ℕ → List ℕ → ℕ → Pass
+seeMap limit t at = through pageCount (λ p. seeEntry limit (getWord 1 t (at + p * entryBytes)))
 
-  -- the files of number f
-  unfoldable pub seeNumber : ℕ → Pass
-  seeNumber f = through setCount (λ s. seeFile f s)
+-- how many file records there are
+abbrev pub recordCount : ℕ
+recordCount = setCount * fileCount
 
-  -- all files
-  unfoldable pub seeAll : Pass
-  seeAll = through fileCount (λ f. seeNumber f)
+-- where the map of record i begins in the file records
+abbrev pub mapIn : ℕ → ℕ
+mapIn i = headBytes + i * fileBytes
 
-  -- the files before file f in set s: those of lower numbers, and of number f those of lower sets
-  unfoldable pub seeTo : ℕ → ℕ → Pass
-  seeTo f s seen = andThen (through f (λ f. seeNumber f) seen) (through s (λ s. seeFile f s))
+-- all file records, one after the other
+unfoldable pub seeAll : ℕ → List ℕ → Pass
+seeAll limit files = through recordCount (λ i. seeMap limit files (mapIn i))
 
 beq-is : (a b : Bool) → Bool·beq a b ≡ true → a ≡ b
 beq-is true true h = refl
@@ -101,9 +101,9 @@ abbrev pub formedBy : List ℕ → Option Seen → Bool
 formedBy t none = false
 formedBy t (some seen) = sameBits t seen
 
--- every entry passes, and the blocks seen at the end are those whose bits are 1
-unfoldable pub entriesFormed : List ℕ → Bool
-entriesFormed t = formedBy t (seeAll (unpack t .blocks) t noneSeen)
+-- every entry of the file records passes, and the blocks seen at the end are those whose bits are 1 in the front of the tables
+unfoldable pub entriesFormed : List ℕ → List ℕ → Bool
+entriesFormed front files = formedBy front (seeAll (unpack front .blocks) files noneSeen)
 
 -- what a pass gives, where ok says whether every entry passes
 abbrev pub outcome : Bool → Seen → Option Seen
@@ -114,9 +114,9 @@ pub record Sees (pass : Pass) (seen seen′ : List ℕ) (ok : Bool) : Type 0 whe
   pub sees : pass (bitAt seen 0) ≡ outcome ok (bitAt seen′ 0)
   pub len : length seen′ ≡ 512
 
--- the entries of file f in set s: what is seen, and which pages are stored and which unmapped; no block and no page where an entry does not pass
-pub record FileSeen (limit : ℕ) (t : List ℕ) (f s : ℕ) (seen seen′ : List ℕ) (r : Masks) : Type 0 where
-  pub passes : Sees (seeFile limit t f s) seen seen′ (r .ok)
-  pub stored-is : r .ok ≡ true → r .stored ≡ pageMask isStored (unpack t .files f s .map)
-  pub unmapped-is : r .ok ≡ true → r .unmapped ≡ pageMask isUnmapped (unpack t .files f s .map)
+-- the entries of the map that begins at byte `at`: what is seen, and which pages are stored and which unmapped; no block and no page where an entry does not pass
+pub record MapSeen (limit : ℕ) (t : List ℕ) (at : ℕ) (seen seen′ : List ℕ) (r : Masks) : Type 0 where
+  pub passes : Sees (seeMap limit t at) seen seen′ (r .ok)
+  pub stored-is : r .ok ≡ true → r .stored ≡ pageMask isStored (entriesAt t at)
+  pub unmapped-is : r .ok ≡ true → r .unmapped ≡ pageMask isUnmapped (entriesAt t at)
   pub refused : r .ok ≡ false → (r ≡ record { ok = false; stored = 0; unmapped = 0 }) × (bitAt seen′ 0 ≡ noneSeen)

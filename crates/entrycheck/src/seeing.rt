@@ -1,4 +1,4 @@
-// The entries of a file against the map of the blocks seen so far: the kinds, then the blocks of the stored pages, first the
+// The entries of a map against the map of the blocks seen so far: the kinds, then the blocks of the stored pages, first the
 // words of four entries that name four blocks in a row, then the other pages one by one. A block is what the 12 low bits of
 // an entry say.
 ghost use mathlib.Core.Bool.{false, true};
@@ -8,8 +8,7 @@ ghost use lib.ListN.{length};
 ghost use Rattle.rules.specs.State.{stored};
 ghost use Rattle.packing.specs.Bitmap.{bitAt};
 ghost use Rattle.packing.specs.Words.{getWord};
-ghost use Rattle.tables.specs.Layout.{tableBytes};
-ghost use Rattle.entrycheck.specs.Seeing.{FileSeen, Sees, noneSeen, seeNamed, through};
+ghost use Rattle.entrycheck.specs.Seeing.{MapSeen, Sees, noneSeen, seeNamed, through};
 ghost use Rattle.masks.specs.Pages.{pages};
 ghost use Rattle.entrycheck.specs.Moving.{FourInARow, Full, Moved, RowMoved, blockAt, noPage, rows};
 use crate::no_bits;
@@ -17,8 +16,6 @@ use crate::plain::blocks_plain;
 use masks::kinds::kind_masks;
 use masks::lowest;
 use packing::words;
-use tables::places::FILE_BYTES;
-use tables::places::MAPS_AT;
 
 fn wide(x: u16) -> usize
     requires { ⌜ x < 65536 ⌝ }
@@ -179,12 +176,11 @@ fn not_passed(seen: &mut [u8; 512]) -> Masks
     }
 }
 
-// The entries of file f in set s.
-pub fn file_entries(t: &[u8], seen: &mut [u8; 512], f: usize, s: usize, limit: usize) -> Masks
-    requires { ⌜ (length (now t) ≡ tableBytes) × (length (now seen) ≡ 512) × (f < 16) × (s < 8) × (limit ≤ 4096) ⌝ }
-    ensures { λ r. ⌜ FileSeen limit (now (t .entry)) f s (now (seen .entry)) (now (seen .exit)) r ⌝ }
+// The entries of the map that begins at a byte.
+pub fn map_entries(t: &[u8], seen: &mut [u8; 512], at: usize, limit: usize) -> Masks
+    requires { ⌜ (at + 128 ≤ length (now t)) × (length (now seen) ≡ 512) × (limit ≤ 4096) ⌝ }
+    ensures { λ r. ⌜ MapSeen limit (now (t .entry)) at (now (seen .entry)) (now (seen .exit)) r ⌝ }
 {
-    let at = MAPS_AT + (s * 16 + f) * FILE_BYTES;
     let k = kind_masks(t, at);
     if k.stored & k.holes != 0 {
         return not_passed(seen);

@@ -116,13 +116,13 @@ module _ (w u : ℕ) (used root : Bool) where
   head-zero z =
       head-absent (ap (λ x. x % 16384) z) 0 0 (sym (ap (λ x. x / 1073741824) z)) (sym (ap (λ x. x / 16384 % 65536) z)) (eqb u 18446744073709551615) refl refl
 
--- LAW: the head of a virgin file of size 0, whose entries are all unmapped
-pub head-virgin : (used root : Bool) → headFormed 2147483648 18446744073709551615 used root ≡ (used && not root)
+-- LAW: the head of a virgin file of size 0
+pub head-virgin : (u : ℕ) (used root : Bool) → headFormed 2147483648 u used root ≡ (used && (eqb u 18446744073709551615 && not root))
 unfolding headFormed aloneFormed stateFormed readSize
-head-virgin true true = refl
-head-virgin true false = refl
-head-virgin false true = refl
-head-virgin false false = refl
+head-virgin u true true = refl
+head-virgin u true false = refl
+head-virgin u false true = refl
+head-virgin u false false = refl
 
 -- ---- a file of the tables
 -- LAW: some page is unmapped where the mask is not 0

@@ -1,31 +1,12 @@
--- The head of a file from the first eight bytes of its record, the first the least significant; and the head of an absent file, or of a virgin one of size 0. Assumes nothing.
-use mathlib.Core.Bool.{_&&_, cond, false, not, true, true≢false}
+-- The head of a file from the first eight bytes of its record, the first the least significant. Assumes nothing.
 use mathlib.Core.List.{List}
-use mathlib.Core.Path.{ap, ap₂, refl, sym, _∙_, _≡_}
+use mathlib.Core.Path.{ap, sym, _∙_, _≡_}
 use Prim.Native.Nat.{_%_, _*_, _+_, _/_, _<_, ℕ}
 use native.Mathlib.Omega.{arith}
-use lib.Bits.{bitOr, or-add-and, or-zero-r}
-use lib.Dec.{eqb}
 use lib.ListN.{getD}
-use borrow.Author.Tests.{eq-eqb, ne-eqb}
-use Rattle.base.specs.Logic.{and-false, same?}
-use Rattle.masks.proofs.Digits.{and-power}
+use Rattle.base.specs.Logic.{same?}
 use Rattle.packing.specs.Words.{Bytes, getWord, low-eight, low-four, lowWord}
-use Rattle.formed.proofs.AloneRules.{head-virgin, head-zero}
-use Rattle.formed.specs.Files.{headFormed, turned}
-use Rattle.formed.specs.Pass.{BlankPassed}
-use Rattle.packing.specs.Bits.{bit-lt}
-use Rattle.rules.specs.State.{isOwn, live}
-use Rattle.tables.specs.Layout.{stateOf}
-
--- ---- a file whose head is 0, or that of a virgin file of size 0; v is the first byte
--- LAW: v by all its digits but one
-pub blank-head : (v : ℕ) → bitOr v 128 ≡ 128 → 0 < v → v ≡ 128
-blank-head v h p =
-    let a = or-add-and v 128 in
-    let b = and-power v 7 in
-    let c = bit-lt v 7 in
-    omega arith
+use Rattle.formed.specs.Files.{turned}
 
 -- what is a multiple of 256 does not count
 low-byte : (q h : ℕ) → (q + h * 256) % 256 ≡ q % 256
@@ -70,49 +51,10 @@ head-turned t at v bs e =
     turned-is v (getD t at 0) (getD t (at + 1) 0) (getD t (at + 2) 0) (getD t (at + 3) 0) (lowWord 3 t (at + 4)) (bs at) (bs (at + 1)) (bs (at + 2)) (bs (at + 3)) (omega arith)
     ∙ omega arith
 
--- LAW: the word of such a head
+-- LAW: the word of the head, where the eight bytes are 0 or 128
 pub first-byte : (t : List ℕ) (at v : ℕ) → v ≡ lowWord 7 t at → (0 < v → v ≡ 128) → v * 16777216 ≡ getWord 3 t at
 unfolding getWord
 first-byte t at v e h =
     let a = low-eight t at in
     let b = low-four t at in
     same? v 0 (λ z. omega arith) (λ z. let c : v ≡ 128 = h (omega arith) in omega arith)
-
--- LAW: it is not that of an own file
-pub not-own : (v : ℕ) → (0 < v → v ≡ 128) → isOwn (stateOf (v * 16777216 / 1073741824)) ≡ false
-not-own v h = same? v 0
-    (λ z. ap (λ x. isOwn (stateOf (x * 16777216 / 1073741824))) z)
-    (λ z. ap (λ x. isOwn (stateOf (x * 16777216 / 1073741824))) (h (omega arith)))
-
-module _ (s digit v lives : ℕ) where
-  -- LAW: the file is absent
-  pub blank-absent : v ≡ 0 → BlankPassed s digit v lives lives true
-  blank-absent z = record {
-    decided = sym (eq-eqb 18446744073709551615 18446744073709551615 refl) ∙ head-zero (v * 16777216) 18446744073709551615 (not (eqb digit 0)) (eqb s 0) (ap (λ x. x * 16777216) z);
-    lives-are = λ o. sym (ap (λ x. bitOr lives (cond (live (stateOf (x * 16777216 / 1073741824))) digit 0)) z ∙ or-zero-r lives);
-  }
-
-  module _ (e : v ≡ 128) where
-    virgin-is : headFormed (v * 16777216) 18446744073709551615 (not (eqb digit 0)) (eqb s 0) ≡ (not (eqb digit 0) && not (eqb s 0))
-    virgin-is = ap (λ x. headFormed (x * 16777216) 18446744073709551615 (not (eqb digit 0)) (eqb s 0)) e ∙ head-virgin (not (eqb digit 0)) (eqb s 0)
-
-    -- LAW: it is virgin, in set 0
-    pub blank-root : s ≡ 0 → BlankPassed s digit v lives lives false
-    blank-root z = record {
-      decided = sym (virgin-is ∙ ap (λ b. not (eqb digit 0) && not b) (eq-eqb s 0 z) ∙ and-false (not (eqb digit 0)));
-      lives-are = λ o. absurd (true≢false (sym o));
-    }
-
-    -- LAW: it is virgin, in an unused set
-    pub blank-unused : digit ≡ 0 → BlankPassed s digit v lives lives false
-    blank-unused z = record {
-      decided = sym (virgin-is ∙ ap (λ b. not b && not (eqb s 0)) (eq-eqb digit 0 z));
-      lives-are = λ o. absurd (true≢false (sym o));
-    }
-
-    -- LAW: it is virgin, and passes
-    pub blank-virgin : (s ≡ 0 → ⊥) → (digit ≡ 0 → ⊥) → BlankPassed s digit v lives (bitOr lives digit) true
-    blank-virgin a b = record {
-      decided = sym (virgin-is ∙ ap₂ (λ x y. not x && not y) (ne-eqb digit 0 b) (ne-eqb s 0 a));
-      lives-are = λ o. sym (ap (λ x. bitOr lives (cond (live (stateOf (x * 16777216 / 1073741824))) digit 0)) e);
-    }

@@ -5,5 +5,5 @@ pub mod LinkedRules
 pub mod Blank
 pub mod FileHead
 pub mod PlaceDigits
-pub mod Passes
+pub mod HeadRules
 pub mod Whole

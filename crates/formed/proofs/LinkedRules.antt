@@ -29,7 +29,7 @@ use Rattle.packing.specs.Fields.{getField}
 use Rattle.rules.proofs.Formed.Tests.{and-5, not-then, or-then}
 use Rattle.rules.proofs.Steps.States.{live-present}
 use Rattle.rules.specs.Reading.{dependent, resolve, someUnmapped}
-use Rattle.rules.specs.State.{File, State, absent, isAbsent, isMarked, isOwn, isStored, isUnmapped, isVirgin, live, marked, own, treeOf, virgin}
+use Rattle.rules.specs.State.{File, State, absent, fileCount, isAbsent, isMarked, isOwn, isStored, isUnmapped, isVirgin, live, marked, own, treeOf, virgin}
 use Rattle.rules.specs.WellFormed.{aboveFormed, allPages, pastFormed, rootFileFormed, sizeFormed, virginFormed, zeroFile}
 use Rattle.tables.specs.Layout.{headWidths, headWord}
 use Rattle.tables.specs.Packed.{unpack}
@@ -128,9 +128,9 @@ module _ (t : List ℕ) (f s : ℕ) (digits parents stored unmapped ends : List 
           ap (λ y. not (eqb y 0)) (here ∙ ap (λ b. bitAnd lives (cond b (2 ^ placeOf (unpack t .sets) x) 0)) u ∙ and-zero-r lives)
           ∙ test? (live (unpack t .files f x .state)) (λ e. absurd (true≢false (sym (live-used t f x (k .alone x l) e) ∙ u))) (λ e. sym e)
 
-  module _ (ls : s < 8) (lv : live (unpack t .files f s .state) ≡ true) (u : ℕ) (eu : u ≡ getD unmapped s 0) where
+  module _ (ls : s < 8) (lv : live (unpack t .files f s .state) ≡ true) (u : ℕ) (eu : u ≡ getD unmapped (s * fileCount + f) 0) where
     unmapped-is : u ≡ pageMask isUnmapped (unpack t .files f s .map)
-    unmapped-is = eu ∙ k .masks .unmapped-are s ls
+    unmapped-is = eu ∙ k .masks .unmapped-at f s (k .low) ls
 
     some-is : not (eqb u 0) ≡ someUnmapped 64 (unpack t .files f s .map)
     some-is = some-unmapped u (unpack t .files f s .map) unmapped-is
@@ -144,8 +144,8 @@ module _ (t : List ℕ) (f s : ℕ) (digits parents stored unmapped ends : List 
     above-mapped h = rw (← some-is, eq-eqb u 0 h, and-false (live (unpack t .files f s .state)))
 
     -- LAW: no page is unmapped
-    mapped-mask : u ≡ 0 → getD stored s 0 ≡ resolvedMask t f s
-    mapped-mask h = k .masks .stored-are s ls ∙ resolved-own (unpack t .sets) (unpack t .files f) s (sym unmapped-is ∙ h)
+    mapped-mask : u ≡ 0 → getD stored (s * fileCount + f) 0 ≡ resolvedMask t f s
+    mapped-mask h = k .masks .stored-at f s (k .low) ls ∙ resolved-own (unpack t .sets) (unpack t .files f) s (sym unmapped-is ∙ h)
 
     -- the pages m that resolve to stored are kept, and those past the size decide
     by-mask : (m : ℕ) → m ≡ resolvedMask t f s → true ≡ aboveFormed (unpack t) f s → (resolved resolved′ : List ℕ) (r : Bool)
@@ -156,8 +156,8 @@ module _ (t : List ℕ) (f s : ℕ) (digits parents stored unmapped ends : List 
     }
 
     pub mapped-decided : u ≡ 0 → (resolved resolved′ : List ℕ) (r : Bool)
-        → (r ≡ endsBefore (getD ends s 0) (getD stored s 0)) × (resolved′ ≡ set resolved s (getD stored s 0)) → LinkDecided t f s resolved resolved′ r
-    mapped-decided h = by-mask (getD stored s 0) (mapped-mask h) (above-mapped h)
+        → (r ≡ endsBefore (getD ends s 0) (getD stored (s * fileCount + f) 0)) × (resolved′ ≡ set resolved s (getD stored (s * fileCount + f) 0)) → LinkDecided t f s resolved resolved′ r
+    mapped-decided h = by-mask (getD stored (s * fileCount + f) 0) (mapped-mask h) (above-mapped h)
 
     -- LAW: some page is unmapped; x is the parent set
     module _ (n : u ≡ 0 → ⊥) (x : ℕ) (ep : x ≡ getD parents s 0) where
@@ -184,7 +184,7 @@ module _ (t : List ℕ) (f s : ℕ) (digits parents stored unmapped ends : List 
         live-above : live (unpack t .files f x .state) ≡ true
         live-above = sym (live-digit x lx) ∙ ap not (ne-eqb (bitAnd lives (getD digits x 0)) 0 e)
 
-        above-mask : bitOr (getD stored s 0) (bitAnd u (getD resolved x 0)) ≡ resolvedMask t f s
+        above-mask : bitOr (getD stored (s * fileCount + f) 0) (bitAnd u (getD resolved x 0)) ≡ resolvedMask t f s
         above-mask = same? (unpack t .sets s .level) 0
             (λ z. absurd (n (unmapped-is ∙ root-mapped t f s (k .alone s ls) lv (k .falling .one-root s ls (live-used t f s (k .alone s ls) lv) z))))
             (λ z.
@@ -192,14 +192,14 @@ module _ (t : List ℕ) (f s : ℕ) (digits parents stored unmapped ends : List 
             let q : unpack t .sets s .level ≡ suc n = omega arith in
             let a : getD resolved x 0 ≡ resolvedMask t f (unpack t .sets s .parent) =
             ap (λ y. getD resolved y 0) parent-is ∙ up n q (ap (λ y. live (unpack t .files f y .state)) (sym parent-is) ∙ live-above) in
-            ap₂ (λ a b. bitOr a (bitAnd b (getD resolved x 0))) (k .masks .stored-are s ls) unmapped-is
+            ap₂ (λ a b. bitOr a (bitAnd b (getD resolved x 0))) (k .masks .stored-at f s (k .low) ls) unmapped-is
             ∙ ap (λ y. bitOr (pageMask isStored (unpack t .files f s .map)) (bitAnd (pageMask isUnmapped (unpack t .files f s .map)) y)) a
             ∙ resolved-above (unpack t .sets) (unpack t .files f) s n q (k .falling .falls s n ls q .1))
 
         pub above-decided : (resolved′ : List ℕ) (r : Bool)
-            → (r ≡ endsBefore (getD ends s 0) (bitOr (getD stored s 0) (bitAnd u (getD resolved x 0)))) × (resolved′ ≡ set resolved s (bitOr (getD stored s 0) (bitAnd u (getD resolved x 0))))
+            → (r ≡ endsBefore (getD ends s 0) (bitOr (getD stored (s * fileCount + f) 0) (bitAnd u (getD resolved x 0)))) × (resolved′ ≡ set resolved s (bitOr (getD stored (s * fileCount + f) 0) (bitAnd u (getD resolved x 0))))
             → LinkDecided t f s resolved resolved′ r
-        above-decided = by-mask (bitOr (getD stored s 0) (bitAnd u (getD resolved x 0))) above-mask (sym live-above ∙ from-parent) resolved
+        above-decided = by-mask (bitOr (getD stored (s * fileCount + f) 0) (bitAnd u (getD resolved x 0))) above-mask (sym live-above ∙ from-parent) resolved
 
 -- ---- all sets
 -- the files of the sets whose digits are not left have been looked at

@@ -14,7 +14,7 @@ use Rattle.base.specs.Logic.{or-false, same?, test?}
 use Rattle.formed.proofs.AloneRules.{size-field}
 use Rattle.formed.proofs.Resolved.{digit-or}
 use Rattle.formed.specs.Files.{LivesTo, Places, PlacesPut, endOf, placeDigit, placeOf}
-use Rattle.formed.specs.Pass.{EachIs, UnusedFrom}
+use Rattle.formed.specs.Heads.{EachIs, UnusedFrom}
 use Rattle.packing.specs.Bitmap.{isOne}
 use Rattle.packing.specs.Bits.{bit, bit-none, bit-pow-other, bit-pow-same}
 use Rattle.rules.specs.State.{Files, SetRecord, isOwn, live}
@@ -160,9 +160,9 @@ module _ (sets : ℕ → SetRecord) (parents₀ digits parents : List ℕ) (s : 
     parents-kept = λ x l m. k .rest-parents x (omega arith) m;
   }
 
--- LAW: which has the parents of the used sets
-pub places-are : (sets : ℕ → SetRecord) (n : ℕ) (parents digits′ parents′ : List ℕ) → UnusedFrom sets n → PlacesPut sets n parents digits′ parents′ → Places sets digits′ parents′
-places-are sets n parents digits′ parents′ u k = record {
+-- LAW: which has the parents of the used sets, and of those of tables with the same set records
+pub places-are : (sets sets′ : ℕ → SetRecord) → sets′ ≡ sets → (n : ℕ) (parents digits′ parents′ : List ℕ) → UnusedFrom sets n → PlacesPut sets n parents digits′ parents′ → Places sets′ digits′ parents′
+places-are sets sets′ e n parents digits′ parents′ u k = subst (λ x. Places x digits′ parents′) (sym e) (record {
   digits-are = k .digits-are;
   parents-are = λ x l h. test? (ltb x n) (λ q. k .parents-are x (ltb-true x n q)) (λ q. absurd (true≢false (sym h ∙ u x (ltb-false x n q) l)));
-}
+})

@@ -1,32 +1,30 @@
--- The whole check: what the pass over all files says of the rules on entries and files, and the order of the code's tests. Assumes nothing.
-use mathlib.Core.Bool.{_&&_, Bool, false, not, true, _||_}
-use mathlib.Core.List.{List}
-use mathlib.Core.Option.{some}
-use mathlib.Core.Path.{ap, ap₂, refl, subst, sym, _∙_, _≡_}
+-- The whole check: the rules on file records, number by number, the two parts of the check, and the order of the code's tests. Assumes nothing.
+use mathlib.Core.Bool.{_&&_, Bool, false, not, true, true≢false, _||_}
+use mathlib.Core.List.{List, _++_}
+use mathlib.Core.Path.{refl, subst, sym, _∙_, _≡_}
 use Prim.Native.Nat.{_+_, _<_, ℕ, _≤_}
 use native.Mathlib.Omega.{arith}
 use lib.Dec.{eqb}
 use lib.ListN.{length}
 use borrow.Author.Tests.{eq-eqb, eqb-true, ne-eqb, not-false, not-true}
-use Rattle.base.specs.Count.{all, all-at, all-of}
-use Rattle.base.specs.Logic.{and-both, and-false, and-left, and-right, same-test, same?}
-use Rattle.entrycheck.proofs.EntriesFormed.{entries-formed}
-use Rattle.entrycheck.proofs.Through.{through-next, through-refused}
-use Rattle.entrycheck.specs.Seeing.{Sees, Seen, entriesFormed, formedBy, seeAll, noneSeen, sameBits, through, through-none}
-use Rattle.formed.proofs.Passes.{numbers-are}
+use Rattle.base.specs.Count.{all, all-at, all-next, all-not, all-of}
+use Rattle.base.specs.Logic.{and-both, and-left, and-right, same-test, same?}
+use Rattle.entrycheck.specs.Records.{BlankFrom, EntriesSeen}
 use Rattle.formed.specs.Files.{Falling, fileAlone, fileLinked, numberFormed}
-use Rattle.formed.specs.Pass.{onlyIf, passNumber}
-use Rattle.packing.specs.Bitmap.{bitAt}
+use Rattle.formed.specs.First.{FirstPassed}
+use Rattle.formed.specs.Heads.{UnusedFrom}
 use Rattle.packing.specs.Fields.{getField}
 use Rattle.rules.proofs.Tree.SetsOk.{SetsOk, used-below}
 use Rattle.rules.proofs.Formed.Tests.{all-4, and-4, and-5, files-at, files-of, not-of, not-then}
 use Rattle.rules.specs.State.{SetRecord, isAbsent}
-use Rattle.rules.specs.WellFormed.{aboveFormed, allFiles, bitsFormed, filesFormed, headerFormed, pastFormed, rootFileFormed, sizeFormed, virginFormed, zeroFile}
-use Rattle.setcheck.proofs.WellFormedParts.{records-sets, well-formed-parts}
+use Rattle.rules.specs.WellFormed.{aboveFormed, allFiles, bitsFormed, filesFormed, headerFormed, pagesFit, pastFormed, rootFileFormed, sizeFormed, virginFormed, zeroFile}
+use Rattle.setcheck.proofs.Parts.{fit-part, header-part, records-part, zero-part}
+use Rattle.setcheck.proofs.WellFormedParts.{block-rules-parts, records-sets, well-formed-parts}
 use Rattle.tables.proofs.FormedStore.{header-in}
+use Rattle.tables.proofs.Parts.{whole-length}
 use Rattle.setcheck.specs.Records.{fileRecordsFormed, headerZero, setRecordsFormed}
-use Rattle.tables.specs.Layout.{headWidths, headWord, tableBytes}
-use Rattle.tables.specs.Packed.{kindsFormed, unpack, wellFormed}
+use Rattle.tables.specs.Layout.{filesAt, filesBytes, headWidths, headWord, tableBytes}
+use Rattle.tables.specs.Packed.{blockRules, kindsFormed, unpack, wellFormed}
 
 -- ---- the rules on file records, all files of a number together
 module _ (t : List ℕ) where
@@ -119,53 +117,19 @@ module _ (t : List ℕ) where
   pub records-are : fileRecordsFormed t ≡ all 16 (numberFormed t)
   records-are = same-test (fileRecordsFormed t) (all 16 (numberFormed t)) numbers-pass records-hold
 
--- ---- all files
-module _ (t : List ℕ) (most : unpack t .blocks ≤ 4096) where
-  only-formed : (b : Bool) (seen : Seen) → formedBy t (onlyIf b (seeAll (unpack t .blocks) t) seen) ≡ (formedBy t (seeAll (unpack t .blocks) t seen) && b)
-  unfolding onlyIf
-  only-formed true seen = go (formedBy t (seeAll (unpack t .blocks) t seen))
-    where
-      go : (b : Bool) → b ≡ (b && true)
-      go true = refl
-      go false = refl
-  only-formed false seen = sym (and-false (formedBy t (seeAll (unpack t .blocks) t seen)))
+-- ---- all numbers
+module _ (t : List ℕ) (f : ℕ) (k : all f (numberFormed t) ≡ true) where
+  -- LAW: a number more
+  pub numbers-next : (r : Bool) → r ≡ numberFormed t f → not r ≡ false → all (f + 1) (numberFormed t) ≡ true
+  numbers-next r e h = all-next (numberFormed t) f k (sym e ∙ not-false r h)
 
-  -- LAW: what the pass over all files says
-  pub files-say : formedBy t (through 16 (λ f. passNumber (unpack t .blocks) t f) noneSeen) ≡ (kindsFormed t && bitsFormed (unpack t) && fileRecordsFormed t)
-  unfolding entriesFormed
-  files-say =
-      ap (formedBy t) (numbers-are (unpack t .blocks) t noneSeen) ∙ only-formed (all 16 (numberFormed t)) noneSeen
-      ∙ ap₂ _&&_ (entries-formed t most) (sym (records-are t))
+  -- LAW: a number that does not pass
+  pub numbers-refused : f < 16 → (r : Bool) → r ≡ numberFormed t f → not r ≡ true → false ≡ fileRecordsFormed t
+  numbers-refused l r e h = sym (records-are t ∙ all-not 16 (numberFormed t) f l (sym e ∙ not-true r h))
 
--- the files of the numbers below f have passed
-pub record FilesPassed (t : List ℕ) (limit : ℕ) (seen : List ℕ) (f : ℕ) : Type 0 where
-  pub passed : through f (λ f. passNumber limit t f) noneSeen ≡ some (bitAt seen 0)
-  pub len : length seen ≡ 512
-
--- LAW: no number yet
-pub files-start : (t : List ℕ) (limit : ℕ) (seen : List ℕ) → length seen ≡ 512 → bitAt seen 0 ≡ noneSeen → FilesPassed t limit seen 0
-files-start t limit seen len e = record { passed = through-none (λ f. passNumber limit t f) noneSeen ∙ ap some (sym e); len = len }
-
--- LAW: a number whose files pass
-pub files-next : (t : List ℕ) (limit : ℕ) (seen : List ℕ) (f : ℕ) → FilesPassed t limit seen f → (seen′ : List ℕ) (ok : Bool) → Sees (passNumber limit t f) seen seen′ ok
-    → not ok ≡ false → FilesPassed t limit seen′ (f + 1)
-files-next t limit seen f k seen′ ok x h =
-    record { passed = through-next (λ f. passNumber limit t f) noneSeen f seen seen′ ok (k .passed) x (not-false ok h); len = x .len }
-
-module _ (t : List ℕ) (limit : ℕ) (el : limit ≡ unpack t .blocks) (most : unpack t .blocks ≤ 4096) where
-  by-limit : formedBy t (through 16 (λ f. passNumber limit t f) noneSeen) ≡ (kindsFormed t && bitsFormed (unpack t) && fileRecordsFormed t)
-  by-limit = ap (λ n. formedBy t (through 16 (λ f. passNumber n t f) noneSeen)) el ∙ files-say t most
-
-  module _ (seen : List ℕ) (f : ℕ) (k : FilesPassed t limit seen f) where
-    -- LAW: a number of which one does not
-    pub files-refused : (seen′ : List ℕ) (ok : Bool) → Sees (passNumber limit t f) seen seen′ ok → f < 16 → not ok ≡ true
-        → false ≡ (kindsFormed t && bitsFormed (unpack t) && fileRecordsFormed t)
-    files-refused seen′ ok x l h =
-        sym (ap (formedBy t) (through-refused (λ f. passNumber limit t f) noneSeen f seen seen′ ok (k .passed) x 16 l (not-true ok h))) ∙ by-limit
-
-    -- LAW: 16 numbers
-    pub files-done : (r : Bool) → f ≡ 16 → r ≡ sameBits t (bitAt seen 0) → r ≡ (kindsFormed t && bitsFormed (unpack t) && fileRecordsFormed t)
-    files-done r e q = q ∙ sym (ap (formedBy t) (subst (λ n. through n (λ f. passNumber limit t f) noneSeen ≡ some (bitAt seen 0)) e (k .passed))) ∙ by-limit
+  -- LAW: 16 numbers
+  pub numbers-done : f ≡ 16 → true ≡ fileRecordsFormed t
+  numbers-done e = sym (records-are t ∙ subst (λ n. all n (numberFormed t) ≡ true) e k)
 
 -- ---- the tree of sets
 falling : (sets : ℕ → SetRecord) → SetsOk sets → Falling sets
@@ -179,27 +143,64 @@ pub sets-falling : (t : List ℕ) (s : Bool) → s ≡ setRecordsFormed t → no
 sets-falling t s e h = falling (unpack t .sets) (records-sets t (sym e ∙ not-false s h))
 
 -- LAW: where the header passes
-pub blocks-most : (t : List ℕ) (n : ℕ) (h : Bool) → h ≡ headerFormed (unpack t) n → not h ≡ false → unpack t .blocks ≤ 4096
-blocks-most t n h e k = header-in (unpack t) n (sym e ∙ not-false h k) .0 .most
+pub blocks-most : (t : List ℕ) (h : Bool) → h ≡ headerFormed (unpack t) → not h ≡ false → unpack t .blocks ≤ 4096
+blocks-most t h e k = header-in (unpack t) (sym e ∙ not-false h k) .most
 
--- ---- the whole check
-module _ (t : List ℕ) (n : ℕ) where
-  pub whole-length : (length t ≡ tableBytes → ⊥) → false ≡ wellFormed t n
-  whole-length h = sym (well-formed-parts t n ∙ rw (ne-eqb (length t) tableBytes h))
+-- ---- tables of another length
+module _ (t : List ℕ) (h : length t ≡ tableBytes → ⊥) where
+  pub blocks-wrong : false ≡ blockRules t
+  blocks-wrong = sym (block-rules-parts t ∙ rw (ne-eqb (length t) tableBytes h))
 
-  module _ (len : length t ≡ tableBytes) (h : Bool) (eh : h ≡ headerFormed (unpack t) n) where
-    pub whole-header : not h ≡ true → false ≡ wellFormed t n
-    whole-header a = sym (well-formed-parts t n ∙ rw (eq-eqb (length t) tableBytes len, ← eh, not-true h a))
+  pub whole-wrong : (n : ℕ) → false ≡ wellFormed t n
+  whole-wrong n = sym (well-formed-parts t n ∙ rw (← blocks-wrong))
 
-    module _ (kh : not h ≡ false) where
-      module _ (z : Bool) (ez : z ≡ headerZero t) where
-        pub whole-zero : not z ≡ true → false ≡ wellFormed t n
-        whole-zero a = sym (well-formed-parts t n ∙ rw (eq-eqb (length t) tableBytes len, ← eh, not-false h kh, ← ez, not-true z a))
+-- ---- the first part
+module _ (front files stored unmapped : List ℕ) (len : length front ≡ filesAt) (wide : length files ≡ filesBytes) (h : Bool) (eh : h ≡ headerFormed (unpack front)) where
+  abbrev t : List ℕ
+  t = front ++ files
 
-        module _ (kz : not z ≡ false) (s : Bool) (es : s ≡ setRecordsFormed t) where
-          pub whole-sets : not s ≡ true → false ≡ wellFormed t n
-          whole-sets a = sym (well-formed-parts t n ∙ rw (eq-eqb (length t) tableBytes len, ← eh, not-false h kh, ← ez, not-false z kz, ← es, not-true s a))
+  -- the length is right
+  rules-are : blockRules t ≡ (headerFormed (unpack front) && (kindsFormed t && bitsFormed (unpack t)))
+  rules-are = block-rules-parts t ∙ rw (eq-eqb (length t) tableBytes (whole-length front files len wide), header-part front files len)
 
-          pub whole-files : (r : Bool) → not s ≡ false → r ≡ (kindsFormed t && bitsFormed (unpack t) && fileRecordsFormed t) → r ≡ wellFormed t n
-          whole-files r ks q =
-              q ∙ sym (well-formed-parts t n ∙ rw (eq-eqb (length t) tableBytes len, ← eh, not-false h kh, ← ez, not-false z kz, ← es, not-false s ks))
+  -- LAW: the header does not pass
+  pub first-header : not h ≡ true → FirstPassed front files stored unmapped (record { ok = false; blank = 8 })
+  first-header a = record {
+    decided = sym (rules-are ∙ rw (← eh, not-true h a));
+    masks = λ o. absurd (true≢false (sym o));
+    blank = λ o. absurd (true≢false (sym o));
+    unused = λ o. absurd (true≢false (sym o));
+  }
+
+  -- LAW: it does, and the entries and bits decide
+  pub first-entries : not h ≡ false → (n : ℕ) → BlankFrom files n × UnusedFrom (unpack front .sets) n → (ok : Bool) → EntriesSeen t stored unmapped ok
+      → FirstPassed front files stored unmapped (record { ok = ok; blank = n })
+  first-entries a n b ok k = record {
+    decided = k .decided ∙ sym (rules-are ∙ rw (← eh, not-false h a));
+    masks = k .masks;
+    blank = λ o. b .0;
+    unused = λ o. b .1;
+  }
+
+-- ---- the whole check, where b is the first part, p the pages buffer's length, z the header's zero field, s the set records, r the file records
+module _ (front files : List ℕ) (len : length front ≡ filesAt) (n : ℕ) (b : Bool) (eb : b ≡ blockRules (front ++ files)) where
+  whole-parts : wellFormed (front ++ files) n ≡ (b && pagesFit (unpack front) n && (headerZero front && setRecordsFormed front && fileRecordsFormed (front ++ files)))
+  whole-parts = well-formed-parts (front ++ files) n ∙ rw (eb, fit-part front files len n, zero-part front files len, records-part front files len)
+
+  pub whole-blocks : not b ≡ true → false ≡ wellFormed (front ++ files) n
+  whole-blocks a = sym (whole-parts ∙ rw (not-true b a))
+
+  module _ (kb : not b ≡ false) (p : Bool) (ep : p ≡ pagesFit (unpack front) n) where
+    pub whole-pages : not p ≡ true → false ≡ wellFormed (front ++ files) n
+    whole-pages a = sym (whole-parts ∙ rw (← ep, not-false b kb, not-true p a))
+
+    module _ (kp : not p ≡ false) (z : Bool) (ez : z ≡ headerZero front) where
+      pub whole-zero : not z ≡ true → false ≡ wellFormed (front ++ files) n
+      whole-zero a = sym (whole-parts ∙ rw (← ep, ← ez, not-false b kb, not-false p kp, not-true z a))
+
+      module _ (kz : not z ≡ false) (s : Bool) (es : s ≡ setRecordsFormed front) where
+        pub whole-sets : not s ≡ true → false ≡ wellFormed (front ++ files) n
+        whole-sets a = sym (whole-parts ∙ rw (← ep, ← ez, ← es, not-false b kb, not-false p kp, not-false z kz, not-true s a))
+
+        pub whole-files : (r : Bool) → not s ≡ false → r ≡ fileRecordsFormed (front ++ files) → r ≡ wellFormed (front ++ files) n
+        whole-files r ks q = q ∙ sym (whole-parts ∙ rw (← ep, ← ez, ← es, not-false b kb, not-false p kp, not-false z kz, not-false s ks))

@@ -6,12 +6,13 @@ use Prim.Native.Nat.{_%_, _*_, _+_, _/_, _<_, _^_, suc, ℕ, _≤_}
 use lib.Dec.{eqb, leb, ltb}
 use lib.ListN.{getD, length, set}
 use Rattle.base.specs.Count.{all}
+use Rattle.entrycheck.specs.Records.{MasksAre}
 use Rattle.masks.specs.Pages.{pageMask}
 use Rattle.packing.specs.Bitmap.{isOne}
 use Rattle.packing.specs.Bits.{bit}
 use Rattle.packing.specs.Fields.{getField}
 use Rattle.rules.specs.Reading.{resolve}
-use Rattle.rules.specs.State.{File, Files, SetRecord, State, isAbsent, isMarked, isOwn, isStored, isUnmapped, isVirgin, largestSize, live, setCount, treeOf}
+use Rattle.rules.specs.State.{File, Files, SetRecord, State, fileCount, isAbsent, isMarked, isOwn, isStored, isVirgin, largestSize, live, setCount, treeOf}
 use Rattle.rules.specs.WellFormed.{aboveFormed, pastFormed, rootFileFormed, sizeFormed, virginFormed, zeroFile}
 use Rattle.tables.specs.Layout.{headWidths, headWord, readSize, stateOf}
 use Rattle.tables.specs.Packed.{unpack}
@@ -50,13 +51,6 @@ module _ (t : List ℕ) where
   -- all rules on the files of number f
   unfoldable pub numberFormed : ℕ → Bool
   numberFormed f = all setCount (fileLinked f) && all setCount (fileAlone f)
-
--- which pages are stored and which are unmapped, of the files of the first n sets
-pub record MasksTo (files : Files ℕ) (n : ℕ) (stored unmapped : List ℕ) : Type 0 where
-  pub stored-len : length stored ≡ setCount
-  pub unmapped-len : length unmapped ≡ setCount
-  pub stored-are : (s : ℕ) → s < n → getD stored s 0 ≡ pageMask isStored (files s .map)
-  pub unmapped-are : (s : ℕ) → s < n → getD unmapped s 0 ≡ pageMask isUnmapped (files s .map)
 
 -- the first page wholly past the size of an own file; 64 of any other
 unfoldable pub endOf : State → ℕ → ℕ
@@ -106,9 +100,10 @@ pub record LivesTo (sets : ℕ → SetRecord) (files : Files ℕ) (n lives : ℕ
 
 -- what the rules on file f of several sets are decided by
 pub record Numbered (t : List ℕ) (f : ℕ) (digits parents stored unmapped ends : List ℕ) (lives : ℕ) : Type 0 where
+  pub low : f < fileCount
   pub falling : Falling (unpack t .sets)
   pub places : Places (unpack t .sets) digits parents
-  pub masks : MasksTo (unpack t .files f) setCount stored unmapped
+  pub masks : MasksAre t stored unmapped
   pub ends-are : EndsTo (unpack t .files f) setCount ends
   pub lives-are : LivesTo (unpack t .sets) (unpack t .files f) setCount lives
   pub alone : (s : ℕ) → s < setCount → fileAlone t f s ≡ true

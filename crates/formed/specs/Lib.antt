@@ -1,2 +1,3 @@
 pub mod Files
-pub mod Pass
+pub mod Heads
+pub mod First

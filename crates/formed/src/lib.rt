@@ -1,34 +1,103 @@
-// The check that tables are well formed: the header, the set records, and then one pass over the file records with a
-// map of the blocks seen so far. It takes any bytes of any length.
+// The check that tables are well formed, in two parts. The first looks at the header, at the kinds and blocks of all
+// entries and at the bitmap, and at nothing else; then come the length of the pages buffer, the zero fields, the set records
+// with their chains, and the heads of the file records. It takes any bytes of any length. The tables are looked at as two
+// slices: front, the header, the bitmap and the set records; and files, the file records.
+ghost use mathlib.Core.Bool.{false};
+ghost use mathlib.Core.List.{_++_};
 ghost use mathlib.Core.Path.{_≡_};
-ghost use Rattle.tables.specs.Packed.{wellFormed};
-use crate::passing::files_formed;
+ghost use lib.ListN.{length};
+ghost use Rattle.tables.specs.Layout.{filesAt, filesBytes};
+ghost use Rattle.tables.specs.Packed.{blockRules, wellFormed};
+ghost use Rattle.entrycheck.specs.Records.{AllAre};
+ghost use Rattle.formed.specs.First.{FirstPassed};
+use crate::files::records_formed;
+use crate::places::blank_from;
+use entrycheck::records::entries_formed;
+use entrycheck::records::masks_of;
 use setcheck::header::header_formed;
 use setcheck::header::header_zero;
+use setcheck::header::pages_fit;
 use setcheck::tree::sets_formed;
+use tables::places::FILES_AT;
 use tables::places::TABLE_BYTES;
 
 pub mod alone;
+pub mod files;
 pub mod heads;
 pub mod linked;
-pub mod passing;
 pub mod places;
 
-// "Well formed means all of": tables t with a pages buffer of n bytes.
+// Does the first part pass, and from which set on are all file records zero?
+pub struct First {
+    pub ok: bool,
+    pub blank: usize,
+}
+
+// THE FIRST PART: the rules on B, next start, kinds, blocks and bits. The masks of the pages of every file are kept.
+fn first_part(
+    front: &[u8],
+    files: &[u8],
+    stored: &mut [u64; 128],
+    unmapped: &mut [u64; 128],
+) -> First
+    requires { ⌜ (length (now front) ≡ filesAt) × (length (now files) ≡ filesBytes) × AllAre (now stored) 0 × AllAre (now unmapped) 18446744073709551615 ⌝ }
+    ensures { λ r. ⌜ FirstPassed (now (front .entry)) (now (files .entry)) (now (stored .exit)) (now (unmapped .exit)) r ⌝ }
+{
+    if !header_formed(front) {
+        return First {
+            ok: false,
+            blank: 8,
+        };
+    }
+    let n = blank_from(front, files);
+    let ok = entries_formed(front, files, stored, unmapped, n);
+    First { ok: ok, blank: n }
+}
+
+// "That first part accepts exactly the tables of right length that meet the rules on B, next start, kinds, blocks and bits,
+// whatever else they hold."
+pub fn blocks_formed(t: &[u8]) -> bool
+    ensures { λ r. ⌜ r ≡ blockRules (now (t .entry)) ⌝ }
+{
+    if t.len() != TABLE_BYTES {
+        return false;
+    }
+    let mut stored = masks_of(0);
+    let mut unmapped = masks_of(0xFFFF_FFFF_FFFF_FFFF);
+    let first = first_part(&t[0..FILES_AT], &t[FILES_AT..], &mut stored, &mut unmapped);
+    first.ok
+}
+
+// "Well formed means all of": tables of right length in two parts, with a pages buffer of n bytes. The bitmap and the
+// entries go before the set chains.
+pub fn parts_formed(front: &[u8], files: &[u8], n: usize) -> bool
+    requires { ⌜ (length (now front) ≡ filesAt) × (length (now files) ≡ filesBytes) ⌝ }
+    ensures { λ r. ⌜ r ≡ wellFormed (now (front .entry) ++ now (files .entry)) n ⌝ }
+{
+    let mut stored = masks_of(0);
+    let mut unmapped = masks_of(0xFFFF_FFFF_FFFF_FFFF);
+    let first = first_part(front, files, &mut stored, &mut unmapped);
+    if !first.ok {
+        return false;
+    }
+    if !pages_fit(front, n) {
+        return false;
+    }
+    if !header_zero(front) {
+        return false;
+    }
+    if !sets_formed(front) {
+        return false;
+    }
+    records_formed(front, files, &stored, &unmapped, first.blank)
+}
+
+// The same of tables t as they stand.
 pub fn well_formed(t: &[u8], n: usize) -> bool
     ensures { λ r. ⌜ r ≡ wellFormed (now (t .entry)) n ⌝ }
 {
     if t.len() != TABLE_BYTES {
         return false;
     }
-    if !header_formed(t, n) {
-        return false;
-    }
-    if !header_zero(t) {
-        return false;
-    }
-    if !sets_formed(t) {
-        return false;
-    }
-    files_formed(t)
+    parts_formed(&t[0..FILES_AT], &t[FILES_AT..], n)
 }

@@ -3,11 +3,14 @@
 ghost use mathlib.Core.Path.{_≡_};
 ghost use Prim.Native.Nat.{_<_, _≤_};
 ghost use lib.ListN.{length};
-ghost use Rattle.tables.specs.Layout.{tableBytes};
+ghost use Rattle.tables.specs.Layout.{filesAt, filesBytes};
 ghost use Rattle.tables.specs.Meaning.{setMeant};
 ghost use Rattle.tables.specs.Packed.{unpack};
 ghost use Rattle.formed.specs.Files.{PlacesPut, placeDigit};
-ghost use Rattle.formed.specs.Pass.{EachIs, UnusedFrom, UsedTo};
+ghost use Rattle.entrycheck.specs.Records.{BlankFrom};
+ghost use Rattle.formed.specs.Heads.{EachIs, UnusedFrom, UsedTo};
+use packing::words;
+use tables::places::SET_FILES_BYTES;
 use tables::sets::SetRecord;
 use tables::sets::set_at;
 
@@ -37,29 +40,42 @@ fn digit_of(r: SetRecord, s: usize) -> u64
 }
 
 // The digits and the parents of the sets: those from set n on are unused.
-pub fn put_places(t: &[u8], digits: &mut [u64; 8], parents: &mut [usize; 8], n: usize)
-    requires { ⌜ (length (now t) ≡ tableBytes) × EachIs (now digits) 0 × (length (now parents) ≡ 8) × (n ≤ 8) × UnusedFrom (unpack (now t) .sets) n ⌝ }
-    ensures { λ _. ⌜ PlacesPut (unpack (now (t .entry)) .sets) n (now (parents .entry)) (now (digits .exit)) (now (parents .exit)) ⌝ }
+pub fn put_places(front: &[u8], digits: &mut [u64; 8], parents: &mut [usize; 8], n: usize)
+    requires { ⌜ (filesAt ≤ length (now front)) × EachIs (now digits) 0 × (length (now parents) ≡ 8) × (n ≤ 8) × UnusedFrom (unpack (now front) .sets) n ⌝ }
+    ensures { λ _. ⌜ PlacesPut (unpack (now (front .entry)) .sets) n (now (parents .entry)) (now (digits .exit)) (now (parents .exit)) ⌝ }
 {
     for s in 0..n {
-        let r = set_at(t, s);
+        let r = set_at(front, s);
         parents[s] = r.parent;
         digits[s] = digit_of(r, s);
     }
 }
 
 // The number after that of the last used set.
-pub fn used_to(t: &[u8]) -> usize
-    requires { ⌜ length (now t) ≡ tableBytes ⌝ }
-    ensures { λ r. ⌜ UsedTo (unpack (now (t .entry)) .sets) r ⌝ }
+fn used_to(front: &[u8]) -> usize
+    requires { ⌜ filesAt ≤ length (now front) ⌝ }
+    ensures { λ r. ⌜ UsedTo (unpack (now (front .entry)) .sets) r ⌝ }
 {
     let mut n: usize = 8;
     while 0 < n {
-        let r = set_at(t, n - 1);
+        let r = set_at(front, n - 1);
         if r.used {
             return n;
         }
         n -= 1;
     }
     n
+}
+
+// A number from which on sets are unused and their file records all zero: that after the last used set, or 8 where a record
+// behind it is not all zero.
+pub fn blank_from(front: &[u8], files: &[u8]) -> usize
+    requires { ⌜ (filesAt ≤ length (now front)) × (length (now files) ≡ filesBytes) ⌝ }
+    ensures { λ r. ⌜ BlankFrom (now (files .entry)) r × UnusedFrom (unpack (now (front .entry)) .sets) r ⌝ }
+{
+    let n = used_to(front);
+    if words::all_zero(files, n * SET_FILES_BYTES, (8 - n) * SET_FILES_BYTES) {
+        return n;
+    }
+    8
 }

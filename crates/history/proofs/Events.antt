@@ -7,7 +7,7 @@ use Prim.Native.Nat.{ℕ, _≤_}
 use Rattle.history.proofs.CallImage.{after-image, gave-image, marks-image}
 use Rattle.history.proofs.Image.{image-store, imageOf}
 use Rattle.history.specs.Demand3.{MarksRightly}
-use Rattle.history.specs.Events.{Event, eventOn, eventsOn, gaveAll, gaveBy, listOf, listed, listedAll, runs, runsAll}
+use Rattle.history.specs.Events.{Event, check, checkBlocks, eventOn, eventsOn, gaveAll, gaveBy, listOf, listed, listedAll, runs, runsAll}
 use Rattle.history.specs.Image.{Image, after}
 use Rattle.rules.proofs.Storages.CountCalls.{modelOf}
 use Rattle.rules.proofs.Whole.Holds.{Holds, holds-quiet, holds-step}
@@ -66,6 +66,8 @@ module _ (B : ℕ) (least : 1 ≤ B) (most : B ≤ 4096) where
     -- EVERY EVENT keeps a store in order
     pub event-goes : (e : Event) → Goes r (runs e (imageOf r)) (eventOn e (imageOf r))
     event-goes (listed c) = call-goes c
+    event-goes checkBlocks = look-goes
+    event-goes check = look-goes
 
   -- a store that agrees with plain store and tally goes to the image of one that does, the call o being run, if any
   pub record Kept (pl : Plain) (ta : Tally) (o : Option Call) (m : Image) : Type 0 where
@@ -90,6 +92,8 @@ module _ (B : ℕ) (least : 1 ≤ B) (most : B ≤ 4096) where
     -- EVERY EVENT keeps the agreement, with the call that it runs
     pub event-kept : (e : Event) → Kept pl ta (runs e (imageOf r)) (eventOn e (imageOf r))
     event-kept (listed c) = call-kept c
+    event-kept checkBlocks = look-kept
+    event-kept check = look-kept
 
     -- what the call that is run gives is what plain store and tally give
     given-by : (o : Option Call) → listOf (gaveBy o (imageOf r)) ≡ bothGiven B (listOf o) pl ta

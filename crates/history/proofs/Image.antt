@@ -7,7 +7,7 @@ use native.Mathlib.Nat.{mul-le-mul-right}
 use native.Mathlib.Omega.{arith}
 use lib.Dec.{ltb}
 use lib.ListN.{List·getD-eq-default, getD, length}
-use borrow.Author.Tests.{ltb-false, ltb-true}
+use borrow.Author.Tests.{eq-eqb, ltb-false, ltb-true}
 use Rattle.base.specs.Logic.{same?, test?}
 use Rattle.base.specs.Tabulate.{getD-tab, length-tab}
 use Rattle.history.specs.Image.{Image}
@@ -147,4 +147,6 @@ module _ (B : ℕ) (most : B ≤ 4096) (r : Store real) (o : InOrder B r) where
         length-pack (tablesOf r),
         order-blocks B r o most,
         order-sets B r o,
+        o .kept .blocks,
+        eq-eqb (B * 512) (B * 512) refl,
       )

@@ -3,21 +3,29 @@
 -- in the list as that many events, one after another. How one is added: docs/ARCHITECTURE.md, "How to add a call".
 use mathlib.Core.List.{_++_, List, _∷_, []}
 use mathlib.Core.Option.{Option, none, some}
-use Rattle.history.specs.Image.{Image, after, gave}
+use Rattle.history.specs.Image.{Image, after, gave, imageLeft}
 use Rattle.rules.specs.Agreement.{Given}
 use Rattle.rules.specs.Numbers.{Call}
+use Rattle.tables.specs.Checks.{checkBlocksOn, checkOn}
 
 pub data Event : Type 0 where
   -- one of the ten
   listed : Call → Event
+  -- document 02, Ask 4: the first part of the check, which is lent no pages, and the whole check
+  checkBlocks : Event
+  check : Event
 
 -- an event on tables and pages
 abbrev pub eventOn : Event → Image → Image
 eventOn (listed c) m = after c m
+eventOn checkBlocks m = record { tables = checkBlocksOn (m .tables) .tables; pages = m .pages }
+eventOn check m = imageLeft (checkOn (m .tables) (m .pages))
 
 -- the call of the ten that it runs there, if any
 abbrev pub runs : Event → Image → Option Call
 runs (listed c) m = some c
+runs checkBlocks m = none
+runs check m = none
 
 -- a list of one or none
 abbrev pub listOf : {A : Type 0} → Option A → List A

@@ -16,9 +16,13 @@ pub record Image : Type 0 where
 abbrev pub storeIn : Image → Store real
 storeIn m = storeOf (m .tables) (m .pages)
 
+-- the image that an outcome leaves
+abbrev pub imageLeft : Outcome → Image
+imageLeft o = record { tables = o .tables; pages = o .pages }
+
 -- the image after a call
 abbrev pub after : Call → Image → Image
-after c m = let o : Outcome = callOn c (m .tables) (m .pages) in record { tables = o .tables; pages = o .pages }
+after c m = imageLeft (callOn c (m .tables) (m .pages))
 
 -- what a call gave: its answer and, of a read, the bytes at the buffer's front
 abbrev pub gave : Call → Image → Given

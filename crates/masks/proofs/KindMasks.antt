@@ -1,6 +1,6 @@
 -- The masks that the code computes are those of the stored pages and of the unmapped ones, and a page is in both of the code's masks where its kind is 3.
 -- Assumes nothing.
-use mathlib.Core.Bool.{_&&_, false, true≢false}
+use mathlib.Core.Bool.{_&&_, Bool, false, true≢false}
 use mathlib.Core.List.{List}
 use mathlib.Core.Path.{ap, ap₂, refl, sym, _∙_, _≡_}
 use Prim.Native.Nat.{_%_, _*_, _+_, _-_, _/_, _<_, _^_, suc, zero, ℕ}
@@ -15,13 +15,14 @@ use Rattle.base.specs.Logic.{test?}
 use Rattle.masks.proofs.Digits.{zero-digits}
 use Rattle.masks.proofs.MaskPages.{and-pages}
 use Rattle.masks.proofs.LowWords.{low-bit}
+use Rattle.masks.proofs.PageMasks.{mask-same}
 use Rattle.masks.proofs.Tracks.{holes-bit, stored-bit}
 use Rattle.masks.specs.Network.{down, gather, holesOf, kinds32, pairs, storedOf, up, wordsAt}
-use Rattle.masks.specs.Pages.{pageMask, pages}
+use Rattle.masks.specs.Pages.{entriesAt, pageMask, pages}
 use Rattle.packing.specs.Bitmap.{isOne, number-of}
 use Rattle.packing.specs.Bits.{bit, bit-lt, bit-none, bit-not, bit-or}
 use Rattle.packing.specs.Words.{Bytes, get-lt, getWord}
-use Rattle.rules.specs.State.{isStored, isUnmapped}
+use Rattle.rules.specs.State.{Entry, isStored, isUnmapped}
 use Rattle.tables.proofs.Codes.{word-hole, word-stored, word-unmapped}
 use Rattle.tables.proofs.ReadParts.{read-map}
 use Rattle.tables.specs.Layout.{mapAt, readEntry}
@@ -125,28 +126,26 @@ is-unmapped w h =
     (λ d. rw (z, word-hole w l (ltb-true w 32768 d)))
     (λ d. rw (z, word-stored w (ltb-false w 32768 d))))
 
--- ---- the map of file f in set s
+-- ---- the map that begins at byte `at`
 
-module _ (t : List ℕ) (bs : Bytes t) (f s : ℕ) (hf : f < 16) (hs : s < 8) where
-  -- the entry of page p
-  pub read-page : (p : ℕ) → p < 64 → unpack t .files f s .map p ≡ readEntry (word t bs (mapAt f s) p)
-  read-page p h = read-map t f s p hf hs h
-
+module _ (t : List ℕ) (bs : Bytes t) (at : ℕ) where
   -- LAW: the mask of the stored pages
-  pub stored-mask : storedOf (wordsAt t (mapAt f s)) ≡ pageMask isStored (unpack t .files f s .map)
+  pub stored-mask : storedOf (wordsAt t at) ≡ pageMask isStored (entriesAt t at)
   stored-mask =
-      sym (number-of (λ p. isStored (unpack t .files f s .map p)) 0 64 (storedOf (wordsAt t (mapAt f s))) (stored-lt _) (λ j l.
-      ap isOne (stored-page t bs (mapAt f s) j l) ∙ is-stored (word t bs (mapAt f s) j) (word-lt t bs (mapAt f s) j)
-      ∙ ap isStored (sym (read-page j l)) ∙ ap (λ p. isStored (unpack t .files f s .map p)) (sym (zero-add j))))
+      sym (number-of (λ p. isStored (entriesAt t at p)) 0 64 (storedOf (wordsAt t at)) (stored-lt _) (λ j l.
+      ap isOne (stored-page t bs at j l) ∙ is-stored (word t bs at j) (word-lt t bs at j) ∙ ap (λ p. isStored (entriesAt t at p)) (sym (zero-add j))))
 
   -- LAW: the mask of the unmapped pages
-  pub unmapped-mask : (2 ^ 64 - 1) - bitOr (storedOf (wordsAt t (mapAt f s))) (holesOf (wordsAt t (mapAt f s))) ≡ pageMask isUnmapped (unpack t .files f s .map)
+  pub unmapped-mask : (2 ^ 64 - 1) - bitOr (storedOf (wordsAt t at)) (holesOf (wordsAt t at)) ≡ pageMask isUnmapped (entriesAt t at)
   unmapped-mask =
-      let x = storedOf (wordsAt t (mapAt f s)) in
-      let y = holesOf (wordsAt t (mapAt f s)) in
-      sym (number-of (λ p. isUnmapped (unpack t .files f s .map p)) 0 64 ((2 ^ 64 - 1) - bitOr x y) (omega arith) (λ j l.
+      let x = storedOf (wordsAt t at) in
+      let y = holesOf (wordsAt t at) in
+      sym (number-of (λ p. isUnmapped (entriesAt t at p)) 0 64 ((2 ^ 64 - 1) - bitOr x y) (omega arith) (λ j l.
       ap isOne (bit-not 64 (63 - j) (bitOr x y) (or-lt 64 x y (stored-lt _) (holes-lt _)) (omega arith) ∙ ap (λ (z : ℕ). 1 - z) (bit-or x y (63 - j)))
       ∙ neither (bit x (63 - j)) (bit y (63 - j)) (bit-lt x (63 - j)) (bit-lt y (63 - j))
-      ∙ ap₂ (λ a b. isOne (1 - (a + b))) (stored-page t bs (mapAt f s) j l) (holes-page t bs (mapAt f s) j l)
-      ∙ is-unmapped (word t bs (mapAt f s) j) (word-lt t bs (mapAt f s) j)
-      ∙ ap isUnmapped (sym (read-page j l)) ∙ ap (λ p. isUnmapped (unpack t .files f s .map p)) (sym (zero-add j))))
+      ∙ ap₂ (λ a b. isOne (1 - (a + b))) (stored-page t bs at j l) (holes-page t bs at j l)
+      ∙ is-unmapped (word t bs at j) (word-lt t bs at j) ∙ ap (λ p. isUnmapped (entriesAt t at p)) (sym (zero-add j))))
+
+-- LAW: the masks of the map of file f in set s
+pub file-mask : (test : Entry ℕ → Bool) (t : List ℕ) (f s : ℕ) → f < 16 → s < 8 → pageMask test (entriesAt t (mapAt f s)) ≡ pageMask test (unpack t .files f s .map)
+file-mask test t f s hf hs = mask-same test (unpack t .files f s .map) (entriesAt t (mapAt f s)) (λ p h. ap test (sym (read-map t f s p hf hs h)))

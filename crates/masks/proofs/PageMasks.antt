@@ -9,7 +9,7 @@ use lib.Pow.{pow-pos}
 use borrow.Author.Tests.{eq-eqb, eqb-true, not-true}
 use Rattle.base.specs.Count.{all, all-at, all-more, all-none, all-of}
 use Rattle.base.specs.Logic.{test?}
-use Rattle.packing.specs.Bitmap.{isOne, number-digits, number-of}
+use Rattle.packing.specs.Bitmap.{isOne, number-digits, number-lt, number-of}
 use Rattle.packing.specs.Bits.{bit, bit-none}
 use Rattle.rules.specs.Reading.{someUnmapped}
 use Rattle.rules.specs.State.{Entry, isUnmapped}
@@ -20,6 +20,12 @@ module _ (test : Entry ℕ → Bool) (map : ℕ → Entry ℕ) where
   -- LAW: page p is the digit 63 - p
   pub mask-page : (p : ℕ) → p < 64 → isOne (bit (pageMask test map) (63 - p)) ≡ test (map p)
   mask-page p h = number-digits (λ p. test (map p)) 0 64 p h ∙ ap (λ x. test (map x)) (zero-add p)
+
+  -- LAW: only the 64 pages count
+  pub mask-same : (map′ : ℕ → Entry ℕ) → ((p : ℕ) → p < 64 → test (map′ p) ≡ test (map p)) → pageMask test map′ ≡ pageMask test map
+  mask-same map′ h =
+      number-of (λ p. test (map′ p)) 0 64 (pageMask test map) (number-lt (λ p. test (map p)) 0 64)
+      (λ j l. mask-page j l ∙ sym (h j l) ∙ ap (λ x. test (map′ x)) (sym (zero-add j)))
 
   -- LAW: the mask is 0 where no page passes
   pub mask-none : eqb (pageMask test map) 0 ≡ all 64 (λ p. not (test (map p)))

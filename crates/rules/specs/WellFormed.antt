@@ -56,10 +56,13 @@ abbrev pub rootFileFormed : File ℕ → Bool
 rootFileFormed x = isAbsent (x .state) || (not (isVirgin (x .state)) && not (isMarked (x .state)) && not (someUnmapped pageCount (x .map)))
 
 module _ (tb : Tables) where
-  -- "B is 1 to 4,096, next start is below B, the pages buffer is B × 512 bytes."
-  unfoldable pub headerFormed : ℕ → Bool
-  headerFormed pagesLength =
-      leb 1 (tb .blocks) && leb (tb .blocks) largestBlocks && ltb (tb .next) (tb .blocks) && eqb pagesLength (tb .blocks * pageBytes)
+  -- "B is 1 to 4,096, next start is below B, .."
+  unfoldable pub headerFormed : Bool
+  headerFormed = leb 1 (tb .blocks) && leb (tb .blocks) largestBlocks && ltb (tb .next) (tb .blocks)
+
+  -- ".. the pages buffer is B × 512 bytes.": of tables and pages, so it stands apart
+  abbrev pub pagesFit : ℕ → Bool
+  pagesFit pagesLength = eqb pagesLength (tb .blocks * pageBytes)
 
   -- how many entries name block b
   unfoldable pub timesNamed : ℕ → ℕ
@@ -125,8 +128,8 @@ module _ (tb : Tables) where
       && allFiles pastFormed
 
   -- the rules on B, next start, blocks and bits; those on sets and files
-  abbrev pub blocksFormed : ℕ → Bool
-  blocksFormed pagesLength = headerFormed pagesLength && bitsFormed
+  abbrev pub blocksFormed : Bool
+  blocksFormed = headerFormed && bitsFormed
 
   abbrev pub setsFormed : Bool
   setsFormed = zerosFormed && treeFormed && filesFormed

@@ -4,8 +4,8 @@ use mathlib.Core.List.{List}
 use mathlib.Core.Path.{ap, _∙_, _≡_}
 use Prim.Native.Nat.{_%_, _*_, _/_, _<_, ℕ, _≤_}
 use native.Mathlib.Omega.{arith}
-use lib.Dec.{eqb}
-use borrow.Author.Tests.{le-leb, le-ltb, lt-leb, lt-ltb}
+use lib.Dec.{eqb, ltb}
+use borrow.Author.Tests.{le-leb, lt-leb}
 use Rattle.packing.specs.Fields.{getField}
 use Rattle.rules.specs.State.{Tables}
 use Rattle.rules.specs.WellFormed.{headerFormed}
@@ -40,19 +40,15 @@ pub set-field : (t : List ℕ) (s w : ℕ) → w ≡ setWord t s → eqb (w % 12
 set-field t s w e = ap (λ x. eqb x 0) (low-field w) ∙ ap (λ x. eqb (getField setWidths x 6) 0) e
 
 -- the header: b blocks and the next start x, in the order of the code's tests
-module _ (tb : Tables) (n b x : ℕ) (eb : b ≡ tb .blocks) (ex : x ≡ tb .next) where
-  pub header-none : b < 1 → false ≡ headerFormed tb n
+module _ (tb : Tables) (b x : ℕ) (eb : b ≡ tb .blocks) (ex : x ≡ tb .next) where
+  pub header-none : b < 1 → false ≡ headerFormed tb
   unfolding headerFormed
   header-none h = rw (← eb, lt-leb 1 b h)
 
-  pub header-many : 1 ≤ b → 4096 < b → false ≡ headerFormed tb n
+  pub header-many : 1 ≤ b → 4096 < b → false ≡ headerFormed tb
   unfolding headerFormed
   header-many h k = rw (← eb, le-leb 1 b h, lt-leb b 4096 k)
 
-  pub header-next : 1 ≤ b → b ≤ 4096 → b ≤ x → false ≡ headerFormed tb n
+  pub header-next : 1 ≤ b → b ≤ 4096 → ltb x b ≡ headerFormed tb
   unfolding headerFormed
-  header-next h k l = rw (← eb, ← ex, le-leb 1 b h, le-leb b 4096 k, le-ltb x b l)
-
-  pub header-pages : 1 ≤ b → b ≤ 4096 → x < b → eqb n (b * 512) ≡ headerFormed tb n
-  unfolding headerFormed
-  header-pages h k l = rw (← eb, ← ex, le-leb 1 b h, le-leb b 4096 k, lt-ltb x b l)
+  header-next h k = rw (← eb, ← ex, le-leb 1 b h, le-leb b 4096 k)

@@ -3,3 +3,4 @@ pub mod Zeros
 pub mod Links
 pub mod Places
 pub mod WellFormedParts
+pub mod Parts

@@ -2,7 +2,7 @@
 -- Assumes nothing.
 use mathlib.Core.Bool.{_&&_, Bool, false, not, true, _||_}
 use mathlib.Core.List.{List}
-use mathlib.Core.Path.{refl, sym, _∙_, _≡_}
+use mathlib.Core.Path.{ap, refl, sym, _∙_, _≡_}
 use Prim.Native.Nat.{ℕ}
 use lib.Dec.{eqb}
 use lib.ListN.{length}
@@ -11,7 +11,7 @@ use Rattle.packing.specs.Fields.{getField}
 use Rattle.rules.proofs.Tree.SetsFormed.{sets-formed}
 use Rattle.rules.proofs.Tree.SetsOk.{SetsOk}
 use Rattle.rules.specs.State.{isAbsent}
-use Rattle.rules.specs.WellFormed.{allFiles, allSets, bitsFormed, filesFormed, headerFormed, treeFormed, zeroFile, zeroSet, zerosFormed}
+use Rattle.rules.specs.WellFormed.{allFiles, allSets, bitsFormed, filesFormed, headerFormed, pagesFit, treeFormed, zeroFile, zeroSet, zerosFormed}
 use Rattle.setcheck.specs.Records.{fileRecordsFormed, headerZero, setRecordsFormed, setZero, unusedZero, zerosOfSets}
 use Rattle.tables.proofs.ReadParts.{set-default}
 use Rattle.tables.specs.Layout.{headWidths, headWord, setWidths, setWord, tableBytes}
@@ -27,13 +27,11 @@ by-record true true true true false f g h = sym (and-false g)
 by-record true true true true true false g h = sym (and-false g)
 by-record true true true true true true g h = refl
 
--- the parts of `wellFormed` in another order
-header-first : (l k f b z s r : Bool) → (l && k && (f && b) && (z && s && r)) ≡ (l && f && z && s && (k && b && r))
-header-first false k f b z s r = refl
-header-first true false f b z s r = sym (and-false (f && z && s))
-header-first true true false b z s r = refl
-header-first true true true false z s r = sym (and-false (z && s))
-header-first true true true true z s r = refl
+-- the parts of `blockRules` in another order
+header-first : (l k f b : Bool) → (l && k && (f && b)) ≡ (l && f && (k && b))
+header-first false k f b = refl
+header-first true false f b = sym (and-false f)
+header-first true true f b = refl
 
 module _ (t : List ℕ) where
   -- LAW: the zero rules on set records are those of `fieldsFormed` and `zerosFormed`
@@ -42,7 +40,7 @@ module _ (t : List ℕ) where
   zeros-say = refl
 
   -- LAW: the rules on zero fields, sets and files are those on the header's zero field, on set records and on file records
-  set-rules-parts : setRules t ≡ (headerZero t && setRecordsFormed t && fileRecordsFormed t)
+  pub set-rules-parts : setRules t ≡ (headerZero t && setRecordsFormed t && fileRecordsFormed t)
   unfolding setRules fieldsFormed zerosFormed setRecordsFormed zerosOfSets unusedZero fileRecordsFormed
   set-rules-parts =
       by-record (headerZero t) (allSets (setZero t)) (allFiles (λ f s. eqb (getField headWidths (headWord t f s) 2) 0))
@@ -52,15 +50,15 @@ module _ (t : List ℕ) where
       (treeFormed (unpack t))
       (filesFormed (unpack t))
 
-  -- LAW: well formed is what the check of header and set records says, and then the rules on entries, bits and file records
-  pub well-formed-parts : (n : ℕ) → wellFormed t n
-      ≡ (eqb (length t) tableBytes && headerFormed (unpack t) n && headerZero t && setRecordsFormed t
-      && (kindsFormed t && bitsFormed (unpack t) && fileRecordsFormed t))
-  unfolding wellFormed blockRules
-  well-formed-parts n =
-      rw set-rules-parts
-      (header-first (eqb (length t) tableBytes) (kindsFormed t) (headerFormed (unpack t) n) (bitsFormed (unpack t)) (headerZero t) (setRecordsFormed t)
-      (fileRecordsFormed t))
+  -- LAW: the first part of the check is the length, the header, and then the entries and the bits
+  pub block-rules-parts : blockRules t ≡ (eqb (length t) tableBytes && headerFormed (unpack t) && (kindsFormed t && bitsFormed (unpack t)))
+  unfolding blockRules
+  block-rules-parts = header-first (eqb (length t) tableBytes) (kindsFormed t) (headerFormed (unpack t)) (bitsFormed (unpack t))
+
+  -- LAW: well formed is the first part, the pages buffer's length, and then what concerns the header's zero field, set records and file records
+  pub well-formed-parts : (n : ℕ) → wellFormed t n ≡ (blockRules t && pagesFit (unpack t) n && (headerZero t && setRecordsFormed t && fileRecordsFormed t))
+  unfolding wellFormed
+  well-formed-parts n = ap (λ b. blockRules t && pagesFit (unpack t) n && b) set-rules-parts
 
   -- set records that pass
   module _ (h : setRecordsFormed t ≡ true) where

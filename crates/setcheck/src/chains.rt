@@ -7,14 +7,14 @@ ghost use lib.ListN.{length};
 ghost use Rattle.rules.specs.Rules.{countIn};
 ghost use Rattle.rules.specs.State.{chain, childrenOf};
 ghost use Rattle.rules.specs.WellFormed.{allIn, chainEnds, chainFormed, linkFormed};
-ghost use Rattle.tables.specs.Layout.{tableBytes};
+ghost use Rattle.tables.specs.Layout.{filesAt};
 ghost use Rattle.tables.specs.Packed.{unpack};
 use tables::sets::next_sibling_of;
 use tables::sets::set_at;
 
 // "links are 8 or used sets"
 fn link_formed(t: &[u8], k: usize) -> bool
-    requires { ⌜ length (now t) ≡ tableBytes ⌝ }
+    requires { ⌜ filesAt ≤ length (now t) ⌝ }
     ensures { λ r. ⌜ r ≡ linkFormed (unpack (now (t .entry))) k ⌝ }
 {
     if k == 8 {
@@ -29,7 +29,7 @@ fn link_formed(t: &[u8], k: usize) -> bool
 
 // "Chains end": does the chain that begins at k end within 8 sets?
 fn chain_ends(t: &[u8], k: usize) -> bool
-    requires { ⌜ length (now t) ≡ tableBytes ⌝ }
+    requires { ⌜ filesAt ≤ length (now t) ⌝ }
     ensures { λ r. ⌜ r ≡ chainEnds (unpack (now (t .entry))) 8 k ⌝ }
 {
     let mut at = k;
@@ -46,7 +46,7 @@ fn chain_ends(t: &[u8], k: usize) -> bool
 
 // Do all sets of the chain that begins at k have the parent s?
 fn chain_below(t: &[u8], k: usize, s: usize) -> bool
-    requires { ⌜ length (now t) ≡ tableBytes ⌝ }
+    requires { ⌜ filesAt ≤ length (now t) ⌝ }
     ensures { λ r. ⌜ r ≡ allIn (chain (unpack (now (t .entry)) .sets) 8 k) (λ c. eqb (unpack (now (t .entry)) .sets c .parent) s) ⌝ }
 {
     let mut at = k;
@@ -67,7 +67,7 @@ fn chain_below(t: &[u8], k: usize, s: usize) -> bool
 
 // "hold only that parent's children": the chain of set s, empty where s is unused.
 fn chain_of_parent(t: &[u8], s: usize) -> bool
-    requires { ⌜ (length (now t) ≡ tableBytes) × (s < 8) ⌝ }
+    requires { ⌜ (filesAt ≤ length (now t)) × (s < 8) ⌝ }
     ensures { λ r. ⌜ r ≡ allIn (childrenOf (unpack (now (t .entry)) .sets) s) (λ c. eqb (unpack (now (t .entry)) .sets c .parent) s) ⌝ }
 {
     let r = set_at(t, s);
@@ -88,7 +88,7 @@ fn one_if_same(c: usize, x: usize) -> usize
 
 // How often c stands in the chain that begins at k.
 fn times_from(t: &[u8], c: usize, k: usize) -> usize
-    requires { ⌜ length (now t) ≡ tableBytes ⌝ }
+    requires { ⌜ filesAt ≤ length (now t) ⌝ }
     ensures { λ r. ⌜ (r ≡ countIn (chain (unpack (now (t .entry)) .sets) 8 k) (λ x. eqb c x)) × (r ≤ 8) ⌝ }
 {
     let mut at = k;
@@ -107,7 +107,7 @@ fn times_from(t: &[u8], c: usize, k: usize) -> usize
 
 // How often c stands in the child chain of set s.
 pub fn times_in_chain(t: &[u8], c: usize, s: usize) -> usize
-    requires { ⌜ (length (now t) ≡ tableBytes) × (s < 8) ⌝ }
+    requires { ⌜ (filesAt ≤ length (now t)) × (s < 8) ⌝ }
     ensures { λ r. ⌜ (r ≡ countIn (childrenOf (unpack (now (t .entry)) .sets) s) (λ x. eqb c x)) × (r ≤ 8) ⌝ }
 {
     let r = set_at(t, s);
@@ -119,7 +119,7 @@ pub fn times_in_chain(t: &[u8], c: usize, s: usize) -> usize
 
 // "Chains end and hold only that parent's children": the links and the child chain of set s.
 pub fn chain_formed(t: &[u8], s: usize) -> bool
-    requires { ⌜ (length (now t) ≡ tableBytes) × (s < 8) ⌝ }
+    requires { ⌜ (filesAt ≤ length (now t)) × (s < 8) ⌝ }
     ensures { λ r. ⌜ r ≡ chainFormed (unpack (now (t .entry))) s ⌝ }
 {
     let r = set_at(t, s);

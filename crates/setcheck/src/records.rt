@@ -1,9 +1,9 @@
 // The zero rules on set records.
 ghost use mathlib.Core.Path.{_≡_};
-ghost use Prim.Native.Nat.{_<_};
+ghost use Prim.Native.Nat.{_<_, _≤_};
 ghost use lib.ListN.{length};
 ghost use Rattle.rules.specs.WellFormed.{zeroSet};
-ghost use Rattle.tables.specs.Layout.{tableBytes};
+ghost use Rattle.tables.specs.Layout.{filesAt};
 ghost use Rattle.tables.specs.Packed.{unpack};
 ghost use Rattle.tables.specs.Meaning.{setMeant};
 ghost use Rattle.setcheck.specs.Records.{setZero, unusedZero, zerosOfSets};
@@ -15,7 +15,7 @@ use tables::sets::set_at;
 
 // "Zero fields are zero": that of a set record.
 fn set_zero(t: &[u8], s: usize) -> bool
-    requires { ⌜ (length (now t) ≡ tableBytes) × (s < 8) ⌝ }
+    requires { ⌜ (filesAt ≤ length (now t)) × (s < 8) ⌝ }
     ensures { λ r. ⌜ r ≡ setZero (now (t .entry)) s ⌝ }
 {
     words::read24(t, SETS_AT + s * SET_BYTES) % 128 == 0
@@ -42,7 +42,7 @@ fn zero_record(r: SetRecord) -> bool
 
 // "Unused sets are all zero": one set.
 fn unused_zero(t: &[u8], s: usize) -> bool
-    requires { ⌜ (length (now t) ≡ tableBytes) × (s < 8) ⌝ }
+    requires { ⌜ (filesAt ≤ length (now t)) × (s < 8) ⌝ }
     ensures { λ r. ⌜ r ≡ unusedZero (unpack (now (t .entry))) s ⌝ }
 {
     let r = set_at(t, s);
@@ -54,7 +54,7 @@ fn unused_zero(t: &[u8], s: usize) -> bool
 
 // The two rules above for all sets.
 pub fn zeros_of_sets(t: &[u8]) -> bool
-    requires { ⌜ length (now t) ≡ tableBytes ⌝ }
+    requires { ⌜ filesAt ≤ length (now t) ⌝ }
     ensures { λ r. ⌜ r ≡ zerosOfSets (now (t .entry)) ⌝ }
 {
     for s in 0..8 {

@@ -1,9 +1,9 @@
 // The tree of sets.
 ghost use mathlib.Core.Path.{_≡_};
-ghost use Prim.Native.Nat.{_<_};
+ghost use Prim.Native.Nat.{_<_, _≤_};
 ghost use lib.ListN.{length};
 ghost use Rattle.rules.specs.WellFormed.{placeFormed, rootFormed, treeFormed};
-ghost use Rattle.tables.specs.Layout.{tableBytes};
+ghost use Rattle.tables.specs.Layout.{filesAt};
 ghost use Rattle.tables.specs.Packed.{unpack};
 ghost use Rattle.setcheck.specs.Records.{setInTree, setRecordsFormed};
 use crate::chains::chain_formed;
@@ -15,7 +15,7 @@ use tables::sets::set_at;
 
 // "Set 0 is used, writeable, level 0, with no parent or sibling."
 fn root_formed(t: &[u8]) -> bool
-    requires { ⌜ length (now t) ≡ tableBytes ⌝ }
+    requires { ⌜ filesAt ≤ length (now t) ⌝ }
     ensures { λ r. ⌜ r ≡ rootFormed (unpack (now (t .entry))) ⌝ }
 {
     let r = set_at(t, 0);
@@ -36,7 +36,7 @@ fn root_formed(t: &[u8]) -> bool
 
 // "Each other used set stands once, in its parent's child chain, with the right level, at most 5."
 fn place_formed(t: &[u8], c: usize) -> bool
-    requires { ⌜ (length (now t) ≡ tableBytes) × (c < 8) ⌝ }
+    requires { ⌜ (filesAt ≤ length (now t)) × (c < 8) ⌝ }
     ensures { λ r. ⌜ r ≡ placeFormed (unpack (now (t .entry))) c ⌝ }
 {
     let s = parent_of(t, c);
@@ -55,7 +55,7 @@ fn place_formed(t: &[u8], c: usize) -> bool
 
 // The rules of the tree for one set: none where it is unused.
 fn set_in_tree(t: &[u8], s: usize) -> bool
-    requires { ⌜ (length (now t) ≡ tableBytes) × (s < 8) ⌝ }
+    requires { ⌜ (filesAt ≤ length (now t)) × (s < 8) ⌝ }
     ensures { λ r. ⌜ r ≡ setInTree (unpack (now (t .entry))) s ⌝ }
 {
     let r = set_at(t, s);
@@ -73,7 +73,7 @@ fn set_in_tree(t: &[u8], s: usize) -> bool
 
 // The root, and the rules of the tree for all sets.
 fn tree_formed(t: &[u8]) -> bool
-    requires { ⌜ length (now t) ≡ tableBytes ⌝ }
+    requires { ⌜ filesAt ≤ length (now t) ⌝ }
     ensures { λ r. ⌜ r ≡ treeFormed (unpack (now (t .entry))) ⌝ }
 {
     if !root_formed(t) {
@@ -89,7 +89,7 @@ fn tree_formed(t: &[u8]) -> bool
 
 // All rules on set records.
 pub fn sets_formed(t: &[u8]) -> bool
-    requires { ⌜ length (now t) ≡ tableBytes ⌝ }
+    requires { ⌜ filesAt ≤ length (now t) ⌝ }
     ensures { λ r. ⌜ r ≡ setRecordsFormed (now (t .entry)) ⌝ }
 {
     if !zeros_of_sets(t) {

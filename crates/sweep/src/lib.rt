@@ -6,6 +6,7 @@ ghost use mathlib.Core.Path.{_≡_};
 ghost use lib.Dec.{eqb};
 ghost use Rattle.rules.specs.Numbers;
 ghost use Rattle.tables.specs.Calls.{callOn};
+ghost use Rattle.tables.specs.Checks.{checkBlocksOn, checkOn};
 ghost use Rattle.calls.specs.Outcomes.{outcome};
 use calls::answer::Answer;
 
@@ -104,4 +105,20 @@ pub extern "C" fn sweep_free(tables: &[u8], pages: &[u8]) -> Answer
     ensures { λ r. ⌜ outcome r (now (tables .entry)) (now (pages .entry)) [] ≡ callOn Numbers.tellFree (now (tables .entry)) (now (pages .entry)) ⌝ }
 {
     calls::looks::free(tables, pages)
+}
+
+// The first part of the well-formed check: the tables alone.
+#[no_mangle]
+pub extern "C" fn sweep_check_blocks(tables: &[u8]) -> Answer
+    ensures { λ r. ⌜ outcome r (now (tables .entry)) [] [] ≡ checkBlocksOn (now (tables .entry)) ⌝ }
+{
+    calls::checks::check_blocks(tables)
+}
+
+// The whole check.
+#[no_mangle]
+pub extern "C" fn sweep_check(tables: &[u8], pages: &[u8]) -> Answer
+    ensures { λ r. ⌜ outcome r (now (tables .entry)) (now (pages .entry)) [] ≡ checkOn (now (tables .entry)) (now (pages .entry)) ⌝ }
+{
+    calls::checks::check(tables, pages)
 }

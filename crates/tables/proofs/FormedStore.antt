@@ -16,7 +16,7 @@ use Rattle.rules.proofs.Tree.SetsOk.{SetsOk}
 use Rattle.rules.proofs.Formed.Shape.{FilesFormed}
 use Rattle.rules.proofs.Tally.TallyLoops.{no-pages}
 use Rattle.rules.specs.State.{File, SetRecord, Tables, absentFile, pageBytes, treeOf}
-use Rattle.rules.specs.WellFormed.{bitsFormed, blocksFormed, filesFormed, headerFormed, setsFormed, treeFormed, zerosFormed}
+use Rattle.rules.specs.WellFormed.{bitsFormed, blocksFormed, filesFormed, headerFormed, pagesFit, setsFormed, treeFormed, zerosFormed}
 use Rattle.tables.proofs.OneReading.{formed-packed}
 use Rattle.tables.proofs.ReadParts.{bit-default, map-default, set-default, size-default, state-default}
 use Rattle.tables.specs.Calls.{storeOf}
@@ -24,19 +24,16 @@ use Rattle.tables.specs.Layout.{tableBytes}
 use Rattle.tables.specs.Packed.{blockRules, fieldsFormed, isFile, kindsFormed, setRules, unpack, wellFormed}
 use Rattle.tables.specs.Views.{HeaderIn, PackedTables}
 
--- a header that passes: B is 1 to 4,096, next start is below B, and the pages buffer is B × 512 bytes
-pub header-in : (tb : Tables) (n : ℕ) → headerFormed tb n ≡ true → HeaderIn tb × (n ≡ tb .blocks * pageBytes)
+-- a header that passes: B is 1 to 4,096, next start is below B
+pub header-in : (tb : Tables) → headerFormed tb ≡ true → HeaderIn tb
 unfolding headerFormed
-header-in tb n h =
-    let a = and-left (leb 1 (tb .blocks) && leb (tb .blocks) 4096 && ltb (tb .next) (tb .blocks)) (eqb n (tb .blocks * 512)) h in
-    let b = and-left (leb 1 (tb .blocks) && leb (tb .blocks) 4096) (ltb (tb .next) (tb .blocks)) a in (
-      record {
-        at-least = leb-true 1 (tb .blocks) (and-left (leb 1 (tb .blocks)) (leb (tb .blocks) 4096) b);
-        most = leb-true (tb .blocks) 4096 (and-right (leb 1 (tb .blocks)) (leb (tb .blocks) 4096) b);
-        next-in = ltb-true (tb .next) (tb .blocks) (and-right (leb 1 (tb .blocks) && leb (tb .blocks) 4096) (ltb (tb .next) (tb .blocks)) a);
-      },
-      eqb-true n (tb .blocks * 512) (and-right (leb 1 (tb .blocks) && leb (tb .blocks) 4096 && ltb (tb .next) (tb .blocks)) (eqb n (tb .blocks * 512)) h),
-    )
+header-in tb h =
+    let b = and-left (leb 1 (tb .blocks) && leb (tb .blocks) 4096) (ltb (tb .next) (tb .blocks)) h in
+    record {
+      at-least = leb-true 1 (tb .blocks) (and-left (leb 1 (tb .blocks)) (leb (tb .blocks) 4096) b);
+      most = leb-true (tb .blocks) 4096 (and-right (leb 1 (tb .blocks)) (leb (tb .blocks) 4096) b);
+      next-in = ltb-true (tb .next) (tb .blocks) (and-right (leb 1 (tb .blocks) && leb (tb .blocks) 4096) (ltb (tb .next) (tb .blocks)) h);
+    }
 
 pub record FormedStore (t p : List ℕ) : Type 0 where
   -- words are well formed; block count, next start and pages fit
@@ -88,18 +85,18 @@ pub formed-store : (t p : List ℕ) → wellFormed t (length p) ≡ true → For
 unfolding wellFormed blockRules setRules
 formed-store t p h =
     let n = length p in
-    let blocks = and-right (eqb (length t) tableBytes && kindsFormed t) (blocksFormed (unpack t) n) (and-left (blockRules t n) (setRules t) h) in
-    let sets = and-right (fieldsFormed t) (setsFormed (unpack t)) (and-right (blockRules t n) (setRules t) h) in
-    let hd = and-left (headerFormed (unpack t) n) (bitsFormed (unpack t)) blocks in
-    let bits = and-right (headerFormed (unpack t) n) (bitsFormed (unpack t)) blocks in
+    let first = and-left (blockRules t && pagesFit (unpack t) n) (setRules t) h in
+    let blocks = and-right (eqb (length t) tableBytes && kindsFormed t) (blocksFormed (unpack t)) (and-left (blockRules t) (pagesFit (unpack t) n) first) in
+    let sets = and-right (fieldsFormed t) (setsFormed (unpack t)) (and-right (blockRules t && pagesFit (unpack t) n) (setRules t) h) in
+    let hd = and-left (headerFormed (unpack t)) (bitsFormed (unpack t)) blocks in
+    let bits = and-right (headerFormed (unpack t)) (bitsFormed (unpack t)) blocks in
     let z = and-left (zerosFormed (unpack t)) (treeFormed (unpack t)) (and-left (zerosFormed (unpack t) && treeFormed (unpack t)) (filesFormed (unpack t)) sets) in
-    let q = header-in (unpack t) n hd in
     let st = formed-state (unpack t) (ranged t) sets in
-    let ok : BlocksOk (storeOf t p) = blocks-formed (storeOf t p) (empty-beyond t) (absent-beyond t) n hd bits z in
+    let ok : BlocksOk (storeOf t p) = blocks-formed (storeOf t p) (empty-beyond t) (absent-beyond t) hd bits z in
     record {
       packed = formed-packed t n h;
-      header = q .0;
-      pages = q .1;
+      header = header-in (unpack t) hd;
+      pages = eqb-true n (unpack t .blocks * pageBytes) (and-right (blockRules t) (pagesFit (unpack t) n) first);
       sets-ok = st .sets-ok;
       files-ok = st .files-ok;
       blocks-ok = ok;

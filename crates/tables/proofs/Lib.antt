@@ -4,6 +4,7 @@ pub mod Layouts
 pub mod Lengths
 pub mod PackedTables
 pub mod ReadParts
+pub mod Parts
 pub mod PackWords
 pub mod PackUnpack
 pub mod OneReading

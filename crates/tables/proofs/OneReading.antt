@@ -7,7 +7,7 @@ use lib.Dec.{eqb}
 use lib.ListN.{length}
 use borrow.Author.Tests.{eqb-true}
 use Rattle.base.specs.Logic.{and-left, and-right}
-use Rattle.rules.specs.WellFormed.{blocksFormed, setsFormed}
+use Rattle.rules.specs.WellFormed.{blocksFormed, pagesFit, setsFormed}
 use Rattle.tables.proofs.PackUnpack.{pack-unpack, unpack-fits, unpack-pack}
 use Rattle.tables.proofs.PackedTables.{packed-of}
 use Rattle.tables.specs.Layout.{tableBytes}
@@ -19,12 +19,12 @@ use Rattle.tables.specs.Views.{PackedTables}
 pub formed-packed : (t : List ℕ) (n : ℕ) → wellFormed t n ≡ true → PackedTables t
 unfolding wellFormed blockRules setRules
 formed-packed t n h =
-    let blocks = and-left (blockRules t n) (setRules t) h in
-    let lk = and-left (eqb (length t) tableBytes && kindsFormed t) (blocksFormed (unpack t) n) blocks in
+    let blocks = and-left (blockRules t) (pagesFit (unpack t) n) (and-left (blockRules t && pagesFit (unpack t) n) (setRules t) h) in
+    let lk = and-left (eqb (length t) tableBytes && kindsFormed t) (blocksFormed (unpack t)) blocks in
     packed-of t
     (eqb-true (length t) tableBytes (and-left (eqb (length t) tableBytes) (kindsFormed t) lk))
     (and-right (eqb (length t) tableBytes) (kindsFormed t) lk)
-    (and-left (fieldsFormed t) (setsFormed (unpack t)) (and-right (blockRules t n) (setRules t) h))
+    (and-left (fieldsFormed t) (setsFormed (unpack t)) (and-right (blockRules t && pagesFit (unpack t) n) (setRules t) h))
 
 -- THEOREM
 pub one-reading : OneReadingClaim

@@ -67,9 +67,12 @@ mapAt f s = mapsAt + (s * fileCount + f) * fileBytes
 abbrev pub entryAt : ℕ → ℕ → ℕ → ℕ
 entryAt f s p = mapAt f s + p * entryBytes
 
+abbrev pub filesBytes : ℕ
+filesBytes = setCount * setFilesBytes
+
 -- "The tables are 17,436 bytes"
 abbrev pub tableBytes : ℕ
-tableBytes = filesAt + setCount * setFilesBytes
+tableBytes = filesAt + filesBytes
 
 -- "block count B 13, next start 12, zero 7"
 abbrev pub headerWidths : List ℕ
@@ -114,7 +117,7 @@ stateNumber own = 1
 stateNumber virgin = 2
 stateNumber marked = 3
 
--- "Kind: 0 unmapped, 1 hole, 2 stored; 3 is bad."
+-- "Kind: 0 unmapped, 1 hole, 2 stored; 3 is bad.": here 3 is read as stored; `entryFormed` refuses it
 abbrev pub entryOf : ℕ → ℕ → Entry ℕ
 entryOf zero block = unmapped
 entryOf (suc zero) block = hole

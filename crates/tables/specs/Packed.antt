@@ -9,7 +9,7 @@ use Rattle.packing.specs.Bitmap.{bitAt, mapByte}
 use Rattle.packing.specs.Fields.{getField}
 use Rattle.packing.specs.Words.{byte}
 use Rattle.rules.specs.State.{File, Tables, absent, fileCount, largestBlocks, pageCount, setCount, unmapped, unusedSet}
-use Rattle.rules.specs.WellFormed.{allFiles, allPages, allSets, blocksFormed, setsFormed}
+use Rattle.rules.specs.WellFormed.{allFiles, allPages, allSets, blocksFormed, pagesFit, setsFormed}
 use Rattle.tables.specs.Layout.{bitmapAt, entryBytes, entryWidths, entryWord, fileBytes, filesAt, headBytes, headWidths, headWord, headerWidths, headerWord, readBlocks, readEntry, readNext, readSet, readSize, readState, setBytes, setWidths, setWord, setsAt, tableBytes, writeEntry, writeHead, writeHeader, writeSet}
 
 -- is there such a file, such a page of it
@@ -68,9 +68,10 @@ module _ (t : List ℕ) where
       && allSets (λ s. eqb (getField setWidths (setWord t s) 6) 0)
       && allFiles (λ f s. eqb (getField headWidths (headWord t f s) 2) 0)
 
-  -- the rules on length, B, next start, kinds, blocks and bits
-  unfoldable pub blockRules : ℕ → Bool
-  blockRules pagesLength = eqb (length t) tableBytes && kindsFormed && blocksFormed (unpack t) pagesLength
+  -- THE FIRST PART, document 02, Ask 4: it "accepts exactly the tables of right length that meet the rules on B, next start, kinds, blocks and bits,
+  -- whatever else they hold". It is about the tables alone, and about all 128 × 64 entries, whatever the states of files and the uses of sets are.
+  unfoldable pub blockRules : Bool
+  blockRules = eqb (length t) tableBytes && kindsFormed && blocksFormed (unpack t)
 
   -- the rules on zero fields, sets and files
   unfoldable pub setRules : Bool
@@ -78,4 +79,4 @@ module _ (t : List ℕ) where
 
   -- WELL FORMED, with a pages buffer of so many bytes
   unfoldable pub wellFormed : ℕ → Bool
-  wellFormed pagesLength = blockRules pagesLength && setRules
+  wellFormed pagesLength = blockRules && pagesFit (unpack t) pagesLength && setRules

@@ -5,7 +5,7 @@ ghost use Prim.Native.Nat.{ℕ, _<_, _≤_};
 ghost use lib.Dec.{leb};
 ghost use lib.ListN.{length};
 ghost use Rattle.base.specs.Count.{count};
-ghost use Rattle.tables.specs.Layout.{tableBytes};
+ghost use Rattle.tables.specs.Layout.{filesAt, tableBytes};
 ghost use Rattle.tables.specs.Packed.{unpack};
 ghost use Rattle.tables.specs.Views.{PackedTables, Turns, putNextIn};
 use crate::places::BITMAP_AT;
@@ -21,14 +21,14 @@ fn wide(x: u8) -> usize
 // The header is read and written byte by byte: taking a block reads what the last one wrote, and a byte that was just
 // written can be read at once, where a word would have to wait.
 pub fn block_count(t: &[u8]) -> usize
-    requires { ⌜ length (now t) ≡ tableBytes ⌝ }
+    requires { ⌜ filesAt ≤ length (now t) ⌝ }
     ensures { λ r. ⌜ (r ≡ unpack (now (t .entry)) .blocks) × (r < 8192) ⌝ }
 {
     wide(t[0]) * 32 + wide(t[1]) / 8
 }
 
 pub fn next_start(t: &[u8]) -> usize
-    requires { ⌜ length (now t) ≡ tableBytes ⌝ }
+    requires { ⌜ filesAt ≤ length (now t) ⌝ }
     ensures { λ r. ⌜ (r ≡ unpack (now (t .entry)) .next) × (r < 4096) ⌝ }
 {
     wide(t[1]) % 8 * 512 + wide(t[2]) * 2 + wide(t[3]) / 128

@@ -3,8 +3,6 @@
 
 const HEADER_BYTES: usize = 4;
 
-const HEAD_BYTES: usize = 4;
-
 // "bitmap, 512 bytes"
 pub const BITMAP_AT: usize = HEADER_BYTES;
 
@@ -16,6 +14,8 @@ pub const SETS_AT: usize = BITMAP_AT + BITMAP_BYTES;
 pub const SET_BYTES: usize = 3;
 
 // A file record: its head, "then 64 entries" of 16 bits, its map.
+pub const HEAD_BYTES: usize = 4;
+
 pub const MAP_BYTES: usize = 64 * 2;
 
 pub const FILE_BYTES: usize = HEAD_BYTES + MAP_BYTES;

@@ -1,9 +1,9 @@
-// Set records.
+// Set records. What reads them asks only for the bytes before the file records.
 ghost use mathlib.Core.Path.{_≡_};
-ghost use Prim.Native.Nat.{_<_};
+ghost use Prim.Native.Nat.{_<_, _≤_};
 ghost use lib.ListN.{length};
 ghost use Rattle.base.specs.Logic;
-ghost use Rattle.tables.specs.Layout.{tableBytes, writeSet};
+ghost use Rattle.tables.specs.Layout.{filesAt, writeSet};
 ghost use Rattle.tables.specs.Packed.{unpack};
 ghost use Rattle.tables.specs.OneReading.{SetFits};
 ghost use Rattle.tables.specs.Views.{PackedTables, Turns, putSetIn};
@@ -22,7 +22,7 @@ pub struct SetRecord {
 }
 
 pub fn set_at(t: &[u8], s: usize) -> SetRecord
-    requires { ⌜ (length (now t) ≡ tableBytes) × (s < 8) ⌝ }
+    requires { ⌜ (filesAt ≤ length (now t)) × (s < 8) ⌝ }
     ensures { λ r. ⌜ (setMeant r ≡ unpack (now (t .entry)) .sets s) × SetFits (setMeant r) ⌝ }
 {
     let w = words::read24(t, SETS_AT + s * SET_BYTES);
@@ -37,28 +37,28 @@ pub fn set_at(t: &[u8], s: usize) -> SetRecord
 }
 
 pub fn parent_of(t: &[u8], s: usize) -> usize
-    requires { ⌜ (length (now t) ≡ tableBytes) × (s < 8) ⌝ }
+    requires { ⌜ (filesAt ≤ length (now t)) × (s < 8) ⌝ }
     ensures { λ r. ⌜ (r ≡ unpack (now (t .entry)) .sets s .parent) × (r < 16) ⌝ }
 {
     (words::read24(t, SETS_AT + s * SET_BYTES) / 32768 % 16) as usize
 }
 
 pub fn level_of(t: &[u8], s: usize) -> usize
-    requires { ⌜ (length (now t) ≡ tableBytes) × (s < 8) ⌝ }
+    requires { ⌜ (filesAt ≤ length (now t)) × (s < 8) ⌝ }
     ensures { λ r. ⌜ (r ≡ unpack (now (t .entry)) .sets s .level) × (r < 8) ⌝ }
 {
     (words::read24(t, SETS_AT + s * SET_BYTES) / 524288 % 8) as usize
 }
 
 pub fn first_child_of(t: &[u8], s: usize) -> usize
-    requires { ⌜ (length (now t) ≡ tableBytes) × (s < 8) ⌝ }
+    requires { ⌜ (filesAt ≤ length (now t)) × (s < 8) ⌝ }
     ensures { λ r. ⌜ (r ≡ unpack (now (t .entry)) .sets s .firstChild) × (r < 16) ⌝ }
 {
     (words::read24(t, SETS_AT + s * SET_BYTES) / 2048 % 16) as usize
 }
 
 pub fn next_sibling_of(t: &[u8], s: usize) -> usize
-    requires { ⌜ (length (now t) ≡ tableBytes) × (s < 8) ⌝ }
+    requires { ⌜ (filesAt ≤ length (now t)) × (s < 8) ⌝ }
     ensures { λ r. ⌜ (r ≡ unpack (now (t .entry)) .sets s .nextSibling) × (r < 16) ⌝ }
 {
     (words::read24(t, SETS_AT + s * SET_BYTES) / 128 % 16) as usize

@@ -3,6 +3,7 @@ use mathlib.Core.Bool.{_&&_, not}
 use mathlib.Core.Path.{ap, sym, _∙_}
 use borrow.Author.Needs.{needs}
 use mathlib.Core.List.{[]}
+use native.Mathlib.Omega.{arith}
 use borrow.Author.Tests.{le-leb, le-ltb, lt-leb, lt-ltb, not-false}
 use Rattle.numbers.proofs.Rows.{first-applies, here, make-row, neither-applies, none-left, past, used-is, used-low, used-not}
 use Rattle.base.specs.Logic.{or-right}
@@ -41,7 +42,7 @@ level-of-requires c κs =
     let i = c .before .before .before in
     let u = i .before in
     let s = u .before .before .before in
-    (s .pre .packed .len, used-low _ _ (s .args .parent) (u .is-used .ensures) (not-false (u .is-used .result) (i .if1 .left)))
+    (omega (arith, s .pre .packed .len), used-low _ _ (s .args .parent) (u .is-used .ensures) (not-false (u .is-used .result) (i .if1 .left)))
 
 returns-4 : tie.Need-returns-4
 returns-4 c =

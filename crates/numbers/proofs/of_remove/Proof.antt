@@ -21,7 +21,7 @@ first-child-of-requires : tie.Need-first-child-of-requires
 first-child-of-requires c κs =
     let u = c .before in
     let s = u .before .before .before in
-    (s .pre .packed .len, used-low _ _ (s .args .set) (u .is-used .ensures) (not-false (u .is-used .result) (c .if1 .left)))
+    (omega (arith, s .pre .packed .len), used-low _ _ (s .args .set) (u .is-used .ensures) (not-false (u .is-used .result) (c .if1 .left)))
 
 returns-2 : tie.Need-returns-2
 returns-2 c =

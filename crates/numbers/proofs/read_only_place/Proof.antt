@@ -2,6 +2,7 @@
 use mathlib.Core.Bool.{not}
 use mathlib.Core.List.{[]}
 use mathlib.Core.Path.{ap, sym, _∙_}
+use native.Mathlib.Omega.{arith}
 use borrow.Author.Needs.{needs}
 use Rattle.rules.specs.State.{SetRecord}
 use Rattle.tables.specs.Calls.{storeOf}
@@ -19,7 +20,7 @@ set-at-requires : tie.Need-set-at-requires
 set-at-requires c κs =
     let s = c .before .before .before in
     let a = s .args in
-    (s .pre, in-place (viewIn (a .t .now)) (a .set) (a .file) _ [] (c .before .no-such-place .ensures) (c .if1 .left) .0)
+    (omega (arith, s .pre), in-place (viewIn (a .t .now)) (a .set) (a .file) _ [] (c .before .no-such-place .ensures) (c .if1 .left) .0)
 
 returns-2 : tie.Need-returns-2
 returns-2 c =

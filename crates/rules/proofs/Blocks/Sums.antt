@@ -2,6 +2,7 @@
 use mathlib.Core.Bool.{Bool, cond}
 use mathlib.Core.Path.{ap, ap₂, refl, sym, _∙_, _≡_}
 use Prim.Native.Nat.{_*_, _+_, _<_, suc, zero, ℕ, _≤_}
+use native.Mathlib.Nat.{zero-add}
 use native.Mathlib.Omega.{arith}
 use Rattle.base.specs.Count.{count, sum}
 use Rattle.base.specs.Logic.{same?}
@@ -15,6 +16,35 @@ pub sum-same : (n : ℕ) (g g′ : ℕ → ℕ) → ((x : ℕ) → x < n → g x
 unfolding sum
 sum-same zero g g′ h = refl
 sum-same (suc n) g g′ h = let a = h n (omega arith) in let b = sum-same n g g′ (λ x l. h x (omega arith)) in omega arith
+
+-- a sum in two parts
+sum-split : (k n : ℕ) (g : ℕ → ℕ) → sum (k + n) g ≡ sum n g + sum k (λ j. g (n + j))
+unfolding sum
+sum-split zero n g = let e = ap (λ m. sum m g) (zero-add n) in omega arith
+sum-split (suc k) n g =
+    let q : suc k + n ≡ suc (k + n) = omega arith in
+    let c : k + n ≡ n + k = omega arith in
+    let e = ap (λ m. sum m g) q in
+    let d = ap g c in
+    omega (arith, sum-split k n g)
+
+sum-more : (n : ℕ) (g : ℕ → ℕ) → sum (suc n) g ≡ g n + sum n g
+unfolding sum
+sum-more n g = refl
+
+-- LAW: a sum in rows of k
+pub sum-rows : (k a : ℕ) (g : ℕ → ℕ) → sum (a * k) g ≡ sum a (λ s. sum k (λ f. g (s * k + f)))
+unfolding sum
+sum-rows k zero g = let q : 0 * k ≡ 0 = omega arith in ap (λ m. sum m g) q
+sum-rows k (suc a) g = last (sum-rows k a g)
+  where
+    last : sum (a * k) g ≡ sum a (λ s. sum k (λ f. g (s * k + f))) → sum (suc a * k) g ≡ sum (suc a) (λ s. sum k (λ f. g (s * k + f)))
+    last h =
+        let q : suc a * k ≡ k + a * k = omega arith in
+        let e = ap (λ m. sum m g) q in
+        let d = sum-split k (a * k) g in
+        let b = sum-more a (λ s. sum k (λ f. g (s * k + f))) in
+        omega arith
 
 -- a term is at most the sum
 sum-term : (n : ℕ) (g : ℕ → ℕ) (i : ℕ) → i < n → g i ≤ sum n g

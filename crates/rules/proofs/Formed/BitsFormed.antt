@@ -85,13 +85,11 @@ module _ (r : Store real) (k : BlocksOk r) where
       (all-of 4096 _ (λ b l. eq-eqb _ _ (times-right b)))
       (files-of _ (λ f s i j. all-of 64 _ (λ p l. below-of (r .memory .blocks) (r .files f s .map p) (λ b e. k .used f s p b e .below))))
 
-  pub header-formed : r .memory .blocks ≤ 4096 → headerFormed (tablesOf r) (r .memory .blocks * 512) ≡ true
+  pub header-formed : r .memory .blocks ≤ 4096 → headerFormed (tablesOf r) ≡ true
   unfolding headerFormed
   header-formed l =
       let n = k .next in
-      and-both _ _
-      (and-both _ _ (and-both _ _ (le-leb 1 (r .memory .blocks) (omega arith)) (le-leb (r .memory .blocks) 4096 l)) (lt-ltb (r .memory .next) (r .memory .blocks) n))
-      (eq-eqb (r .memory .blocks * 512) (r .memory .blocks * 512) refl)
+      and-both _ _ (and-both _ _ (le-leb 1 (r .memory .blocks) (omega arith)) (le-leb (r .memory .blocks) 4096 l)) (lt-ltb (r .memory .next) (r .memory .blocks) n)
 
 -- TABLES THAT ARE EMPTY OUT OF RANGE: files from 16 on, sets from 8 on, pages from 64 on, bits from 4,096 on
 pub record EmptyBeyond (tb : Tables) : Type 0 where
@@ -192,13 +190,12 @@ module _ (r : Store real) (out : EmptyBeyond (tablesOf r)) (gone : AbsentBeyond 
       set-low = λ s u. test? (ltb s 8) (ltb-true s 8) (λ z. absurd (true≢false (sym u ∙ gone .set-used s (ltb-false s 8 z))));
     }
 
-  pub blocks-formed : (n : ℕ) → headerFormed (tablesOf r) n ≡ true → bitsFormed (tablesOf r) ≡ true → zerosFormed (tablesOf r) ≡ true → BlocksOk r
+  pub blocks-formed : headerFormed (tablesOf r) ≡ true → bitsFormed (tablesOf r) ≡ true → zerosFormed (tablesOf r) ≡ true → BlocksOk r
   unfolding headerFormed
-  blocks-formed n h k z =
-      let a = and-left _ (eqb n (r .memory .blocks * 512)) h in
-      let most : r .memory .blocks ≤ 4096 = leb-true (r .memory .blocks) 4096 (and-right (leb 1 (r .memory .blocks)) _ (and-left _ (ltb (r .memory .next) (r .memory .blocks)) a)) in
+  blocks-formed h k z =
+      let most : r .memory .blocks ≤ 4096 = leb-true (r .memory .blocks) 4096 (and-right (leb 1 (r .memory .blocks)) _ (and-left _ (ltb (r .memory .next) (r .memory .blocks)) h)) in
       record {
-        next = ltb-true (r .memory .next) (r .memory .blocks) (and-right (leb 1 (r .memory .blocks) && leb (r .memory .blocks) 4096) _ a);
+        next = ltb-true (r .memory .next) (r .memory .blocks) (and-right (leb 1 (r .memory .blocks) && leb (r .memory .blocks) 4096) _ h);
         used = formed-used r out most k;
         apart = formed-apart r out most k;
         only = formed-only r out most k;

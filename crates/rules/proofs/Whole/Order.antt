@@ -117,11 +117,10 @@ module _ (B : ℕ) (some : 1 ≤ B) (r : Store real) (o : InOrder B r) (c : Call
 
 -- the rules of well formed
 module _ (B : ℕ) (r : Store real) (o : InOrder B r) where
-  pub order-blocks : B ≤ 4096 → blocksFormed (tablesOf r) (B * 512) ≡ true
+  pub order-blocks : B ≤ 4096 → blocksFormed (tablesOf r) ≡ true
   order-blocks most =
       let e = o .kept .blocks in
-      and-both (headerFormed (tablesOf r) (B * 512)) (bitsFormed (tablesOf r))
-      (rw (← e) (header-formed r (o .kept .blocks-ok) (omega (arith, e)))) (bits-formed r (o .kept .blocks-ok))
+      and-both (headerFormed (tablesOf r)) (bitsFormed (tablesOf r)) (header-formed r (o .kept .blocks-ok) (omega (arith, e))) (bits-formed r (o .kept .blocks-ok))
 
   pub order-state : StateOk (tablesOf r)
   order-state = record {

@@ -28,7 +28,7 @@ returns c =
     heir-none (unpack (a .t .now)) (a .f) (a .page .0) (a .child) (l .loop .n) (l .loop .c) (l .loop .inv .1) (inl (c .if1 .taken))
 
 next-sibling-of-requires : tie.Need-next-sibling-of-requires Inv-loop μ-loop
-next-sibling-of-requires c κs = (start (c .before .before) .pre .0, omega arith)
+next-sibling-of-requires c κs = (omega (arith, start (c .before .before) .pre .0), omega arith)
 
 needs-requires : tie.Need-needs-requires Inv-loop μ-loop
 needs-requires c κs = let p = start (c .before .before .before) .pre in (p .0, p .1, omega arith, p .2)

@@ -47,7 +47,7 @@ give-requires c κs =
     (g .ready, s .pre .1, below-same g (s .pre .2), omega arith)
 
 next-sibling-of-requires : tie.Need-next-sibling-of-requires Inv-loop μ-loop
-next-sibling-of-requires c κs = (c .before .before .before .before .before .give .ensures .ready .packed .len, omega arith)
+next-sibling-of-requires c κs = (omega (arith, c .before .before .before .before .before .give .ensures .ready .packed .len), omega arith)
 
 loop-again : tie.Need-loop-again Inv-loop μ-loop
 loop-again c =

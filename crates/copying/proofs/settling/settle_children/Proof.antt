@@ -17,7 +17,7 @@ abbrev μ-loop : tie.MeasureT-loop
 μ-loop t₀ f s c₀ n₀ t c n = n
 
 first-child-of-requires : tie.Need-first-child-of-requires Inv-loop μ-loop
-first-child-of-requires c κs = let s = c .before .before in (s .pre .0 .len, s .pre .2)
+first-child-of-requires c κs = let s = c .before .before in (omega (arith, s .pre .0 .len), s .pre .2)
 
 loop-holds : tie.Need-loop-holds Inv-loop μ-loop
 loop-holds c =
@@ -41,7 +41,7 @@ settle-set-requires c κs =
     (l .loop .inv .1, l .before .before .before .before .pre .1, omega arith)
 
 next-sibling-of-requires : tie.Need-next-sibling-of-requires Inv-loop μ-loop
-next-sibling-of-requires c κs = (c .before .before .before .settle-set .ensures .packed .len, omega arith)
+next-sibling-of-requires c κs = (omega (arith, c .before .before .before .settle-set .ensures .packed .len), omega arith)
 
 loop-again : tie.Need-loop-again Inv-loop μ-loop
 loop-again c =

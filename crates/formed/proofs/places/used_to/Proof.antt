@@ -3,7 +3,7 @@ use mathlib.Core.Path.{ap, sym, _∙_}
 use Prim.Native.Nat.{_≤_}
 use native.Mathlib.Omega.{arith}
 use Rattle.formed.proofs.Blank.{unused-next}
-use Rattle.formed.specs.Pass.{UnusedFrom}
+use Rattle.formed.specs.Heads.{UnusedFrom}
 use Rattle.rules.specs.State.{SetRecord}
 use Rattle.tables.specs.Meaning.{setMeant}
 use Rattle.tables.specs.Packed.{unpack}

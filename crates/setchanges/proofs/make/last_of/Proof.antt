@@ -18,7 +18,7 @@ loop-holds : tie.Need-loop-holds Inv-loop μ-loop
 loop-holds c = (omega arith, c .before .pre .1, refl)
 
 next-sibling-of-requires : tie.Need-next-sibling-of-requires Inv-loop μ-loop
-next-sibling-of-requires c κs = (c .before .before .before .pre .0, c .before .loop .inv .1)
+next-sibling-of-requires c κs = (omega (arith, c .before .before .before .pre .0), c .before .loop .inv .1)
 
 returns : tie.Need-returns Inv-loop μ-loop
 returns c =
