@@ -15,7 +15,7 @@ fn main() {
     println!("cargo:rerun-if-env-changed=SWEEP_CALLS");
     println!("cargo:rustc-check-cfg=cfg(have_sweep)");
     for call in CALL_NAMES {
-        println!("cargo:rustc-check-cfg=cfg(sweep_{call})");
+        println!("cargo:rustc-check-cfg=cfg({})", export_name(call));
     }
     let Ok(folder) = env::var("SWEEP_LIB") else { return };
     if folder.is_empty() {
@@ -26,8 +26,13 @@ fn main() {
     println!("cargo:rustc-link-lib=static=sweep");
     println!("cargo:rustc-cfg=have_sweep");
     for call in wanted_calls() {
-        println!("cargo:rustc-cfg=sweep_{call}");
+        println!("cargo:rustc-cfg={}", export_name(&call));
     }
+}
+
+/// The name of a call's function in the library.
+fn export_name(call: &str) -> String {
+    format!("sweep_{}", call.replace('-', "_"))
 }
 
 fn wanted_calls() -> Vec<String> {
@@ -35,7 +40,8 @@ fn wanted_calls() -> Vec<String> {
     if list.trim().is_empty() {
         return CALL_NAMES.iter().map(|call| call.to_string()).collect();
     }
-    let calls: Vec<String> = list.split(',').map(|call| call.trim().to_string()).collect();
+    // check_blocks is taken for check-blocks.
+    let calls: Vec<String> = list.split(',').map(|call| call.trim().replace('_', "-")).collect();
     for call in &calls {
         assert!(CALL_NAMES.contains(&call.as_str()), "SWEEP_CALLS: unknown call '{call}'");
     }

@@ -55,6 +55,8 @@ impl fmt::Display for Answer {
 
 const STORE_CHANGED: [Lending; BUFFERS] = lends(Changed, NotLent);
 const STORE_READ: [Lending; BUFFERS] = lends(ReadOnly, NotLent);
+/// The tables alone: such a call never sees the pages.
+const TABLES_READ: [Lending; BUFFERS] = [ReadOnly, NotLent, NotLent, NotLent, NotLent, NotLent];
 
 /// How a call is lent tables and pages, and its data or buffer.
 const fn lends(store: Lending, bytes: Lending) -> [Lending; BUFFERS] {
@@ -138,6 +140,10 @@ calls! {
     Remove { set: u32 } told [set] lends STORE_CHANGED, leaves None;
     Size { set: u32, file: u32 } told [set, file] lends STORE_READ, leaves None;
     Free {} told [] lends STORE_READ, leaves None;
+    /// The first part of the well-formed check.
+    CheckBlocks {} told [] lends TABLES_READ, leaves None;
+    /// The whole well-formed check.
+    Check {} told [] lends STORE_READ, leaves None;
 }
 
 impl Call {

@@ -1,69 +1,97 @@
 //! The well-formed check. It names each broken rule of document 01's "Well
 //! formed means all of", with the place, so that a damaged store can be
 //! judged by people. It works on any bytes and any lengths.
+//!
+//! By document 02 it goes in parts: "the well-formed check, however it is done
+//! now, should go through the bitmap and the entries' kinds and blocks before it
+//! follows set chains". The first part is a question about the tables alone.
+//! The second part is all else, the pages' length before the rest.
 
 use crate::call::*;
 use crate::state::*;
+use std::collections::BTreeSet;
 use std::fmt;
 
 macro_rules! rules {
-    ($($rule:ident $name:literal $sentence:literal;)*) => {
-        /// One elementary rule of "Well formed means all of".
+    (first { $($first:ident $first_name:literal $first_sentence:literal;)* }
+        second { $($second:ident $second_name:literal $second_sentence:literal;)* }) => {
+        /// One elementary rule of "Well formed means all of"; those of the first
+        /// part stand before those of the second.
         #[derive(Clone, Copy, PartialEq, Eq, Debug, Hash, PartialOrd, Ord)]
-        pub enum Rule { $($rule),* }
+        pub enum Rule { $($first,)* $($second,)* }
 
         impl Rule {
-            pub const ALL: &'static [Rule] = &[$(Rule::$rule),*];
+            pub const ALL: &'static [Rule] = &[$(Rule::$first,)* $(Rule::$second,)*];
+            pub const FIRST_PART: &'static [Rule] = &[$(Rule::$first),*];
+            pub const SECOND_PART: &'static [Rule] = &[$(Rule::$second),*];
+
+            /// Whether the rule belongs to the first part of the check, which
+            /// goes by the tables alone.
+            pub fn is_first_part(self) -> bool {
+                matches!(self, $(Rule::$first)|*)
+            }
 
             /// A short name.
             pub fn name(self) -> &'static str {
-                match self { $(Rule::$rule => $name),* }
+                match self {
+                    $(Rule::$first => $first_name,)*
+                    $(Rule::$second => $second_name,)*
+                }
             }
 
             /// What is wrong, in a sentence.
             pub fn sentence(self) -> &'static str {
-                match self { $(Rule::$rule => $sentence),* }
+                match self {
+                    $(Rule::$first => $first_sentence,)*
+                    $(Rule::$second => $second_sentence,)*
+                }
             }
         }
     };
 }
 
 rules! {
-    TablesLength "tables-length" "The tables are not 17,436 bytes.";
-    BlockCount "block-count" "The block count is not 1 to 4,096.";
-    NextStart "next-start" "Next start is not below the block count.";
-    PagesLength "pages-length" "The pages buffer is not block count x 512 bytes.";
-    HeaderZero "header-zero" "The zero field of the header is not zero.";
-    SetZero "set-zero" "The zero field of a set record is not zero.";
-    FileZero "file-zero" "The zero field of a file record is not zero.";
-    KindThree "kind-three" "An entry has kind 3.";
-    BlockNotStored "block-not-stored" "An entry that is not stored has a block other than 0.";
-    UnusedSetNotZero "unused-set-not-zero" "The record of an unused set is not all zero.";
-    AbsentFileNotZero "absent-file-not-zero" "The record of an absent file is not all zero.";
-    UnusedSetHasFile "unused-set-has-file" "An unused set has a file.";
-    BlockTooHigh "block-too-high" "A stored entry names a block at or over the block count.";
-    BlockNamedTwice "block-named-twice" "A block is named by more than one stored entry.";
-    BitWithoutEntry "bit-without-entry" "A bit is 1 but no stored entry names its block.";
-    EntryWithoutBit "entry-without-bit" "A stored entry names a block whose bit is 0.";
-    Set0NotUsed "set-0-not-used" "Set 0 is not used.";
-    Set0NotWriteable "set-0-not-writeable" "Set 0 is not writeable.";
-    Set0Level "set-0-level" "Set 0 is not at level 0.";
-    Set0Parent "set-0-parent" "Set 0 has a parent.";
-    Set0Sibling "set-0-sibling" "Set 0 has a sibling.";
-    NoParent "no-parent" "A used set other than set 0 has no parent.";
-    NotOnceInChain "not-once-in-chain" "A set does not stand once in its parent's child chain.";
-    LevelWrong "level-wrong" "A set's level is not its parent's level plus one.";
-    LevelOver5 "level-over-5" "A set's level is over 5.";
-    ChainEndless "chain-endless" "A child chain does not end.";
-    ChainForeign "chain-foreign" "A child chain holds a set that is not that parent's child.";
-    LinkBad "link-bad" "A parent, first child or next sibling is neither 8 nor a used set.";
-    SizeOver "size-over" "A file's size is over 32,768.";
-    VirginSize "virgin-size" "A virgin file has a size other than 0.";
-    VirginMapped "virgin-mapped" "A virgin file has an entry that is not unmapped.";
-    Set0State "set-0-state" "Set 0 has a virgin or marked file.";
-    Set0Unmapped "set-0-unmapped" "A file of set 0 has an unmapped entry.";
-    UnmappedNoParentFile "unmapped-no-parent-file" "An own or virgin file has an unmapped entry, but the parent set has no own or virgin file of its number.";
-    PastSizeStored "past-size-stored" "In an own file a page wholly past the size resolves to stored.";
+    // Document 02: "the tables of right length that meet the rules on B, next
+    // start, kinds, blocks and bits".
+    first {
+        TablesLength "tables-length" "The tables are not 17,436 bytes.";
+        BlockCount "block-count" "The block count is not 1 to 4,096.";
+        NextStart "next-start" "Next start is not below the block count.";
+        KindThree "kind-three" "An entry has kind 3.";
+        BlockNotStored "block-not-stored" "An entry that is not stored has a block other than 0.";
+        BlockTooHigh "block-too-high" "A stored entry names a block at or over the block count.";
+        BlockNamedTwice "block-named-twice" "A block is named by more than one stored entry.";
+        BitWithoutEntry "bit-without-entry" "A bit is 1 but no stored entry names its block.";
+        EntryWithoutBit "entry-without-bit" "A stored entry names a block whose bit is 0.";
+    }
+    second {
+        PagesLength "pages-length" "The pages buffer is not block count x 512 bytes.";
+        HeaderZero "header-zero" "The zero field of the header is not zero.";
+        SetZero "set-zero" "The zero field of a set record is not zero.";
+        FileZero "file-zero" "The zero field of a file record is not zero.";
+        UnusedSetNotZero "unused-set-not-zero" "The record of an unused set is not all zero.";
+        AbsentFileNotZero "absent-file-not-zero" "The record of an absent file is not all zero.";
+        UnusedSetHasFile "unused-set-has-file" "An unused set has a file.";
+        Set0NotUsed "set-0-not-used" "Set 0 is not used.";
+        Set0NotWriteable "set-0-not-writeable" "Set 0 is not writeable.";
+        Set0Level "set-0-level" "Set 0 is not at level 0.";
+        Set0Parent "set-0-parent" "Set 0 has a parent.";
+        Set0Sibling "set-0-sibling" "Set 0 has a sibling.";
+        NoParent "no-parent" "A used set other than set 0 has no parent.";
+        NotOnceInChain "not-once-in-chain" "A set does not stand once in its parent's child chain.";
+        LevelWrong "level-wrong" "A set's level is not its parent's level plus one.";
+        LevelOver5 "level-over-5" "A set's level is over 5.";
+        ChainEndless "chain-endless" "A child chain does not end.";
+        ChainForeign "chain-foreign" "A child chain holds a set that is not that parent's child.";
+        LinkBad "link-bad" "A parent, first child or next sibling is neither 8 nor a used set.";
+        SizeOver "size-over" "A file's size is over 32,768.";
+        VirginSize "virgin-size" "A virgin file has a size other than 0.";
+        VirginMapped "virgin-mapped" "A virgin file has an entry that is not unmapped.";
+        Set0State "set-0-state" "Set 0 has a virgin or marked file.";
+        Set0Unmapped "set-0-unmapped" "A file of set 0 has an unmapped entry.";
+        UnmappedNoParentFile "unmapped-no-parent-file" "An own or virgin file has an unmapped entry, but the parent set has no own or virgin file of its number.";
+        PastSizeStored "past-size-stored" "In an own file a page wholly past the size resolves to stored.";
+    }
 }
 
 /// A broken rule and its place: the numbers that matter are given.
@@ -117,41 +145,130 @@ pub fn is_well_formed(tables: &[u8], pages_length: usize) -> bool {
     check_all(tables, pages_length).is_empty()
 }
 
-/// Every broken rule found. No list is longer than the tables can explain;
-/// with tables of the wrong length nothing else is looked at.
+/// Every broken rule found, those of the first part before the others. No list
+/// is longer than the tables can explain; with tables of the wrong length
+/// nothing else is looked at.
 pub fn check_all(tables: &[u8], pages_length: usize) -> Vec<Broken> {
-    if tables.len() != TABLES_BYTES {
-        return vec![Broken::new(Rule::TablesLength)];
-    }
-    check_state(&State::unpack(tables), pages_length)
+    unpacked(tables).map_or_else(wrong_length, |state| check_state(&state, pages_length))
 }
 
-/// The same for tables that are unpacked already.
+/// The first part. Document 02: "That first part accepts exactly the tables of
+/// right length that meet the rules on B, next start, kinds, blocks and bits,
+/// whatever else they hold".
+pub fn check_blocks(tables: &[u8]) -> Vec<Broken> {
+    unpacked(tables).map_or_else(wrong_length, |state| first_part(&state))
+}
+
+/// Which rules are broken, wherever they are.
+pub fn rules_broken(tables: &[u8], pages_length: usize) -> BTreeSet<Rule> {
+    check_all(tables, pages_length).iter().map(|broken| broken.rule).collect()
+}
+
+/// "The tables are 17,436 bytes."
+fn unpacked(tables: &[u8]) -> Option<State> {
+    (tables.len() == TABLES_BYTES).then(|| State::unpack(tables))
+}
+
+fn wrong_length() -> Vec<Broken> {
+    vec![Broken::new(Rule::TablesLength)]
+}
+
+/// The whole check of tables that are unpacked already: the first part, then
+/// the pages' length, then the rest.
 pub fn check_state(state: &State, pages_length: usize) -> Vec<Broken> {
-    let mut found = Vec::new();
-    check_header(state, pages_length, &mut found);
-    check_set_records(state, &mut found);
-    check_file_records(state, &mut found);
-    check_blocks(state, &mut found);
-    check_set_0(state, &mut found);
-    check_tree(state, &mut found);
-    check_file_states(state, &mut found);
-    check_past_size(state, &mut found);
+    let mut found = first_part(state);
+    check_pages_length(state, pages_length, &mut found);
+    check_rest(state, &mut found);
     found
 }
 
-/// "B is 1 to 4,096, next start is below B, the pages buffer is B x 512
-/// bytes." "Zero fields are zero."
-fn check_header(state: &State, pages_length: usize, found: &mut Vec<Broken>) {
+/// The first part of tables that are unpacked already. It looks at block count,
+/// next start, bits and entries, and at nothing else.
+fn first_part(state: &State) -> Vec<Broken> {
+    let mut found = Vec::new();
+    check_header(state, &mut found);
+    check_kinds(state, &mut found);
+    check_names(state, &mut found);
+    found
+}
+
+fn check_rest(state: &State, found: &mut Vec<Broken>) {
+    check_header_zero(state, found);
+    check_set_records(state, found);
+    check_file_records(state, found);
+    check_set_0(state, found);
+    check_tree(state, found);
+    check_file_states(state, found);
+    check_past_size(state, found);
+}
+
+/// "B is 1 to 4,096, next start is below B".
+fn check_header(state: &State, found: &mut Vec<Broken>) {
     if state.block_count < 1 || state.block_count > MOST_BLOCKS {
         found.push(Broken::new(Rule::BlockCount));
     }
     if state.next_start >= state.block_count {
         found.push(Broken::new(Rule::NextStart).block(state.next_start));
     }
+}
+
+/// All file records with their set and file numbers, whatever their state and
+/// their set's use.
+fn file_records(state: &State) -> impl Iterator<Item = (usize, usize, &FileRecord)> {
+    (0..SETS).flat_map(move |set| (0..FILES).map(move |file| (set, file, &state.files[set][file])))
+}
+
+/// "No kind is 3, and the block is 0 unless stored."
+fn check_kinds(state: &State, found: &mut Vec<Broken>) {
+    for (set, file, record) in file_records(state) {
+        for (page, entry) in record.entries.iter().enumerate() {
+            let place = |rule| Broken::new(rule).set(set).file(file).page(page);
+            if entry.kind == Kind::Bad {
+                found.push(place(Rule::KindThree));
+            }
+            if entry.kind != Kind::Stored && entry.block != 0 {
+                found.push(place(Rule::BlockNotStored).block(entry.block));
+            }
+        }
+    }
+}
+
+/// "A bit is 1 exactly when one stored entry names that block. No block is
+/// named twice, or is B or more."
+fn check_names(state: &State, found: &mut Vec<Broken>) {
+    let mut named = vec![false; 1 << 14];
+    for (set, file, record) in file_records(state) {
+        for (page, entry) in record.entries.iter().enumerate() {
+            if entry.kind != Kind::Stored {
+                continue;
+            }
+            let block = entry.block;
+            let place = |rule| Broken::new(rule).set(set).file(file).page(page).block(block);
+            if block >= state.block_count {
+                found.push(place(Rule::BlockTooHigh));
+            }
+            if named[block] {
+                found.push(place(Rule::BlockNamedTwice));
+            } else if block < MOST_BLOCKS && !state.bits[block] {
+                found.push(place(Rule::EntryWithoutBit));
+            }
+            named[block] = true;
+        }
+    }
+    for block in (0..MOST_BLOCKS).filter(|block| state.bits[*block] && !named[*block]) {
+        found.push(Broken::new(Rule::BitWithoutEntry).block(block));
+    }
+}
+
+/// "the pages buffer is B x 512 bytes"
+fn check_pages_length(state: &State, pages_length: usize, found: &mut Vec<Broken>) {
     if pages_length != state.block_count * PAGE_BYTES {
         found.push(Broken::new(Rule::PagesLength));
     }
+}
+
+/// "Zero fields are zero."
+fn check_header_zero(state: &State, found: &mut Vec<Broken>) {
     if state.header_zero != 0 {
         found.push(Broken::new(Rule::HeaderZero));
     }
@@ -176,13 +293,7 @@ fn check_set_records(state: &State, found: &mut Vec<Broken>) {
     }
 }
 
-/// All file records with their set and file numbers.
-fn file_records(state: &State) -> impl Iterator<Item = (usize, usize, &FileRecord)> {
-    (0..SETS).flat_map(move |set| (0..FILES).map(move |file| (set, file, &state.files[set][file])))
-}
-
-/// "Zero fields are zero. No kind is 3, and the block is 0 unless stored.
-/// Unused sets and absent files are all zero."
+/// "Zero fields are zero." "Unused sets and absent files are all zero".
 fn check_file_records(state: &State, found: &mut Vec<Broken>) {
     for (set, file, record) in file_records(state) {
         if record.zero != 0 {
@@ -191,42 +302,6 @@ fn check_file_records(state: &State, found: &mut Vec<Broken>) {
         if !record.is_present() && *record != ABSENT_FILE {
             found.push(Broken::new(Rule::AbsentFileNotZero).set(set).file(file));
         }
-        for (page, entry) in record.entries.iter().enumerate() {
-            let place = |rule| Broken::new(rule).set(set).file(file).page(page);
-            if entry.kind == Kind::Bad {
-                found.push(place(Rule::KindThree));
-            }
-            if entry.kind != Kind::Stored && entry.block != 0 {
-                found.push(place(Rule::BlockNotStored).block(entry.block));
-            }
-        }
-    }
-}
-
-/// "A bit is 1 exactly when one stored entry names that block. No block is
-/// named twice, or is B or more."
-fn check_blocks(state: &State, found: &mut Vec<Broken>) {
-    let mut named = vec![false; 1 << 14];
-    for (set, file, record) in file_records(state) {
-        for (page, entry) in record.entries.iter().enumerate() {
-            if entry.kind != Kind::Stored {
-                continue;
-            }
-            let block = entry.block;
-            let place = |rule| Broken::new(rule).set(set).file(file).page(page).block(block);
-            if block >= state.block_count {
-                found.push(place(Rule::BlockTooHigh));
-            }
-            if named[block] {
-                found.push(place(Rule::BlockNamedTwice));
-            } else if block < MOST_BLOCKS && !state.bits[block] {
-                found.push(place(Rule::EntryWithoutBit));
-            }
-            named[block] = true;
-        }
-    }
-    for block in (0..MOST_BLOCKS).filter(|block| state.bits[*block] && !named[*block]) {
-        found.push(Broken::new(Rule::BitWithoutEntry).block(block));
     }
 }
 

@@ -1,13 +1,15 @@
 //! Random calls, histories, well-formed states and damages.
 
+use crate::bits::put_field;
 use crate::call::*;
-use crate::check::{check_state, Rule};
+use crate::check::{check_state, rules_broken, Rule};
 use crate::judge::Beside;
 use crate::maps::Resolved;
 use crate::rng::Rng;
 use crate::state::*;
 use crate::store;
 use crate::tally::{Condition, TallyKind};
+use std::collections::BTreeSet;
 
 /// What a history is fond of.
 #[derive(Clone, Debug)]
@@ -53,13 +55,13 @@ pub fn block_count(rng: &mut Rng) -> usize {
 fn style(rng: &mut Rng, block_count: usize) -> Style {
     let fond_files = rng.between(1, 3);
     let fond_pages = rng.between(1, 4);
-    //                format create write read trunc delete make remove size free
+    // format create write read trunc delete make remove size free check-blocks check
     let weights = rng.pick(&[
-        [1, 30, 220, 60, 80, 30, 110, 40, 15, 10],
-        [1, 40, 160, 40, 120, 50, 90, 40, 10, 10],
-        [2, 30, 150, 60, 60, 30, 200, 60, 20, 10],
-        [0, 60, 250, 20, 60, 70, 80, 20, 5, 5],
-        [0, 70, 140, 10, 100, 100, 120, 20, 5, 5],
+        [1, 30, 220, 60, 80, 30, 110, 40, 15, 10, 5, 5],
+        [1, 40, 160, 40, 120, 50, 90, 40, 10, 10, 5, 5],
+        [2, 30, 150, 60, 60, 30, 200, 60, 20, 10, 5, 5],
+        [0, 60, 250, 20, 60, 70, 80, 20, 5, 5, 3, 3],
+        [0, 70, 140, 10, 100, 100, 120, 20, 5, 5, 3, 3],
     ]);
     Style {
         block_count,
@@ -532,6 +534,8 @@ pub fn call_of(rng: &mut Rng, style: &Style, beside: &Beside, index: usize) -> C
         6 => make_call(rng, style, beside),
         7 => remove_call(rng, style, beside),
         9 => Call::Free {},
+        10 => Call::CheckBlocks {},
+        11 => Call::Check {},
         2 if rng.percent(style.filling) => {
             filling_write(rng, beside).unwrap_or_else(|| call_of_file(rng, style, beside, index))
         }
@@ -757,7 +761,7 @@ pub fn made_of(rng: &mut Rng, block_count: usize, length: usize) -> Made {
         style: start.style,
     };
     // Calls that only look, and later formats, add nothing to a state.
-    for index in [0, 3, 8, 9] {
+    for index in [0, 3, 8, 9, 10, 11] {
         made.style.weights[index] = 0;
     }
     for call in start.calls {
@@ -975,8 +979,9 @@ pub fn flip_bits(rng: &mut Rng, tables: &mut [u8]) {
 /// tables offer no place for it.
 pub fn damage_rule(rng: &mut Rng, tables: &mut Vec<u8>, rule: Rule) -> bool {
     if rule == Rule::TablesLength {
-        let length = rng.pick(&[0, 1, TABLES_BYTES - 1, TABLES_BYTES + 1, 2 * TABLES_BYTES]);
-        tables.resize(length, 0);
+        let shorter = rng.below(TABLES_BYTES);
+        let lengths = [0, 1, TABLES_BYTES - 1, TABLES_BYTES + 1, 2 * TABLES_BYTES, shorter];
+        tables.resize(rng.pick(&lengths), 0);
         return true;
     }
     let mut state = State::unpack(tables);
@@ -985,6 +990,194 @@ pub fn damage_rule(rng: &mut Rng, tables: &mut Vec<u8>, rule: Rule) -> bool {
         state.pack(tables);
     }
     done
+}
+
+// Rules broken alone, and tables for the first part of the check.
+
+/// A store in which a rule is broken.
+pub struct Broke {
+    pub tables: Vec<u8>,
+    pub pages: Vec<u8>,
+    /// Whether no other rule is broken.
+    pub alone: bool,
+    /// The well-formed store that was changed to this one.
+    pub made: Made,
+}
+
+/// The rules that must break with a rule, as few as possible. There are some for
+/// one rule only. "Unused sets ... are all zero", but set 0 is to be writeable
+/// and to have 8 as parent and sibling: if it is not used, its record either is
+/// all zero and breaks three rules of set 0 more, or it breaks
+/// `unused-set-not-zero`.
+///
+/// All others can be broken alone, some of them in one way only. A block count
+/// of 0 breaks `next-start` too, one over 4,096 need not. A virgin file in set 0
+/// breaks `virgin-mapped` or `set-0-unmapped` too, a marked one need not.
+pub fn broken_with(rule: Rule) -> &'static [Rule] {
+    match rule {
+        Rule::Set0NotUsed => &[Rule::UnusedSetNotZero],
+        _ => &[],
+    }
+}
+
+/// How often one store is tried before another is made, and how many of them are
+/// made: each rule finds a place in many a store.
+const TRIES_OF_A_STORE: usize = 6;
+const STORES_TRIED: usize = 1_000;
+
+/// A random store in which this rule is broken, perhaps at several places, and
+/// no other but those of `broken_with`. They are of the same part of the check
+/// as the rule.
+pub fn break_alone(rng: &mut Rng, rule: Rule) -> Broke {
+    let mut wanted: BTreeSet<Rule> = broken_with(rule).iter().copied().collect();
+    wanted.insert(rule);
+    for _ in 0..STORES_TRIED {
+        let made = made(rng);
+        for _ in 0..TRIES_OF_A_STORE {
+            let (mut tables, mut pages) = (made.tables.clone(), made.pages.clone());
+            if rng.percent(50) {
+                twist(rng, &mut tables, &mut pages);
+            }
+            let done = break_store(rng, &mut tables, &mut pages, rule);
+            if done && rules_broken(&tables, pages.len()) == wanted {
+                return Broke { tables, pages, alone: wanted.len() == 1, made };
+            }
+        }
+    }
+    panic!("no store was found in which {} is broken alone", rule.name());
+}
+
+/// Breaks a rule in a well-formed store, pages and all; false if it offers no
+/// place for it.
+fn break_store(rng: &mut Rng, tables: &mut Vec<u8>, pages: &mut Vec<u8>, rule: Rule) -> bool {
+    match rule {
+        // Over 4,096, with as many pages.
+        Rule::BlockCount => {
+            let random = rng.between(MOST_BLOCKS + 1, 8_191);
+            let count = rng.pick(&[MOST_BLOCKS + 1, MOST_BLOCKS + 2, 8_191, random]);
+            put_field(tables, 0, 13, count as u32);
+            pages.resize(count * PAGE_BYTES, 0);
+        }
+        Rule::PagesLength if rng.percent(70) => {
+            let right = pages.len();
+            let random = rng.below(2 * right);
+            let lengths = [0, 1, 511, right - 1, right + 1, right - 512, right + 512, random];
+            pages.resize(rng.pick(&lengths), 0);
+        }
+        Rule::Set0NotUsed => {
+            let mut state = State::formatted(State::unpack(tables).block_count);
+            state.next_start = rng.below(state.block_count);
+            state.sets[0].used = false;
+            state.sets[0].first_child = rng.below(1 << 4);
+            state.pack(tables);
+        }
+        _ => return damage_rule(rng, tables, rule),
+    }
+    true
+}
+
+/// Fills well-formed tables with what the first part of the check must look at,
+/// "whatever else they hold": entries in any file record, whatever its state and
+/// its set's use, with the bits that go with them, and any other fields. About
+/// half of the time that part then finds a fault.
+pub fn scatter(rng: &mut Rng, tables: &mut [u8]) {
+    let mut state = State::unpack(tables);
+    for _ in 0..rng.between(1, 12) {
+        scatter_entry(rng, &mut state);
+    }
+    for _ in 0..rng.below(4) {
+        scatter_other(rng, &mut state);
+    }
+    if rng.percent(50) {
+        spoil_blocks(rng, &mut state);
+    }
+    state.pack(tables);
+}
+
+/// Any entry of all 128 x 64.
+fn any_place(rng: &mut Rng) -> Place {
+    (rng.below(SETS), rng.below(FILES), rng.below(PAGES))
+}
+
+/// An entry stored in whatever record.
+fn any_stored(rng: &mut Rng, state: &State) -> Option<Place> {
+    let mut list = Vec::new();
+    for (set, file) in files(state, |_, _| true) {
+        let is_stored = |page: &usize| state.files[set][file].entries[*page].kind == Kind::Stored;
+        list.extend((0..PAGES).filter(is_stored).map(|page| (set, file, page)));
+    }
+    rng.pick_any(&list)
+}
+
+/// Another entry in whatever record, mostly stored in a free block or in the
+/// block of an entry that becomes a hole. The bits go with it.
+fn scatter_entry(rng: &mut Rng, state: &mut State) {
+    if rng.percent(30) {
+        if let Some(place) = any_stored(rng, state) {
+            let entry = *entry_at(state, place);
+            state.free_entry(entry);
+            *entry_at(state, place) = HOLE;
+        }
+    }
+    let place = any_place(rng);
+    let old = *entry_at(state, place);
+    state.free_entry(old);
+    let new = match free_block(rng, state) {
+        Some(block) if rng.percent(80) => stored(block),
+        _ => rng.pick(&[UNMAPPED, HOLE]),
+    };
+    if new.kind == Kind::Stored {
+        state.bits[new.block] = true;
+    }
+    *entry_at(state, place) = new;
+}
+
+/// A field that the first part of the check does not look at gets any value.
+fn scatter_other(rng: &mut Rng, state: &mut State) {
+    let (set, file, _) = any_place(rng);
+    match rng.below(5) {
+        0 => state.header_zero = rng.below(1 << 7),
+        1 => {
+            state.sets[set] = SetRecord {
+                used: rng.percent(50),
+                writeable: rng.percent(50),
+                level: rng.below(1 << 3),
+                parent: rng.below(1 << 4),
+                first_child: rng.below(1 << 4),
+                next_sibling: rng.below(1 << 4),
+                zero: rng.below(1 << 7),
+            }
+        }
+        2 => state.files[set][file].state = rng.pick(&FILE_STATES),
+        3 => state.files[set][file].size = rng.below(1 << 16),
+        _ => state.files[set][file].zero = rng.below(1 << 14),
+    }
+}
+
+/// Something that the first part of the check looks at gets another value.
+fn spoil_blocks(rng: &mut Rng, state: &mut State) {
+    let place = any_place(rng);
+    let random = rng.below(1 << 14);
+    let block = rng.pick(&[0, state.block_count, state.block_count.saturating_sub(1), random]);
+    match rng.below(8) {
+        0 => state.block_count = rng.below(1 << 13),
+        1 => state.next_start = rng.pick(&[state.block_count, random]) % MOST_BLOCKS,
+        2 => entry_at(state, place).kind = rng.pick(&KINDS),
+        3 => entry_at(state, place).block = block,
+        4 => *entry_at(state, place) = stored(block),
+        5 => {
+            // A block that an entry names already.
+            if let Some(other) = any_stored(rng, state) {
+                *entry_at(state, place) = *entry_at(state, other);
+            }
+        }
+        6 => {
+            if let Some(other) = any_stored(rng, state) {
+                *entry_at(state, other) = rng.pick(&[UNMAPPED, HOLE, stored(block)]);
+            }
+        }
+        _ => state.bits[block % MOST_BLOCKS] ^= true,
+    }
 }
 
 type Place = (usize, usize, usize);
@@ -1192,12 +1385,20 @@ fn break_absent_file(rng: &mut Rng, state: &mut State) -> Option<()> {
     Some(())
 }
 
+/// A file without entries, or one with all holes and perhaps a stored page.
 fn break_unused_set_has_file(rng: &mut Rng, state: &mut State) -> Option<()> {
     let set = rng.pick_any(&sets(state, |_, record| !record.used))?;
-    let record = &mut state.files[set][rng.below(FILES)];
+    let (file, page) = (rng.below(FILES), rng.below(PAGES));
+    let block = free_block(rng, state).filter(|_| rng.percent(50));
+    let record = &mut state.files[set][file];
     record.state = rng.pick(&[FileState::Own, FileState::Virgin, FileState::Marked]);
-    if record.state == FileState::Own {
+    if record.state == FileState::Own || (record.state == FileState::Marked && rng.percent(50)) {
         record.entries = [HOLE; PAGES];
+        if let Some(block) = block {
+            record.entries[page] = stored(block);
+            record.size = page * PAGE_BYTES + rng.between(1, PAGE_BYTES);
+            state.bits[block] = true;
+        }
     }
     Some(())
 }

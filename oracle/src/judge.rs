@@ -64,7 +64,8 @@ impl Beside {
             Call::Remove { set } => {
                 vec![(2, !self.is_used(set)), (11, self.has_children(set)), (12, set == 0)]
             }
-            Call::Free {} => vec![],
+            // They find nothing to refuse in well-formed tables.
+            Call::Free {} | Call::CheckBlocks {} | Call::Check {} => vec![],
         };
         lines.iter().filter(|line| line.1).map(|line| line.0).min().unwrap_or(0)
     }
@@ -183,6 +184,9 @@ impl Beside {
             }
             Call::Size { set, file } => [self.list(set as usize, file as usize).len() as u32, 0, 0],
             Call::Free {} => [self.tally.free as u32, 0, 0],
+            // "for plain store and tally it is just the listed calls that it
+            // runs, if any": none.
+            Call::CheckBlocks {} | Call::Check {} => [0, 0, 0],
         };
         (Answer::accepted(counts), bytes)
     }

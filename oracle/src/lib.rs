@@ -1,5 +1,5 @@
 //! A second implementation of the sweep store, written from document 01, Asks 1
-//! to 3 of document 02 and their readings (docs/DECISIONS.md) alone. Clarity
+//! to 4 of document 02 and their readings (docs/DECISIONS.md) alone. Clarity
 //! goes before speed: each call unpacks the tables to a plain state, does the
 //! paper's steps, and packs.
 //!

@@ -13,8 +13,10 @@ use std::process::ExitCode;
 const HELP: &str = "\
 usage:
   oracle check FILE [PAGES-BYTES]  say whether the tables in FILE are well formed, or
-                                   each rule that is broken; PAGES-BYTES is the length
-                                   of the pages buffer (without it: block count x 512)
+                                   each rule that is broken, those on block count, next
+                                   start, kinds, blocks and bits first; PAGES-BYTES is
+                                   the length of the pages buffer (without it: block
+                                   count x 512)
   oracle session                   the session program, from standard input to output
   oracle rows                      rows M1 to M12 and their results
   oracle random SEED COUNT         COUNT random histories against plain store and tally

@@ -2,5 +2,17 @@
 
 /// In the order of include/sweep.h; a call is told from others by its place
 /// here. New ones stand at the end.
-pub const CALL_NAMES: [&str; 10] =
-    ["format", "create", "write", "read", "truncate", "delete", "make", "remove", "size", "free"];
+pub const CALL_NAMES: [&str; 12] = [
+    "format",
+    "create",
+    "write",
+    "read",
+    "truncate",
+    "delete",
+    "make",
+    "remove",
+    "size",
+    "free",
+    "check-blocks",
+    "check",
+];

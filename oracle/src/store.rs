@@ -1,4 +1,4 @@
-//! The ten calls over bytes. Each works on any bytes and any lengths. A
+//! The calls over bytes. Each works on any bytes and any lengths. A
 //! refused call changes nothing and gives counts of 0; "The lowest number
 //! that applies is given", so the checks stand in the order of the numbers.
 
@@ -72,6 +72,14 @@ pub fn free(tables: &[u8], pages: &[u8]) -> Answer {
     answer(try_free(tables, pages))
 }
 
+pub fn check_blocks(tables: &[u8]) -> Answer {
+    answer(try_check_blocks(tables))
+}
+
+pub fn check(tables: &[u8], pages: &[u8]) -> Answer {
+    answer(try_check(tables, pages))
+}
+
 /// Each call with its numbers on the buffers it is lent, in the order of
 /// `CALL_NAMES`.
 const DOES: [fn(&Numbers, Lent) -> Answer; CALLS] = [
@@ -85,6 +93,8 @@ const DOES: [fn(&Numbers, Lent) -> Answer; CALLS] = [
     |n, lent| remove(lent.tables, lent.pages, n[0]),
     |n, lent| size(lent.tables, lent.pages, n[0], n[1]),
     |_, lent| free(lent.tables, lent.pages),
+    |_, lent| check_blocks(lent.tables),
+    |_, lent| check(lent.tables, lent.pages),
 ];
 
 /// Does the call at this place in `CALL_NAMES`.
@@ -534,4 +544,22 @@ fn try_size(tables: &[u8], pages: &[u8], set: u32, file: u32) -> Outcome {
 fn try_free(tables: &[u8], pages: &[u8]) -> Outcome {
     let state = open(tables, pages)?;
     Ok([state.free_blocks() as u32, 0, 0])
+}
+
+/// Document 02: "That first part accepts exactly the tables of right length that
+/// meet the rules on B, next start, kinds, blocks and bits, whatever else they
+/// hold". It is the only call but format that may be accepted on tables that are
+/// not well formed.
+fn try_check_blocks(tables: &[u8]) -> Outcome {
+    if crate::check::check_blocks(tables).is_empty() {
+        Ok([0, 0, 0])
+    } else {
+        Err(1)
+    }
+}
+
+/// Document 02: "the whole check accepts what it did".
+fn try_check(tables: &[u8], pages: &[u8]) -> Outcome {
+    open(tables, pages)?;
+    Ok([0, 0, 0])
 }

@@ -47,9 +47,10 @@ fn check_says_well_formed_or_each_broken_rule() {
     state.sets[0].zero = 5;
     let bad = file("bad", &state.packed());
     assert_eq!(status(&["check", &bad]), 1);
+    // The rules of the first part of the check come first.
     let wanted = "not well formed, broken rules: 2\n\
-        set-zero: The zero field of a set record is not zero. set 0\n\
-        bit-without-entry: A bit is 1 but no stored entry names its block. block 1\n";
+        bit-without-entry: A bit is 1 but no stored entry names its block. block 1\n\
+        set-zero: The zero field of a set record is not zero. set 0\n";
     assert_eq!(printed(&["check", &bad]), wanted);
 
     for length in [0, 3, TABLES_BYTES - 1] {

@@ -126,6 +126,8 @@ fn numbers_4_to_8() {
             ("read 1 0 4294967295 1", 0),
             ("size 1 0", 0),
             ("free", 0),
+            ("check-blocks", 0),
+            ("check", 0),
         ],
     );
     // A truncate needs an own block for its part page.
@@ -208,6 +210,7 @@ fn number_1_in_every_other_call() {
         "remove 9",
         "size 9 99",
         "free",
+        "check",
     ];
     let damages = [
         "tables 0",

@@ -24,6 +24,8 @@ RUN(make, sweep_make(STORE, N(0), N(1), N(2)))
 RUN(remove, sweep_remove(STORE, N(0)))
 RUN(size, sweep_size(STORE, N(0), N(1)))
 RUN(free, sweep_free(STORE))
+RUN(check_blocks, sweep_check_blocks(SLICE(TABLES)))
+RUN(check, sweep_check(STORE))
 
 /* The rows */
 
@@ -47,6 +49,8 @@ static const struct function functions[CALLS] = {
     [REMOVE] = {.name = "remove", .run = run_remove, .lends = {STORE_CHANGED}, .numbers = {SET}},
     [SIZE] = {.name = "size", .run = run_size, .lends = {STORE_READ}, .numbers = {SET, A_FILE}},
     [FREE] = {.name = "free", .run = run_free, .lends = {STORE_READ}},
+    [CHECK_BLOCKS] = {.name = "check_blocks", .run = run_check_blocks, .lends = {[TABLES] = READ_ONLY}, .unchecked = 1},
+    [CHECK] = {.name = "check", .run = run_check, .lends = {STORE_READ}},
 };
 
 struct suite exported = {functions, CALLS, judge, {{{0}}, 0, 0}};

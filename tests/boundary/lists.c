@@ -191,7 +191,7 @@ struct kind {
 static const struct kind kinds[] = {
     {36, WRITE, 0}, {12, CREATE, 0},       {16, MAKE, 0},         {8, DELETE, 0},         {16, TRUNCATE, 0},
     {8, REMOVE, 0}, {12, READ, 0},         {4, SIZE, 0},          {4, FREE, 0},           {5, 0, damage_tables},
-    {4, 0, change_a_page}, {2, 0, choose_lengths}, {1, FORMAT, 0},
+    {4, 0, change_a_page}, {2, 0, choose_lengths}, {1, FORMAT, 0},        {4, CHECK_BLOCKS, 0},   {4, CHECK, 0},
 };
 enum { KINDS = sizeof kinds / sizeof *kinds };
 

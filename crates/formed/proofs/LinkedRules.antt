@@ -8,7 +8,7 @@ use native.Mathlib.Nat.{lt-of-le-of-lt}
 use lib.Bits.{and-le-l, and-zero-r, bitAnd, bitOr}
 use lib.Count.{trailingZeros}
 use lib.Dec.{eqb, ltb}
-use lib.ListN.{getD, length, length-set, set}
+use lib.ListN.{getD, length, length-replicate, length-set, replicate, set}
 use lib.Pow.{pow-pos}
 use lib.Seq.{getD-set-other, getD-set-same}
 use borrow.Author.Tests.{eq-eqb, eqb-true, le-ltb, lt-ltb, ltb-false, ltb-true, ne-eqb, not-false, not-true}
@@ -230,6 +230,10 @@ module _ (t : List ℕ) (f : ℕ) (digits parents stored unmapped ends : List �
     where
       dead : (s : ℕ) → live (unpack t .files f s .state) ≡ false → fileLinked t f s ≡ true
       dead s a = rw (a, own-not (unpack t .files f s .state) a)
+
+  -- LAW: there is none
+  pub linking-none : lives ≡ 0 → true ≡ all 8 (fileLinked t f)
+  linking-none e = linking-done (replicate 8 0) lives (linking-start (replicate 8 0) (omega (arith, e)) (length-replicate {A = ℕ} 8 0)) e
 
   -- that of the lowest digit left is looked at
   module _ (resolved : List ℕ) (left : ℕ) (i : Linking t f lives resolved left) (h : 0 < left) (p : ℕ) (z : p ≡ trailingZeros 64 left) (lp : p < 64) where

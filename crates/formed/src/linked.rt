@@ -60,7 +60,7 @@ fn link_file(
     put_resolved(resolved, s, ends[s], m)
 }
 
-// Both rules for the files of number f.
+// Both rules for the files of number f. Where none is own or virgin, there is nothing to look at.
 pub fn files_linked(
     front: &[u8],
     files: &[u8],
@@ -75,6 +75,9 @@ pub fn files_linked(
     requires { ⌜ (f < 16) × Numbered (now front ++ now files) f (now digits) (now parents) (now stored) (now unmapped) (now ends) lives ⌝ }
     ensures { λ r. ⌜ r ≡ all 8 (fileLinked (now (front .entry) ++ now (files .entry)) f) ⌝ }
 {
+    if lives == 0 {
+        return true;
+    }
     let mut resolved = masks_of(0);
     let mut left = lives;
     while left != 0 {

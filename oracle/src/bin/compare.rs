@@ -52,6 +52,8 @@ mod sweep {
         sweep_remove(change tables, change pages, u32 0);
         sweep_size(look tables, look pages, u32 0, u32 1);
         sweep_free(look tables, look pages);
+        sweep_check_blocks(look tables);
+        sweep_check(look tables, look pages);
     }
 
     /// Whether the call at this place in `CALL_NAMES` is linked.
@@ -80,7 +82,7 @@ mod linked {
     use oracle::agree::read_off;
     use oracle::bench::{replay, report, Bench, Counts};
     use oracle::call::*;
-    use oracle::check::{check_all, Rule};
+    use oracle::check::{rules_broken, Rule};
     use oracle::gen::{self, Made, Style};
     use oracle::history::{any_history, Failure};
     use oracle::judge::Beside;
@@ -102,6 +104,9 @@ exit status: 0 no difference, 1 a difference, 2 bad usage
 
     /// Each elementary rule is broken at least so many times.
     const DAMAGES_OF_EACH_RULE: u64 = 100;
+    /// And so many times alone.
+    const ALONE_OF_EACH_RULE: usize = 10;
+    const SCATTERED: usize = 200;
     const STATES: usize = 60;
     const LENGTH_ROUNDS: usize = 15;
 
@@ -183,6 +188,7 @@ exit status: 0 no difference, 1 a difference, 2 bad usage
             states: Vec::new(),
             histories: 0,
             twists: 0,
+            by_first_part: [0; 2],
             trace: Trace(file),
         };
         let outcome = run.all(Duration::from_secs(seconds));
@@ -204,6 +210,9 @@ exit status: 0 no difference, 1 a difference, 2 bad usage
         states: Vec<Made>,
         histories: u64,
         twists: u64,
+        /// Damaged tables that the first part of the check accepts, and those
+        /// that it refuses.
+        by_first_part: [u64; 2],
         trace: Trace,
     }
 
@@ -221,12 +230,23 @@ exit status: 0 no difference, 1 a difference, 2 bad usage
                     self.damaged(Some(*rule))?;
                 }
             }
+            for rule in Rule::ALL {
+                for _ in 0..ALONE_OF_EACH_RULE {
+                    self.broken_alone(*rule)?;
+                }
+            }
+            for _ in 0..SCATTERED {
+                self.scattered()?;
+            }
             while self.histories < 20 || start.elapsed() < time {
                 self.history()?;
                 for _ in 0..5 {
                     self.damaged(None)?;
                     self.twisted()?;
+                    self.scattered()?;
                 }
+                let rule = self.rng.pick(Rule::ALL);
+                self.broken_alone(rule)?;
                 if self.rng.percent(10) {
                     self.new_state();
                     self.wrong_lengths()?;
@@ -271,15 +291,8 @@ exit status: 0 no difference, 1 a difference, 2 bad usage
                         u64::from(gen::damage(&mut self.rng, &mut tables).is_none())
                 }
             }
-            let mut broken: Vec<Rule> =
-                check_all(&tables, made.pages.len()).iter().map(|broken| broken.rule).collect();
-            broken.sort();
-            broken.dedup();
-            for rule in broken {
-                *self.counts.damages.entry(rule).or_default() += 1;
-            }
-            let mut script: Vec<Item> = made.calls.iter().cloned().map(Item::Call).collect();
-            script.extend(pokes(&made.tables, &tables));
+            self.count_damage(&tables, made.pages.len());
+            let mut script = script_to(&made, &tables, &made.pages);
             let mut bench = Bench::with(tables, made.pages.clone());
             // A block count out of range, but as many pages.
             if rule == Some(Rule::BlockCount) && self.rng.percent(50) {
@@ -291,6 +304,38 @@ exit status: 0 no difference, 1 a difference, 2 bad usage
             self.calls_on(bench, script, calls)
         }
 
+        fn count_damage(&mut self, tables: &[u8], pages_length: usize) {
+            let broken = rules_broken(tables, pages_length);
+            if !broken.is_empty() {
+                let refused = broken.iter().any(|rule| rule.is_first_part());
+                self.by_first_part[usize::from(refused)] += 1;
+            }
+            for rule in broken {
+                *self.counts.damages.entry(rule).or_default() += 1;
+            }
+        }
+
+        /// A store in which one rule is broken alone: every linked call on it.
+        fn broken_alone(&mut self, rule: Rule) -> Outcome {
+            let broke = gen::break_alone(&mut self.rng, rule);
+            self.count_damage(&broke.tables, broke.pages.len());
+            let script = script_to(&broke.made, &broke.tables, &broke.pages);
+            let calls = self.calls(&broke.made.style, &broke.made.beside);
+            self.calls_on(Bench::with(broke.tables, broke.pages), script, calls)
+        }
+
+        /// Entries in any records, and what the first part of the check does
+        /// not look at: every linked call on them.
+        fn scattered(&mut self) -> Outcome {
+            let made = self.rng.pick(&self.states);
+            let mut tables = made.tables.clone();
+            gen::scatter(&mut self.rng, &mut tables);
+            self.count_damage(&tables, made.pages.len());
+            let script = script_to(&made, &tables, &made.pages);
+            let calls = self.calls(&made.style, &made.beside);
+            self.calls_on(Bench::with(tables, made.pages), script, calls)
+        }
+
         /// Well-formed stores that no history need reach: some linked calls on
         /// each.
         fn twisted(&mut self) -> Outcome {
@@ -298,14 +343,7 @@ exit status: 0 no difference, 1 a difference, 2 bad usage
             let (mut tables, mut pages) = (made.tables.clone(), made.pages.clone());
             gen::twist(&mut self.rng, &mut tables, &mut pages);
             self.twists += 1;
-            let mut script: Vec<Item> = made.calls.iter().cloned().map(Item::Call).collect();
-            script.extend(pokes(&made.tables, &tables));
-            let changed = (0..pages.len()).filter(|at| pages[*at] != made.pages[*at]);
-            script.extend(changed.map(|at| Item::Poke {
-                buffer: Buffer::Pages,
-                at,
-                value: pages[at],
-            }));
+            let script = script_to(&made, &tables, &pages);
             let beside = read_off(&State::unpack(&tables), &pages);
             let mut calls = Vec::new();
             for _ in 0..3 {
@@ -404,20 +442,30 @@ exit status: 0 no difference, 1 a difference, 2 bad usage
                 println!("damage {} {}", rule.name(), self.damages_of(*rule));
             }
             println!("damages by random bit flips {}", counts.flips);
+            let [accepted, refused] = self.by_first_part;
+            println!("damaged tables that the first part accepts {accepted}, refuses {refused}");
             println!("accepted reads compared with the library {}", counts.reads_linked);
             println!("accepted reads compared with plain store and tally {}", counts.reads_beside);
         }
     }
 
-    /// The lines that make one table of another.
-    fn pokes(before: &[u8], after: &[u8]) -> Vec<Item> {
+    /// The calls that made a store, and the lines that then make another of it.
+    fn script_to(made: &Made, tables: &[u8], pages: &[u8]) -> Vec<Item> {
+        let mut script: Vec<Item> = made.calls.iter().cloned().map(Item::Call).collect();
+        script.extend(pokes(Buffer::Tables, &made.tables, tables));
+        script.extend(pokes(Buffer::Pages, &made.pages, pages));
+        script
+    }
+
+    /// The lines that make other bytes of a buffer's.
+    fn pokes(buffer: Buffer, before: &[u8], after: &[u8]) -> Vec<Item> {
         let mut items = Vec::new();
         if before.len() != after.len() {
-            items.push(Item::Length { buffer: Buffer::Tables, length: after.len() });
+            items.push(Item::Length { buffer, length: after.len() });
         }
         for (at, value) in after.iter().enumerate() {
             if before.get(at).copied().unwrap_or(0) != *value {
-                items.push(Item::Poke { buffer: Buffer::Tables, at, value: *value });
+                items.push(Item::Poke { buffer, at, value: *value });
             }
         }
         items

@@ -1,0 +1,65 @@
+/* The two parts of the check, rule by rule: stores in which one rule is broken, and no other where that can be; the judge makes
+ * them. A rule of the first part: both checks refuse. A rule of the second part: sweep_check_blocks accepts, sweep_check
+ * refuses. Either way every other call but a format refuses with 1. All calls are compared with the judge too.
+ * Exit status: 0 all well, 1 not. */
+#include <stdbool.h>
+#include <stdio.h>
+#include "calls.h"
+
+enum { STORES_OF_EACH_RULE = 40 };
+
+/* What is known of a store in which a rule is broken. */
+struct broken {
+    char name[64];       /* of the rule */
+    uint32_t first_part; /* whether the rule is one of the first part */
+    uint32_t alone;      /* whether no other rule is broken */
+    size_t tables_length, pages_length;
+};
+
+/* Makes such a store in the two buffers, tables and pages: the seed chooses it. False where there is no such rule; they are
+ * numbered from 0 on (judge/). */
+extern bool break_rule(uint32_t rule, uint64_t seed, const struct slice *buffers, struct broken *made);
+
+static int wrong;
+
+static void expect(const struct buffers *world, const char *rule, unsigned name, uint32_t number, unsigned turn)
+{
+    static struct buffers now;
+    const struct call call = {name, {0}, {{0, 0}}};
+    copy_buffers(&now, world);
+    sweep_answer answer = do_call(&exported, call_plainly, &now, &call, turn);
+    if (answer.number == number)
+        return;
+    printf("parts: %s is broken: %s gave %u, not %u\n", rule, exported.functions[name].name, answer.number, number);
+    wrong = 1;
+}
+
+static void try_store(const struct buffers *world, const struct broken *made, unsigned turn)
+{
+    expect(world, made->name, CHECK_BLOCKS, made->first_part ? SWEEP_BAD_TABLES : SWEEP_OK, turn);
+    for (unsigned name = 0; name < CALLS; name++)
+        if (name != CHECK_BLOCKS && name != FORMAT)
+            expect(world, made->name, name, SWEEP_BAD_TABLES, turn);
+}
+
+int main(void)
+{
+    static struct buffers world;
+    const struct slice buffers[] = {{world.of[TABLES], ROOM_BYTES}, {world.of[PAGES], ROOM_BYTES}};
+    unsigned first[2] = {0, 0}, second[2] = {0, 0}; /* rules broken together with others, and alone in every store */
+    struct broken made;
+    for (uint32_t rule = 0; break_rule(rule, 0, buffers, &made); rule++) {
+        int alone = 1;
+        for (unsigned seed = 0; seed < STORES_OF_EACH_RULE; seed++) {
+            break_rule(rule, seed, buffers, &made);
+            world.length[TABLES] = made.tables_length;
+            world.length[PAGES] = made.pages_length;
+            alone = alone && made.alone;
+            try_store(&world, &made, seed);
+        }
+        (made.first_part ? first : second)[alone]++;
+    }
+    printf("parts: rules broken in %d stores each: %u of the first part, %u of them alone; %u of the second, %u of them alone\n",
+           STORES_OF_EACH_RULE, first[0] + first[1], first[1], second[0] + second[1], second[1]);
+    return wrong || first[1] == 0 || second[1] == 0;
+}
