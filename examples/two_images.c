@@ -78,8 +78,10 @@ static int load(void)
     if (place < 0)
         return 0;
     memcpy(tables, flash[place] + 4, sizeof tables);
+    if (sweep_check_blocks(tables, sizeof tables).number != SWEEP_OK) /* the tables alone, before the pages are fetched */
+        return 0;
     memcpy(pages, flash[place] + 4 + sizeof tables, sizeof pages);
-    return sweep_free(STORE).number == SWEEP_OK;
+    return sweep_check(STORE).number == SWEEP_OK;
 }
 
 /* A store of one sweep with its reference copy: `first` is kept by the copy, `second` stands in the set itself. */
@@ -121,7 +123,7 @@ int main(void)
         save();
         if (cut > 4 && cut < IMAGE_BYTES) { /* what number 1 alone says of the place that was being written */
             memcpy(tables, flash[0] + 4, sizeof tables);
-            torn += sweep_free(STORE).number == SWEEP_OK;
+            torn += sweep_check(STORE).number == SWEEP_OK;
         }
         if (!load())
             return 1;

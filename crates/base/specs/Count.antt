@@ -1,5 +1,5 @@
 -- How many of the first n numbers pass a test, and whether all of them do. Assumes nothing.
-use mathlib.Core.Path.{_≡_, refl, sym, _∙_, ap, subst}
+use mathlib.Core.Path.{_≡_, refl, sym, _∙_, ap, ap₂, subst}
 use mathlib.Core.Bool.{Bool, true, false, cond, not, _&&_, true≢false}
 use Prim.Native.Nat.{ℕ, zero, suc, _+_, _≤_, _<_}
 use native.Mathlib.Numerals.{add-one}
@@ -108,6 +108,12 @@ pub all-of : (n : ℕ) (f : ℕ → Bool) → ((x : ℕ) → x < n → f x ≡ t
 unfolding all
 all-of zero f h = refl
 all-of (suc n) f h = and-both (f n) (all n f) (h n (omega arith)) (all-of n f (λ x l. h x (omega arith)))
+
+-- only the first n numbers count
+pub all-same : (n : ℕ) (f g : ℕ → Bool) → ((x : ℕ) → x < n → f x ≡ g x) → all n f ≡ all n g
+unfolding all
+all-same zero f g h = refl
+all-same (suc n) f g h = ap₂ _&&_ (h n (omega arith)) (all-same n f g (λ x l. h x (omega arith)))
 
 -- one more number is tested; none is
 pub all-more : (n : ℕ) (f : ℕ → Bool) → all (suc n) f ≡ (f n && all n f)

@@ -5,6 +5,7 @@ use Rattle.history.proofs.Formed.{formed-after, formed-marks}
 use Rattle.history.proofs.Others.{others}
 use Rattle.history.specs.Claims.{Claims}
 use Rattle.rules.proofs.Whole.Rows.{rows-hold}
+use Rattle.tables.proofs.BlocksAlone.{blocks-alone}
 use Rattle.tables.proofs.OneReading.{one-reading}
 
 -- THEOREM
@@ -15,5 +16,6 @@ claims = record {
   listed = listed-run;
   formed = λ m bs h es. (formed-after m bs h es, formed-marks m bs h es);
   others = others;
+  blocks-alone = blocks-alone;
   rows = rows-hold;
 }

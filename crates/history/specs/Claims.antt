@@ -10,6 +10,7 @@ use Rattle.history.specs.Others.{OthersClaim}
 use Rattle.packing.specs.Words.{Bytes}
 use Rattle.rules.specs.Numbers.{Call}
 use Rattle.rules.specs.Rows.{RowsClaim}
+use Rattle.tables.specs.Checks.{BlocksAloneClaim}
 use Rattle.tables.specs.OneReading.{OneReadingClaim}
 use Rattle.tables.specs.Packed.{wellFormed}
 
@@ -27,4 +28,6 @@ pub record Claims : Type 0 where
   pub formed : FormedClaim
   -- document 02, Ask 2: what a delete or a truncate leaves of other files
   pub others : OthersClaim
+  -- document 02, Ask 4: the first part of the check sees nothing else
+  pub blocks-alone : BlocksAloneClaim
   pub rows : RowsClaim

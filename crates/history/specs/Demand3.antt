@@ -1,10 +1,11 @@
 -- DEMAND 3: one claim about the whole list of events. Document 01, "Demand 3".
 --
 -- For all tables and pages whose lengths a format accepts, whatever they hold, and every list of events (the ten calls with any arguments, refused ones
--- included), run from their format on, tables and pages handed from one to the next as bytes, by the definition `callOn` that the contracts of the exported functions cite:
+-- included, and the calls added since, which run one of the ten or none), run from their format on, tables and pages handed from one to the next as bytes, by
+-- the definitions that the contracts of the exported functions cite (`callOn`, and those of the added calls):
 -- the tables are well formed; sets, presence, sizes and bytes by reading are the plain store's; states, sizes, kinds and free blocks are the tally's; and
--- every answer, its number and all three counts, with the bytes of every read, is the one that plain store and tally give, fed the arguments of the calls
--- that the events ran, alone.
+-- every answer of the ten, its number and all three counts, with the bytes of every read, is the one that plain store and tally give, fed the arguments of the
+-- calls that the events ran, alone. What an added call answers is said by its contract.
 -- So accepted are exactly the calls to which no refusal applies, judged on these two.
 -- And at every place in the list a file becomes marked exactly when a needed copy for it finds no free block beyond the writer's own need, or it still depends
 -- on a file so marked, or its set is then made from one where it is marked: read off the bytes before and after.
@@ -61,7 +62,7 @@ pub record Demand3 (m : Image) (es : List Event) : Type 0 where
   pub formed : wellFormed (imageAfter m es .tables) (length (imageAfter m es .pages)) ≡ true
   -- 2, 3. sets, presence, sizes and bytes by reading are those of the plain store
   pub plain : AgreesPlain (storeIn (imageAfter m es)) (bothAfter m (callsRun m es) .plain)
-  -- 4, 5. every call's number and counts, and the bytes of every read, are those that plain store and tally give
+  -- 4, 5. the number and counts of every call of the ten that was run, and the bytes of every read, are those that plain store and tally give
   pub given : gaveAll es (after format m) ≡ bothGiven (length (m .pages) / pageBytes) (callsRun m es) plainFormat (tallyFormat (length (m .pages) / pageBytes))
   -- 6. states, sizes, kinds and free blocks are the tally's
   pub tally : AgreesTally (storeIn (imageAfter m es)) (bothAfter m (callsRun m es) .tally)

@@ -3,7 +3,7 @@
 use mathlib.Core.Path.{_≡_, refl, sym, ap, ap₂, _∙_, subst, fun-ext}
 use mathlib.Core.Bool.{Bool, true, false}
 use mathlib.Core.Logic.{_≢_}
-use mathlib.Core.List.{List}
+use mathlib.Core.List.{List, _++_}
 use Prim.Native.Nat.{ℕ, zero, suc, _+_, _-_, _*_, _/_, _%_, _^_, _<_, _≤_}
 use native.Mathlib.Decide.{decLt}
 use native.Mathlib.Nat.{add-zero, add-suc}
@@ -12,7 +12,7 @@ use lib.Arith.{lt-one}
 use lib.Bits.{bitOr, bitAnd, or-zero-r, and-zero-r}
 use lib.Dec.{eqb}
 use lib.Count.{ones, ones-cat, ones-step}
-use lib.ListN.{length, getD, set, length-set}
+use lib.ListN.{List·getD-append, length, getD, set, length-set}
 use lib.Pow.{pow-lt}
 use lib.Seq.{getD-set-same, getD-set-other}
 use Rattle.base.specs.Logic.{same?, digit}
@@ -69,6 +69,11 @@ one-digit true = refl
 one-digit false = refl
 
 -- ---- one bit is set or cleared
+
+-- LAW: a bit of the first of two lists, one behind the other
+pub bit-front : (t u : List ℕ) (at b : ℕ) → at + b / 8 < length t → bitAt (t ++ u) at b ≡ bitAt t at b
+unfolding bitAt
+bit-front t u at b h = ap (λ x. isOne (bit x (7 - b % 8))) (List·getD-append t u 0 (at + b / 8) h)
 
 -- a byte whose digit for bit b is v, and whose other digits are as they were
 put-bit : (t : List ℕ) (at b x : ℕ) (v : Bool) → at + b / 8 < length t → isOne (bit x (7 - b % 8)) ≡ v

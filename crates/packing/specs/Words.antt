@@ -3,15 +3,15 @@
 use mathlib.Core.Path.{_≡_, refl, ap, ap₂, sym, _∙_}
 use mathlib.Core.Bool.{cond}
 use mathlib.Core.Logic.{_⊎_, inl, inr, ⊎-elim}
-use mathlib.Core.List.{List}
+use mathlib.Core.List.{List, _++_}
 use Prim.Native.Nat.{ℕ, zero, suc, _+_, _*_, _/_, _%_, _^_, _<_, _≤_}
 use native.Mathlib.Decide.{decLt}
 use native.Mathlib.Nat.{add-zero, div-add-mod', div-div-eq-div-mul, mul-comm, pow-suc}
 use lib.Arith.{mod-mul}
 use native.Mathlib.Omega.{arith}
 use lib.Dec.{eqb}
-use lib.ListN.{length, getD, set, length-set}
-use lib.Seq.{getD-set-same, getD-set-other}
+use lib.ListN.{List·getD-append, length, getD, set, length-set}
+use lib.Seq.{getD-append-add, getD-set-same, getD-set-other}
 use borrow.Author.Tests.{eq-eqb, ne-eqb}
 use Rattle.base.specs.Logic.{same?}
 
@@ -103,6 +103,22 @@ put-same m t at v i h = byte-put-other m t i at v (go (decLt i at))
         go2 : Dec (at + m < i) → (i < at) ⊎ (at + m < i)
         go2 (yes l) = inr l
         go2 (no k) = absurd (h (omega arith) (omega arith))
+
+-- ---- two lists, one behind the other
+
+-- a word of the first
+pub get-front : (m : ℕ) (t u : List ℕ) (at : ℕ) → at + m < length t → getWord m (t ++ u) at ≡ getWord m t at
+unfolding getWord
+get-front zero t u at h = List·getD-append t u 0 at (omega arith)
+get-front (suc m) t u at h = ap₂ (λ (x y : ℕ). x * 256 + y) (get-front m t u at (omega arith)) (List·getD-append t u 0 (at + suc m) (omega arith))
+
+-- a word of the second
+pub get-behind : (m : ℕ) (t u : List ℕ) (at : ℕ) → getWord m (t ++ u) (length t + at) ≡ getWord m u at
+unfolding getWord
+get-behind zero t u at = getD-append-add t u at 0
+get-behind (suc m) t u at =
+    let q : length t + at + suc m ≡ length t + (at + suc m) = omega arith in
+    ap₂ (λ (x y : ℕ). x * 256 + y) (get-behind m t u at) (ap (λ k. getD (t ++ u) k 0) q ∙ getD-append-add t u (at + suc m) 0)
 
 -- ---- a word and its bytes
 

@@ -1,14 +1,13 @@
 -- What the check of header and set records says of tables in two parts: it is told from the front, which has the header, the bitmap and the set records.
 -- Assumes nothing.
-use mathlib.Core.Bool.{Bool, _&&_, false, _||_}
+use mathlib.Core.Bool.{_&&_, false, _||_}
 use mathlib.Core.List.{List, _++_}
 use mathlib.Core.Path.{ap, ap₂, refl, sym, _∙_, _≡_}
-use Prim.Native.Nat.{_<_, ℕ}
+use Prim.Native.Nat.{ℕ}
 use lib.Dec.{eqb}
 use lib.ListN.{length}
-use Rattle.base.specs.Logic.{same-test}
+use Rattle.base.specs.Count.{all-same}
 use Rattle.packing.specs.Fields.{getField}
-use Rattle.rules.proofs.Formed.Tests.{sets-at, sets-of}
 use Rattle.rules.specs.State.{SetRecord, Tables, absentFile}
 use Rattle.rules.specs.WellFormed.{allSets, chainEnds, chainFormed, headerFormed, pagesFit, placeFormed, rootFormed, treeFormed, zeroSet}
 use Rattle.setcheck.specs.Records.{headerZero, setRecordsFormed, setZero, unusedZero, zerosOfSets}
@@ -24,11 +23,6 @@ tree-sets : (tb : Tables) → treeFormed tb ≡ treeFormed (setsAlone (tb .sets)
 unfolding treeFormed rootFormed chainFormed placeFormed chainEnds
 tree-sets tb = refl
 
-same-sets : (g h : ℕ → Bool) → ((s : ℕ) → s < 8 → g s ≡ h s) → allSets g ≡ allSets h
-same-sets g h e = same-test (allSets g) (allSets h)
-    (λ k. sets-of h (λ s l. sym (e s l) ∙ sets-at g k s l))
-    (λ k. sets-of g (λ s l. e s l ∙ sets-at h k s l))
-
 module _ (front files : List ℕ) (len : length front ≡ filesAt) where
   -- LAWS: the header
   pub header-part : headerFormed (unpack (front ++ files)) ≡ headerFormed (unpack front)
@@ -43,9 +37,9 @@ module _ (front files : List ℕ) (len : length front ≡ filesAt) where
 
   -- LAW: the set records
   zeros-part : zerosOfSets (front ++ files) ≡ zerosOfSets front
-  unfolding zerosOfSets unusedZero
+  unfolding zerosOfSets unusedZero allSets
   zeros-part = ap₂ _&&_
-      (same-sets (setZero (front ++ files)) (setZero front) (λ s l. ap (λ w. eqb (getField setWidths w 6) 0) (set-word-front front files len s l)))
+      (all-same 8 (setZero (front ++ files)) (setZero front) (λ s l. ap (λ w. eqb (getField setWidths w 6) 0) (set-word-front front files len s l)))
       (ap (λ (x : ℕ → SetRecord). allSets (λ s. x s .used || zeroSet (x s))) (sets-front front files len))
 
   tree-part : treeFormed (unpack (front ++ files)) ≡ treeFormed (unpack front)

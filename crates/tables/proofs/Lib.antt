@@ -5,6 +5,7 @@ pub mod Lengths
 pub mod PackedTables
 pub mod ReadParts
 pub mod Parts
+pub mod BlocksAlone
 pub mod PackWords
 pub mod PackUnpack
 pub mod OneReading

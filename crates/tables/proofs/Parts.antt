@@ -2,16 +2,15 @@
 -- of one of the two. Assumes nothing.
 use mathlib.Core.List.{List, _++_}
 use mathlib.Core.Path.{ap, ap₂, fun-ext, sym, _∙_, _≡_}
-use Prim.Native.Nat.{_%_, _*_, _+_, _-_, _/_, _<_, suc, zero, ℕ, _≤_}
+use Prim.Native.Nat.{_*_, _+_, _-_, _/_, _<_, ℕ}
 use native.Mathlib.Omega.{arith}
 use lib.Dec.{ltb}
-use lib.ListN.{List·getD-append, drop, getD, length, length-append, length-drop, take, take-append-drop}
+use lib.ListN.{drop, getD, length, length-append, length-drop, take, take-append-drop}
 use lib.Seq.{getD-append-add, take-all}
 use borrow.Author.Tests.{ltb-false, ltb-true}
 use Rattle.base.specs.Logic.{test?}
-use Rattle.packing.specs.Bitmap.{bitAt, isOne}
-use Rattle.packing.specs.Bits.{bit}
-use Rattle.packing.specs.Words.{Bytes, getWord}
+use Rattle.packing.specs.Bitmap.{bit-front}
+use Rattle.packing.specs.Words.{get-behind, get-front, getWord}
 use Rattle.rules.specs.State.{fileCount, largestBlocks, setCount}
 use Rattle.tables.proofs.ReadParts.{bit-default, read-bit, read-blocks, read-next, read-set, set-default}
 use Rattle.tables.specs.Layout.{bitmapAt, entryBytes, entryWord, fileBytes, filesAt, filesBytes, headBytes, headWord, headerWord, readBlocks, readNext, readSet, setAt, setWord, tableBytes}
@@ -30,23 +29,14 @@ module _ (front files : List ℕ) (len : length front ≡ filesAt) where
   whole-length h = length-append front files ∙ ap₂ _+_ len h
 
   -- LAWS: a byte, a word
-  byte-front : (k : ℕ) → k < filesAt → getD whole k 0 ≡ getD front k 0
-  byte-front k l = List·getD-append front files 0 k (omega (arith, len))
-
   pub byte-files : (k : ℕ) → getD whole (filesAt + k) 0 ≡ getD files k 0
   byte-files k = ap (λ n. getD whole (n + k) 0) (sym len) ∙ getD-append-add front files k 0
 
-  pub word-front : (m at : ℕ) → at + m < filesAt → getWord m whole at ≡ getWord m front at
-  unfolding getWord
-  word-front zero at l = byte-front at (omega arith)
-  word-front (suc m) at l = ap₂ (λ (x y : ℕ). x * 256 + y) (word-front m at (omega arith)) (byte-front (at + suc m) (omega arith))
+  word-front : (m at : ℕ) → at + m < filesAt → getWord m whole at ≡ getWord m front at
+  word-front m at l = get-front m front files at (omega (arith, len))
 
-  pub word-files : (m at : ℕ) → getWord m whole (filesAt + at) ≡ getWord m files at
-  unfolding getWord
-  word-files zero at = byte-files at
-  word-files (suc m) at =
-      let q : filesAt + at + suc m ≡ filesAt + (at + suc m) = omega arith in
-      ap₂ (λ (x y : ℕ). x * 256 + y) (word-files m at) (ap (λ k. getD whole k 0) q ∙ byte-files (at + suc m))
+  word-files : (m at : ℕ) → getWord m whole (filesAt + at) ≡ getWord m files at
+  word-files m at = ap (λ n. getWord m whole (n + at)) (sym len) ∙ get-behind m front files at
 
   -- LAWS: header, bits and set records are those of the front
   pub header-front : headerWord whole ≡ headerWord front
@@ -58,26 +48,24 @@ module _ (front files : List ℕ) (len : length front ≡ filesAt) where
   pub next-front : unpack whole .next ≡ unpack front .next
   next-front = read-next whole ∙ ap readNext header-front ∙ sym (read-next front)
 
-  bit-front : (b : ℕ) → unpack whole .bits b ≡ unpack front .bits b
-  unfolding bitAt
-  bit-front b = test? (ltb b largestBlocks)
-      (λ e. let l = ltb-true b largestBlocks e in
-      read-bit whole b l ∙ ap (λ x. isOne (bit x (7 - b % 8))) (byte-front (bitmapAt + b / 8) (omega arith)) ∙ sym (read-bit front b l))
+  bit-is : (b : ℕ) → unpack whole .bits b ≡ unpack front .bits b
+  bit-is b = test? (ltb b largestBlocks)
+      (λ e. let l = ltb-true b largestBlocks e in read-bit whole b l ∙ bit-front front files bitmapAt b (omega (arith, len)) ∙ sym (read-bit front b l))
       (λ e. let l = ltb-false b largestBlocks e in bit-default whole b l ∙ sym (bit-default front b l))
 
   pub bits-front : unpack whole .bits ≡ unpack front .bits
-  bits-front = fun-ext bit-front
+  bits-front = fun-ext bit-is
 
   pub set-word-front : (s : ℕ) → s < setCount → setWord whole s ≡ setWord front s
   set-word-front s l = word-front 2 (setAt s) (omega arith)
 
-  set-front : (s : ℕ) → unpack whole .sets s ≡ unpack front .sets s
-  set-front s = test? (ltb s setCount)
+  set-is : (s : ℕ) → unpack whole .sets s ≡ unpack front .sets s
+  set-is s = test? (ltb s setCount)
       (λ e. let l = ltb-true s setCount e in read-set whole s l ∙ ap readSet (set-word-front s l) ∙ sym (read-set front s l))
       (λ e. let l = ltb-false s setCount e in set-default whole s l ∙ sym (set-default front s l))
 
   pub sets-front : unpack whole .sets ≡ unpack front .sets
-  sets-front = fun-ext set-front
+  sets-front = fun-ext set-is
 
   -- LAWS: the words of a file record are those of the file records
   pub head-files : (f s : ℕ) → headWord whole f s ≡ getWord 3 files ((s * fileCount + f) * fileBytes)

@@ -1,4 +1,4 @@
--- The ten calls on bytes: what the exported functions do.
+-- The ten calls on bytes: what their exported functions do.
 use mathlib.Core.Bool.{_&&_, Bool, cond}
 use mathlib.Core.List.{List, []}
 use Prim.Native.Nat.{_%_, _*_, _+_, _/_, suc, zero, ℕ}
