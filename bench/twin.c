@@ -1,5 +1,5 @@
 /*
- * The hand-written C twin of the sweep store: the ten calls of include/sweep.h under the prefix twin_, written from the
+ * The hand-written C twin of the sweep store: the calls of include/sweep.h under the prefix twin_, written from the
  * scope document and the layout of the tables, with the same checks. It is there to be measured beside the exported
  * calls (bench/run) and is held to the second implementation by bench/run --check-twin.
  *
@@ -314,8 +314,8 @@ static bool check_bits(const uint8_t *t, const struct pass *k, unsigned b)
 }
 
 /* The first part of the check: the header, the entries of every record and the bits. The masks of the records of the sets
- * before set *to are kept; those after it are zero. */
-static bool check_blocks(const uint8_t *t, size_t length, struct masks *masks, unsigned *to)
+ * before set *to are kept where they are wanted; the records from set *to on are zero. */
+static inline __attribute__((always_inline)) bool check_blocks(const uint8_t *t, size_t length, struct masks *masks, unsigned *to)
 {
     if (length != TABLES)
         return false;
@@ -332,10 +332,10 @@ static bool check_blocks(const uint8_t *t, size_t length, struct masks *masks, u
     zero_bytes((uint8_t *)&k, sizeof k);
     for (unsigned i = 0; i < n * FILES; i++) {
         const uint8_t *r = t + HEADS + i * RECORD;
-        if (!(load32(r) & 0x7fffffff) && zero_words(r + 4, 16))
-            masks[i] = (struct masks){ 0, ~(uint64_t)0 };
-        else
-            masks[i] = pass_map(&k, r + 4);
+        bool blank = !(load32(r) & 0x7fffffff) && zero_words(r + 4, 16);
+        struct masks m = blank ? (struct masks){ 0, ~(uint64_t)0 } : pass_map(&k, r + 4);
+        if (masks)
+            masks[i] = m;
     }
     *to = n;
     return !k.bad && !k.twice && check_bits(t, &k, b);
@@ -465,9 +465,8 @@ sweep_answer twin_free(const uint8_t *t, size_t tl, const uint8_t *p, size_t pl)
 
 sweep_answer twin_check_blocks(const uint8_t *t, size_t tl)
 {
-    struct masks masks[SETS * FILES];
     unsigned n;
-    return refused(check_blocks(t, tl, masks, &n) ? SWEEP_OK : SWEEP_BAD_TABLES);
+    return refused(check_blocks(t, tl, NULL, &n) ? SWEEP_OK : SWEEP_BAD_TABLES);
 }
 
 sweep_answer twin_check(const uint8_t *t, size_t tl, const uint8_t *p, size_t pl)

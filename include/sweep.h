@@ -46,7 +46,7 @@ extern "C" {
 /* The number that a call gives: the lowest that applies */
 enum sweep_number {
     SWEEP_OK = 0,           /* accepted */
-    SWEEP_BAD_TABLES = 1,   /* tables not well formed or of wrong length; format: a length that does not fit */
+    SWEEP_BAD_TABLES = 1,   /* tables not well formed, tables or pages of wrong length; check_blocks: its rules; format: lengths */
     SWEEP_NO_SET = 2,       /* a set number over 7, or a set that must be used is not */
     SWEEP_BAD_FILE = 3,     /* a file number over 15 */
     SWEEP_READ_ONLY = 4,    /* create, write, truncate, delete in a read-only set */
@@ -114,10 +114,11 @@ sweep_answer sweep_size(const uint8_t *tables, size_t tables_length, const uint8
 /* Counts: the free blocks, 0, 0. */
 sweep_answer sweep_free(const uint8_t *tables, size_t tables_length, const uint8_t *pages, size_t pages_length);
 
-/* The first part of the check that every call but format begins with, on the tables alone: SWEEP_OK where they have the right
- * length and the block count, next start, the kinds and blocks of all entries of all file records, and the bitmap are as they
- * must be, whatever else the tables hold; else SWEEP_BAD_TABLES. SWEEP_OK does not say that the store is well formed: zero
- * fields, set records and the other rules on files are not looked at, nor are there pages. */
+/* The first part of the check that every other call but format begins with, on the tables alone. SWEEP_OK: their length is right;
+ * the block count is 1 to SWEEP_BLOCKS_MAX and next start below it; no entry of any file record, used or not, has kind 3, or a
+ * block unless it is stored; a bit of the bitmap is 1 exactly when one stored entry names its block; no block is named twice, or
+ * is at or over the block count. Else SWEEP_BAD_TABLES. Nothing else counts: zero fields, set records, states and sizes may be
+ * wrong, so SWEEP_OK does not say that the store can be used. sweep_check says that. */
 sweep_answer sweep_check_blocks(const uint8_t *tables, size_t tables_length);
 
 /* The whole check: SWEEP_OK where the tables are well formed and the pages have the length that the tables tell; else

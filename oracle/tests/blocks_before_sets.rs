@@ -338,7 +338,7 @@ fn b_and_next_start() {
 #[test]
 fn tables_of_another_length() {
     let (tables, pages) = on_base("");
-    for length in [0, 1, 3, 4, 516, 540, 17_435, 17_437, 17_468, 34_872] {
+    for length in [0, 1, 3, 4, 516, 540, 17_435, 17_437, 34_872] {
         let mut other = tables.clone();
         other.resize(length, 0);
         assert_eq!(numbers(&other, &pages), BOTH_REFUSE, "{length}");
@@ -460,7 +460,7 @@ impl Other for Says {
     }
 }
 
-/// Another implementation that gives another number is found out.
+/// Another implementation that gives another number is noticed.
 #[test]
 fn another_answer_is_noticed() {
     for (change, number) in [("", 0), ("poke 3 1", 0), ("pages 0", 0), ("poke 4 224", 1)] {
@@ -709,8 +709,8 @@ fn random_bytes_are_judged_by_the_bytes() {
     assert!(accepted[0] > 200 && accepted[3] > 0 && accepted[4..] == [0, 0]);
 }
 
-/// The first part says the same whatever stands in bytes that are none of its
-/// business: the header's zero field, the set records, the first four bytes of
+/// The first part says the same whatever stands in the bytes that it does not
+/// go by: the header's zero field, the set records, the first four bytes of
 /// each file record.
 #[test]
 fn other_fields_make_no_difference_to_the_first_part() {

@@ -181,8 +181,8 @@ typedef void changes(struct buffers *world, struct cursor *cursor);
 
 /* Lists */
 
-/* What a byte of a list asks for: a change from outside, or a call. Each has so many of the values of a byte. New rows stand at
- * the end, so that the lists in corpus.txt keep their meaning. */
+/* What a byte of a list asks for: a change from outside, or a call. Each has so many of the values of a byte; those behind the
+ * last are those from 128 less on. New rows stand at the end, so that the lists in corpus.txt keep their meaning. */
 struct kind {
     unsigned slots;
     unsigned name;   /* of a call */
@@ -200,7 +200,7 @@ static const struct kind *some_kind(struct cursor *cursor)
     unsigned all = 0, kind = 0;
     for (unsigned i = 0; i < KINDS; i++)
         all += kinds[i].slots;
-    unsigned rest = next(cursor) % all;
+    unsigned byte = next(cursor), rest = byte < all ? byte : byte - 128;
     while (rest >= kinds[kind].slots)
         rest -= kinds[kind++].slots;
     return &kinds[kind];

@@ -46,8 +46,8 @@ int main(void)
 {
     static struct buffers world;
     const struct slice buffers[] = {{world.of[TABLES], ROOM_BYTES}, {world.of[PAGES], ROOM_BYTES}};
-    unsigned first[2] = {0, 0}, second[2] = {0, 0}; /* rules broken together with others, and alone in every store */
-    struct broken made;
+    static struct broken made;
+    unsigned first[2] = {0, 0}, second[2] = {0, 0}; /* rules broken with others in some store, and those always broken alone */
     for (uint32_t rule = 0; break_rule(rule, 0, buffers, &made); rule++) {
         int alone = 1;
         for (unsigned seed = 0; seed < STORES_OF_EACH_RULE; seed++) {
@@ -59,7 +59,8 @@ int main(void)
         }
         (made.first_part ? first : second)[alone]++;
     }
-    printf("parts: rules broken in %d stores each: %u of the first part, %u of them alone; %u of the second, %u of them alone\n",
-           STORES_OF_EACH_RULE, first[0] + first[1], first[1], second[0] + second[1], second[1]);
-    return wrong || first[1] == 0 || second[1] == 0;
+    printf("parts: rules broken in %d stores each: of the first part %u alone, %u with others; of the second %u and %u\n",
+           STORES_OF_EACH_RULE, first[1], first[0], second[1], second[0]);
+    /* not broken alone: block-count, whose pages do not fit into a buffer, and set-0-not-used, which breaks another rule */
+    return wrong || first[1] == 0 || second[1] == 0 || first[0] > 1 || second[0] > 1;
 }

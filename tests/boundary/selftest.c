@@ -45,8 +45,14 @@ static void give_another_number(struct done *done) { if (done->answer.number == 
 static void look_at_no_map(struct done *done) { if (IS(READ)) done->answer.second = 0; }
 static void look_at_one_map_more(struct done *done) { if (IS(READ)) done->answer.second++; }
 static void look_at_one_map_less(struct done *done) { if (IS(READ) && done->answer.second > 1) done->answer.second--; }
-static void take_blocks_for_all(struct done *done) { if (IS(CHECK_BLOCKS)) done->answer = sweep_check(START(TABLES), LENT(TABLES).length, START(TABLES), 0); }
-static void take_all_for_blocks(struct done *done) { if (IS(CHECK)) done->answer = sweep_check_blocks(START(TABLES), LENT(TABLES).length); }
+static void refuse_every_first_part(struct done *done) { if (IS(CHECK_BLOCKS)) done->answer.number = SWEEP_BAD_TABLES; }
+
+static void check_the_first_part_alone(struct done *done)
+{
+    if (IS(CHECK))
+        done->answer = sweep_check_blocks(START(TABLES), LENT(TABLES).length);
+}
+
 static void change_a_bit(struct done *done) { if (IS(TRUNCATE)) START(TABLES)[5] ^= 1; }
 static void change_beside_tables(struct done *done) { if (IS(DELETE)) change_before(LENT(TABLES)); }
 static void change_beside_pages(struct done *done) { if (IS(DELETE)) change_past(LENT(PAGES)); }
@@ -62,7 +68,8 @@ static const struct fault faults[] = {
     {"none", 0}, FAULT(look_past_tables), FAULT(look_before_tables), FAULT(look_past_pages), FAULT(look_before_pages),
     FAULT(look_past_bytes), FAULT(look_before_bytes), FAULT(touch_tables_in_free), FAULT(touch_pages_in_read),
     FAULT(touch_data_in_write), FAULT(count_one_more_copy), FAULT(count_no_marks), FAULT(give_another_number),
-    FAULT(take_blocks_for_all), FAULT(take_all_for_blocks), FAULT(look_at_no_map), FAULT(look_at_one_map_more), FAULT(look_at_one_map_less), FAULT(change_beside_tables),
+    FAULT(refuse_every_first_part), FAULT(check_the_first_part_alone), FAULT(look_at_no_map), FAULT(look_at_one_map_more),
+    FAULT(look_at_one_map_less), FAULT(change_beside_tables),
     FAULT(change_beside_pages), FAULT(change_a_bit), FAULT(change_a_page), FAULT(change_the_buffers_end),
 };
 enum { FAULTS = sizeof faults / sizeof *faults };

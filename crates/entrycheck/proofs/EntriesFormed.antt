@@ -18,8 +18,7 @@ use Rattle.rules.proofs.Formed.Tests.{files-at, files-of}
 use Rattle.packing.specs.Words.{getWord}
 use Rattle.rules.specs.State.{fileCount, setCount}
 use Rattle.rules.specs.WellFormed.{allFiles, allPages, bitsFormed, blockBelow, names, timesNamed}
-use Rattle.tables.proofs.Parts.{bits-front, blocks-front, entry-files}
-use Rattle.tables.proofs.ReadParts.{read-map}
+use Rattle.tables.proofs.Parts.{bits-front, blocks-front, entry-files, map-files}
 use Rattle.tables.specs.Layout.{entryBytes, filesAt, readEntry}
 use Rattle.tables.specs.Packed.{entryFormed, kindsFormed, unpack}
 
@@ -64,9 +63,6 @@ module _ (front files : List ℕ) (len : length front ≡ filesAt) where
   unfolding seeAll
   all-counts = through-counts limit (λ i. seeMap limit files (mapIn i)) goods (λ i b. hits b i) recordCount (λ i l. map-counts files (mapIn i) limit)
 
-  map-is : (f s p : ℕ) → f < 16 → s < 8 → p < 64 → unpack t .files f s .map p ≡ readEntry (word files (mapIn (at f s)) p)
-  map-is f s p lf ls lp = read-map t f s p lf ls lp ∙ ap readEntry (entry-files front files len f s p)
-
   -- a block is named as often as the sum over all records says
   times-named : (b : ℕ) → timesNamed (unpack t) b ≡ sum recordCount (hits b)
   unfolding timesNamed
@@ -74,7 +70,7 @@ module _ (front files : List ℕ) (len : length front ≡ filesAt) where
       sum-same 8 (λ s. sum 16 (λ f. count 64 (λ p. names b (unpack t .files f s .map p)))) (λ s. sum 16 (λ f. hits b (at f s)))
       (λ s ls. sum-same 16 (λ f. count 64 (λ p. names b (unpack t .files f s .map p))) (λ f. hits b (at f s))
       (λ f lf. count-sum 64 (λ p. names b (unpack t .files f s .map p))
-      ∙ sum-same 64 (λ p. digit (names b (unpack t .files f s .map p))) (hit files (mapIn (at f s)) b) (λ p lp. ap (λ e. digit (names b e)) (map-is f s p lf ls lp))))
+      ∙ sum-same 64 (λ p. digit (names b (unpack t .files f s .map p))) (hit files (mapIn (at f s)) b) (λ p lp. ap (λ e. digit (names b e)) (map-files front files len f s p lf ls lp))))
       ∙ sym (sum-rows fileCount setCount (hits b))
 
   -- ---- from the pass to the rules
@@ -92,7 +88,7 @@ module _ (front files : List ℕ) (len : length front ≡ filesAt) where
       (all-of 4096 _ (λ b l. eq-eqb (timesNamed (unpack t) b) (digit (unpack t .bits b))
       (times-named b ∙ sym (r .1 b ∙ zero-add _) ∙ ap digit (same-bits-at front x h b l ∙ ap (λ (bits : ℕ → Bool). bits b) (sym (bits-front front files len))))))
       (files-of _ (λ f s lf ls. all-of 64 _ (λ p lp.
-      ap₂ blockBelow (blocks-front front files len) (map-is f s p lf ls lp) ∙ and-right (entryFormed [] (word files (mapIn (at f s)) p)) _ (here f s p lf ls lp)))))
+      ap₂ blockBelow (blocks-front front files len) (map-files front files len f s p lf ls lp) ∙ and-right (entryFormed [] (word files (mapIn (at f s)) p)) _ (here f s p lf ls lp)))))
 
   -- ---- from the rules to the pass
 
@@ -102,7 +98,7 @@ module _ (front files : List ℕ) (len : length front ≡ filesAt) where
     good-at f s p lf ls lp =
         and-both (entryFormed [] (word files (mapIn (at f s)) p)) _
         (ap (entryFormed []) (sym (entry-files front files len f s p)) ∙ all-at 64 _ (files-at _ kinds f s lf ls) p lp)
-        (sym (ap₂ blockBelow (blocks-front front files len) (map-is f s p lf ls lp)) ∙ all-at 64 _ (files-at _ (and-right (all 4096 _) _ bits) f s lf ls) p lp)
+        (sym (ap₂ blockBelow (blocks-front front files len) (map-files front files len f s p lf ls lp)) ∙ all-at 64 _ (files-at _ (and-right (all 4096 _) _ bits) f s lf ls) p lp)
 
     all-good : all recordCount goods ≡ true
     all-good = all-of recordCount goods (λ i l. all-of 64 (good files (mapIn i) limit) (λ p lp.

@@ -11,4 +11,5 @@ pub mod RowSteps
 pub mod InRow
 pub mod PlainBlocks
 pub mod MapEntries
+pub mod Lists
 pub mod RecordsPassed

@@ -6,14 +6,15 @@ use mathlib.Core.Path.{ap, refl, subst, sym, _∙_, _≡_}
 use Prim.Native.Nat.{_*_, _+_, _<_, suc, zero, ℕ, _≤_}
 use native.Mathlib.Omega.{arith}
 use lib.Dec.{ltb}
-use lib.ListN.{getD, getD-replicate, length, length-replicate, length-set, replicate, set}
-use lib.Seq.{getD-set-other, getD-set-same, set-getD}
+use lib.ListN.{getD, length, length-set, set}
+use lib.Seq.{getD-set-other, set-getD}
 use borrow.Author.Tests.{ltb-false, ltb-true, not-false, not-true}
 use Rattle.base.specs.Logic.{same?, test?}
 use Rattle.entrycheck.proofs.EntriesFormed.{entries-formed}
+use Rattle.entrycheck.proofs.Lists.{put-more}
 use Rattle.entrycheck.proofs.MapEntries.{zero-map}
 use Rattle.entrycheck.proofs.Through.{through-next, through-refused}
-use Rattle.entrycheck.specs.Records.{AllAre, BlankFrom, EntriesSeen, MasksAre, RecordPassed, recordMask}
+use Rattle.entrycheck.specs.Records.{AllAre, BlankFrom, EntriesSeen, RecordPassed, recordMask}
 use Rattle.entrycheck.specs.Seeing.{MapSeen, andThen, entriesFormed, formedBy, mapIn, noneSeen, recordCount, sameBits, seeAll, seeMap, through, through-more, through-none}
 use Rattle.entrycheck.specs.declared.seeing.Masks.{Masks}
 use Rattle.masks.proofs.PageMasks.{mask-same}
@@ -22,25 +23,13 @@ use Rattle.packing.specs.Bitmap.{bitAt}
 use Rattle.packing.specs.Zeros.{zero-of, zeroBytes}
 use Rattle.rules.specs.State.{Entry, fileCount, isStored, isUnmapped}
 use Rattle.rules.specs.WellFormed.{bitsFormed}
-use Rattle.tables.proofs.Parts.{entry-files}
-use Rattle.tables.proofs.ReadParts.{read-map}
-use Rattle.tables.specs.Layout.{fileBytes, filesAt, headBytes, readEntry}
+use Rattle.tables.proofs.Parts.{map-files}
+use Rattle.tables.specs.Layout.{fileBytes, filesAt, headBytes}
 use Rattle.tables.specs.Packed.{kindsFormed, unpack}
 
--- a mask for each record, all v
-unfoldable pub allMasks : ℕ → List ℕ
-allMasks v = replicate recordCount v
-
-pub masks-are : (v : ℕ) → AllAre (allMasks v) v
-unfolding allMasks
-masks-are v = (length-replicate {A = ℕ} recordCount v, λ i l. getD-replicate {A = ℕ} recordCount i v 0 l)
-
--- LAW: a value of one place more
-put-more : (l : List ℕ) (i v : ℕ) (g : ℕ → ℕ) → i < length l → ((x : ℕ) → x < i → getD l x 0 ≡ g x) → v ≡ g i → (x : ℕ) → x < i + 1 → getD (set l i v) x 0 ≡ g x
-put-more l i v g li h e x lx =
-    same? x i
-    (λ q. ap (λ y. getD (set l i v) y 0) q ∙ getD-set-same l i v 0 li ∙ e ∙ sym (ap g q))
-    (λ q. getD-set-other l i x v 0 q ∙ h x (omega arith))
+-- what is left where a rule does not hold
+abbrev NotPassed : List ℕ → List ℕ → Bool → Type 0
+NotPassed stored unmapped r = (r ≡ false) × AllAre recordCount stored 0 × AllAre recordCount unmapped 18446744073709551615
 
 -- ---- one record
 module _ (limit : ℕ) (files : List ℕ) (i : ℕ) where
@@ -64,31 +53,43 @@ module _ (limit : ℕ) (files : List ℕ) (i : ℕ) where
         unmapped-is = λ o. sym (set-getD unmapped i 0) ∙ ap (set unmapped i) (b ∙ k .unmapped-is refl);
       }
 
+-- ---- the masks of the first i records, by one test; those of the others are v, as they were
+pub record MasksTo (test : Entry ℕ → Bool) (files l : List ℕ) (v i : ℕ) : Type 0 where
+  pub len : length l ≡ recordCount
+  pub are : (x : ℕ) → x < i → getD l x 0 ≡ recordMask test files x
+  pub rest : (x : ℕ) → i ≤ x → x < recordCount → getD l x 0 ≡ v
+
+module _ (test : Entry ℕ → Bool) (files l : List ℕ) (v : ℕ) where
+  masks-start : AllAre recordCount l v → MasksTo test files l v 0
+  masks-start a = record { len = a .0; are = λ x h. absurd (omega arith); rest = λ x h m. a .1 x m }
+
+  module _ (i : ℕ) (k : MasksTo test files l v i) where
+    masks-next : i < recordCount → (l′ : List ℕ) → l′ ≡ set l i (recordMask test files i) → MasksTo test files l′ v (i + 1)
+    masks-next h l′ e = record {
+      len = ap length e ∙ length-set l i (recordMask test files i) ∙ k .len;
+      are = λ x m. ap (λ z. getD z x 0) e ∙ put-more l i (recordMask test files i) (recordMask test files) (omega (arith, k .len)) (k .are) refl x m;
+      rest = λ x m n. ap (λ z. getD z x 0) e ∙ getD-set-other l i x (recordMask test files i) 0 (λ q. omega arith) ∙ k .rest x (omega arith) n;
+    }
+
+    masks-all : ((x : ℕ) → i ≤ x → x < recordCount → v ≡ recordMask test files x) → (x : ℕ) → x < recordCount → getD l x 0 ≡ recordMask test files x
+    masks-all e x h = test? (ltb x i) (λ q. k .are x (ltb-true x i q)) (λ q. let m = ltb-false x i q in k .rest x m h ∙ e x m h)
+
 -- ---- the records so far
 pub record RecordsPassed (limit : ℕ) (files seen stored unmapped : List ℕ) (i : ℕ) : Type 0 where
   pub passed : through i (λ i. seeMap limit files (mapIn i)) noneSeen ≡ some (bitAt seen 0)
   pub len : length seen ≡ 512
-  pub stored-len : length stored ≡ recordCount
-  pub unmapped-len : length unmapped ≡ recordCount
-  pub stored-are : (x : ℕ) → x < i → getD stored x 0 ≡ recordMask isStored files x
-  pub unmapped-are : (x : ℕ) → x < i → getD unmapped x 0 ≡ recordMask isUnmapped files x
-  -- the masks of the other records are as they were
-  pub rest-stored : (x : ℕ) → i ≤ x → x < recordCount → getD stored x 0 ≡ 0
-  pub rest-unmapped : (x : ℕ) → i ≤ x → x < recordCount → getD unmapped x 0 ≡ 18446744073709551615
+  pub stored-to : MasksTo isStored files stored 0 i
+  pub unmapped-to : MasksTo isUnmapped files unmapped 18446744073709551615 i
 
 module _ (limit : ℕ) (files : List ℕ) where
   -- LAW: no record yet
-  pub records-start : (seen stored unmapped : List ℕ) → length seen ≡ 512 → bitAt seen 0 ≡ noneSeen → AllAre stored 0 → AllAre unmapped 18446744073709551615
+  pub records-start : (seen stored unmapped : List ℕ) → length seen ≡ 512 → bitAt seen 0 ≡ noneSeen → AllAre recordCount stored 0 → AllAre recordCount unmapped 18446744073709551615
       → RecordsPassed limit files seen stored unmapped 0
   records-start seen stored unmapped len e a b = record {
     passed = through-none (λ i. seeMap limit files (mapIn i)) noneSeen ∙ ap some (sym e);
     len = len;
-    stored-len = a .0;
-    unmapped-len = b .0;
-    stored-are = λ i l. absurd (omega arith);
-    unmapped-are = λ i l. absurd (omega arith);
-    rest-stored = λ x l m. a .1 x m;
-    rest-unmapped = λ x l m. b .1 x m;
+    stored-to = masks-start isStored files stored 0 a;
+    unmapped-to = masks-start isUnmapped files unmapped 18446744073709551615 b;
   }
 
   module _ (seen stored unmapped : List ℕ) (i : ℕ) (k : RecordsPassed limit files seen stored unmapped i) where
@@ -97,19 +98,11 @@ module _ (limit : ℕ) (files : List ℕ) where
         → RecordsPassed limit files seen′ stored′ unmapped′ (i + 1)
     records-next li seen′ stored′ unmapped′ ok x h =
         let o = not-false ok h in
-        let a = x .stored-is o in
-        let b = x .unmapped-is o in
         record {
           passed = through-next (λ i. seeMap limit files (mapIn i)) noneSeen i seen seen′ ok (k .passed) (x .passes) o;
           len = x .passes .len;
-          stored-len = ap length a ∙ length-set stored i (recordMask isStored files i) ∙ k .stored-len;
-          unmapped-len = ap length b ∙ length-set unmapped i (recordMask isUnmapped files i) ∙ k .unmapped-len;
-          stored-are = λ y l. ap (λ z. getD z y 0) a
-              ∙ put-more stored i (recordMask isStored files i) (recordMask isStored files) (omega (arith, k .stored-len)) (k .stored-are) refl y l;
-          unmapped-are = λ y l. ap (λ z. getD z y 0) b
-              ∙ put-more unmapped i (recordMask isUnmapped files i) (recordMask isUnmapped files) (omega (arith, k .unmapped-len)) (k .unmapped-are) refl y l;
-          rest-stored = λ y l n. ap (λ z. getD z y 0) a ∙ getD-set-other stored i y (recordMask isStored files i) 0 (λ q. omega arith) ∙ k .rest-stored y (omega arith) n;
-          rest-unmapped = λ y l n. ap (λ z. getD z y 0) b ∙ getD-set-other unmapped i y (recordMask isUnmapped files i) 0 (λ q. omega arith) ∙ k .rest-unmapped y (omega arith) n;
+          stored-to = masks-next isStored files stored 0 i (k .stored-to) li stored′ (x .stored-is o);
+          unmapped-to = masks-next isUnmapped files unmapped 18446744073709551615 i (k .unmapped-to) li unmapped′ (x .unmapped-is o);
         }
 
     -- the records from i on are all zero
@@ -131,14 +124,10 @@ module _ (limit : ℕ) (files : List ℕ) where
           ∙ zero-here x (omega arith) (omega arith) .passes .sees)
 
       all-stored : (x : ℕ) → x < recordCount → getD stored x 0 ≡ recordMask isStored files x
-      all-stored x l = test? (ltb x i)
-          (λ q. k .stored-are x (ltb-true x i q))
-          (λ q. let m = ltb-false x i q in k .rest-stored x m l ∙ zero-here x m l .stored-is refl)
+      all-stored = masks-all isStored files stored 0 i (k .stored-to) (λ x l h. zero-here x l h .stored-is refl)
 
       all-unmapped : (x : ℕ) → x < recordCount → getD unmapped x 0 ≡ recordMask isUnmapped files x
-      all-unmapped x l = test? (ltb x i)
-          (λ q. k .unmapped-are x (ltb-true x i q))
-          (λ q. let m = ltb-false x i q in k .rest-unmapped x m l ∙ zero-here x m l .unmapped-is refl)
+      all-unmapped = masks-all isUnmapped files unmapped 18446744073709551615 i (k .unmapped-to) (λ x l h. zero-here x l h .unmapped-is refl)
 
 -- ---- what the pass over all records says of the tables
 module _ (front files : List ℕ) (len : length front ≡ filesAt) (limit : ℕ) (el : limit ≡ unpack front .blocks) (most : unpack front .blocks ≤ 4096) where
@@ -152,25 +141,41 @@ module _ (front files : List ℕ) (len : length front ≡ filesAt) (limit : ℕ)
   -- the masks of a record are those of its file
   mask-is : (test : Entry ℕ → Bool) (f s : ℕ) → f < 16 → s < 8 → recordMask test files (s * fileCount + f) ≡ pageMask test (unpack t .files f s .map)
   mask-is test f s lf ls =
-      mask-same test (unpack t .files f s .map) (entriesAt files (mapIn (s * fileCount + f)))
-      (λ p lp. ap test (sym (read-map t f s p lf ls lp ∙ ap readEntry (entry-files front files len f s p))))
+      mask-same test (unpack t .files f s .map) (entriesAt files (mapIn (s * fileCount + f))) (λ p lp. ap test (sym (map-files front files len f s p lf ls lp)))
+
+  -- a rule does not hold
+  entries-refused : (stored unmapped : List ℕ) (r : Bool) → NotPassed stored unmapped r → false ≡ (kindsFormed t && bitsFormed (unpack t)) → EntriesSeen t stored unmapped r
+  entries-refused stored unmapped r n e = record {
+    decided = n .0 ∙ e;
+    masks = λ o. absurd (true≢false (sym o ∙ n .0));
+    refused = λ o. (n .1, n .2);
+  }
 
   module _ (seen stored unmapped : List ℕ) (i : ℕ) (k : RecordsPassed limit files seen stored unmapped i) where
     -- LAW: a record does not pass
     pub records-refused : i < recordCount → (seen′ stored′ unmapped′ : List ℕ) (ok : Bool) → RecordPassed limit files i seen seen′ stored stored′ unmapped unmapped′ ok → not ok ≡ true
-        → EntriesSeen t stored′ unmapped′ false
-    records-refused li seen′ stored′ unmapped′ ok x h = record {
-      decided = sym (ap (formedBy front) (through-refused (λ i. seeMap limit files (mapIn i)) noneSeen i seen seen′ ok (k .passed) (x .passes) recordCount li (not-true ok h))) ∙ by-limit;
-      masks = λ o. absurd (true≢false (sym o));
-    }
+        → (stored⁺ unmapped⁺ : List ℕ) (r : Bool) → NotPassed stored⁺ unmapped⁺ r → EntriesSeen t stored⁺ unmapped⁺ r
+    records-refused li seen′ stored′ unmapped′ ok x h stored⁺ unmapped⁺ r n =
+        entries-refused stored⁺ unmapped⁺ r n
+        (sym (ap (formedBy front) (through-refused (λ i. seeMap limit files (mapIn i)) noneSeen i seen seen′ ok (k .passed) (x .passes) recordCount li (not-true ok h))) ∙ by-limit)
 
-    -- LAW: all records have passed, and the bits decide
-    pub records-done : (n : ℕ) → BlankFrom files n → i ≡ n * fileCount → (r : Bool) → r ≡ sameBits front (bitAt seen 0) → EntriesSeen t stored unmapped r
-    records-done n b e r q = record {
-      decided = q ∙ sym (ap (formedBy front) (passed-to limit files seen stored unmapped i k n b e recordCount (omega (arith, b .most)) (omega arith))) ∙ by-limit;
+    -- all records have passed, and the bits decide
+    bits-decide : (n : ℕ) → BlankFrom files n → i ≡ n * fileCount → (m : Bool) → m ≡ sameBits front (bitAt seen 0) → m ≡ (kindsFormed t && bitsFormed (unpack t))
+    bits-decide n b e m q = q ∙ sym (ap (formedBy front) (passed-to limit files seen stored unmapped i k n b e recordCount (omega (arith, b .most)) (omega arith))) ∙ by-limit
+
+    -- LAW: the bits are others
+    pub bits-refused : (n : ℕ) → BlankFrom files n → i ≡ n * fileCount → (m : Bool) → m ≡ sameBits front (bitAt seen 0) → not m ≡ true
+        → (stored⁺ unmapped⁺ : List ℕ) (r : Bool) → NotPassed stored⁺ unmapped⁺ r → EntriesSeen t stored⁺ unmapped⁺ r
+    bits-refused n b e m q h stored⁺ unmapped⁺ r p = entries-refused stored⁺ unmapped⁺ r p (sym (not-true m h) ∙ bits-decide n b e m q)
+
+    -- LAW: they are the same
+    pub records-done : (n : ℕ) → BlankFrom files n → i ≡ n * fileCount → (m : Bool) → m ≡ sameBits front (bitAt seen 0) → not m ≡ false → EntriesSeen t stored unmapped true
+    records-done n b e m q h = record {
+      decided = sym (not-false m h) ∙ bits-decide n b e m q;
+      refused = λ o. absurd (true≢false o);
       masks = λ o. record {
-        stored-len = k .stored-len;
-        unmapped-len = k .unmapped-len;
+        stored-len = k .stored-to .len;
+        unmapped-len = k .unmapped-to .len;
         stored-at = λ f s lf ls. all-stored limit files seen stored unmapped i k n b e (s * fileCount + f) (omega arith) ∙ mask-is isStored f s lf ls;
         unmapped-at = λ f s lf ls. all-unmapped limit files seen stored unmapped i k n b e (s * fileCount + f) (omega arith) ∙ mask-is isUnmapped f s lf ls;
       };

@@ -1,9 +1,9 @@
 -- The file records one after the other, as they stand in the tables: record i is that of file i % 16 of set i / 16. What is kept of each, and what the pass over
 -- all says. Assumes nothing.
-use mathlib.Core.Bool.{Bool, _&&_, true}
+use mathlib.Core.Bool.{Bool, _&&_, false, true}
 use mathlib.Core.List.{List}
 use mathlib.Core.Path.{_≡_}
-use Prim.Native.Nat.{_%_, _*_, _+_, _/_, _<_, ℕ, _≤_}
+use Prim.Native.Nat.{_*_, _+_, _<_, ℕ, _≤_}
 use lib.ListN.{getD, length, set}
 use Rattle.masks.specs.Pages.{entriesAt, pageMask}
 use Rattle.rules.specs.State.{Entry, fileCount, isStored, isUnmapped, setCount}
@@ -12,9 +12,9 @@ use Rattle.tables.specs.Layout.{fileBytes}
 use Rattle.tables.specs.Packed.{kindsFormed, unpack}
 use Rattle.entrycheck.specs.Seeing.{Sees, mapIn, recordCount, seeMap}
 
--- a list of a mask for each record, all v
-abbrev pub AllAre : List ℕ → ℕ → Type 0
-AllAre l v = (length l ≡ recordCount) × ((i : ℕ) → i < recordCount → getD l i 0 ≡ v)
+-- a list of n numbers that are all v
+abbrev pub AllAre : ℕ → List ℕ → ℕ → Type 0
+AllAre n l v = (length l ≡ n) × ((i : ℕ) → i < n → getD l i 0 ≡ v)
 
 -- every byte of the records of the sets from n on is zero
 pub record BlankFrom (files : List ℕ) (n : ℕ) : Type 0 where
@@ -38,7 +38,9 @@ pub record MasksAre (t stored unmapped : List ℕ) : Type 0 where
   pub stored-at : (f s : ℕ) → f < fileCount → s < setCount → getD stored (s * fileCount + f) 0 ≡ pageMask isStored (unpack t .files f s .map)
   pub unmapped-at : (f s : ℕ) → f < fileCount → s < setCount → getD unmapped (s * fileCount + f) 0 ≡ pageMask isUnmapped (unpack t .files f s .map)
 
--- ALL RECORDS of the tables have been looked at: whether the rules on kinds, blocks and bits hold, and then which pages are stored and which unmapped
+-- ALL RECORDS of the tables have been looked at: whether the rules on kinds, blocks and bits hold, and then which pages are stored and which unmapped; else no
+-- page is stored and every one unmapped
 pub record EntriesSeen (t stored unmapped : List ℕ) (ok : Bool) : Type 0 where
   pub decided : ok ≡ (kindsFormed t && bitsFormed (unpack t))
   pub masks : ok ≡ true → MasksAre t stored unmapped
+  pub refused : ok ≡ false → AllAre recordCount stored 0 × AllAre recordCount unmapped 18446744073709551615

@@ -1,13 +1,14 @@
 // The pass over all file records, in the order in which they stand: the entries of each, with its masks kept.
-ghost use mathlib.Core.Bool.{true};
+ghost use mathlib.Core.Bool.{false, true};
 ghost use mathlib.Core.List.{_++_};
 ghost use mathlib.Core.Path.{_≡_};
 ghost use Prim.Native.Nat.{_+_, _<_, _≤_};
 ghost use lib.ListN.{getD, length};
 ghost use Rattle.packing.specs.Zeros.{zeroBytes};
-ghost use Rattle.tables.specs.Layout.{filesAt, filesBytes};
+ghost use Rattle.tables.specs.Layout.{filesAt, allFilesBytes};
 ghost use Rattle.tables.specs.Packed.{unpack};
 ghost use Rattle.entrycheck.specs.Records.{AllAre, BlankFrom, EntriesSeen, RecordPassed};
+ghost use Rattle.entrycheck.specs.Seeing.{recordCount};
 use crate::maps_equal;
 use crate::no_bits;
 use crate::seeing::map_entries;
@@ -17,8 +18,8 @@ use tables::places::FILE_BYTES;
 use tables::places::HEAD_BYTES;
 
 // A mask for each record, all m.
-pub fn masks_of(m: u64) -> [u64; 128]
-    ensures { λ r. ⌜ AllAre r m ⌝ }
+pub fn record_masks(m: u64) -> [u64; 128]
+    ensures { λ r. ⌜ AllAre recordCount r m ⌝ }
 {
     [m; 128]
 }
@@ -45,7 +46,7 @@ fn pass_record(
     i: usize,
     limit: usize,
 ) -> bool
-    requires { ⌜ (length (now files) ≡ filesBytes) × (length (now seen) ≡ 512) × (getD (now stored) i 0 ≡ 0) × (getD (now unmapped) i 0 ≡ 18446744073709551615) × (i < 128) × (limit ≤ 4096) ⌝ }
+    requires { ⌜ (length (now files) ≡ allFilesBytes) × (length (now seen) ≡ 512) × (getD (now stored) i 0 ≡ 0) × (getD (now unmapped) i 0 ≡ 18446744073709551615) × (i < 128) × (limit ≤ 4096) ⌝ }
     ensures { λ r. ⌜ RecordPassed limit (now (files .entry)) i (now (seen .entry)) (now (seen .exit)) (now (stored .entry)) (now (stored .exit)) (now (unmapped .entry)) (now (unmapped .exit)) r ⌝ }
 {
     let v = words::low64(files, i * FILE_BYTES);
@@ -59,6 +60,15 @@ fn pass_record(
     m.ok
 }
 
+// A rule does not hold: the masks are those of records without entries, whichever record it is.
+fn not_passed(stored: &mut [u64; 128], unmapped: &mut [u64; 128]) -> bool
+    ensures { λ r. ⌜ (r ≡ false) × AllAre recordCount (now (stored .exit)) 0 × AllAre recordCount (now (unmapped .exit)) 18446744073709551615 ⌝ }
+{
+    *stored = record_masks(0);
+    *unmapped = record_masks(0xFFFF_FFFF_FFFF_FFFF);
+    false
+}
+
 // All entries and the bits, of tables in two parts: front, the header, the bitmap and the set records, and files, the file
 // records. Those of the sets from set n on are all zero.
 pub fn entries_formed(
@@ -68,7 +78,7 @@ pub fn entries_formed(
     unmapped: &mut [u64; 128],
     n: usize,
 ) -> bool
-    requires { ⌜ (length (now front) ≡ filesAt) × (length (now files) ≡ filesBytes) × AllAre (now stored) 0 × AllAre (now unmapped) 18446744073709551615 × BlankFrom (now files) n × (unpack (now front) .blocks ≤ 4096) ⌝ }
+    requires { ⌜ (length (now front) ≡ filesAt) × (length (now files) ≡ allFilesBytes) × AllAre recordCount (now stored) 0 × AllAre recordCount (now unmapped) 18446744073709551615 × BlankFrom (now files) n × (unpack (now front) .blocks ≤ 4096) ⌝ }
     ensures { λ r. ⌜ EntriesSeen (now (front .entry) ++ now (files .entry)) (now (stored .exit)) (now (unmapped .exit)) r ⌝ }
 {
     let limit = block_count(front);
@@ -76,8 +86,11 @@ pub fn entries_formed(
     let mut seen = no_bits();
     for i in 0..end {
         if !pass_record(files, &mut seen, stored, unmapped, i, limit) {
-            return false;
+            return not_passed(stored, unmapped);
         }
     }
-    maps_equal(front, &seen)
+    if !maps_equal(front, &seen) {
+        return not_passed(stored, unmapped);
+    }
+    true
 }

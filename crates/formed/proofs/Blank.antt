@@ -1,6 +1,6 @@
--- Sets after the last used one: their file records are zero, so they pass every rule that concerns one file. Assumes nothing.
+-- Sets from which on the file records are zero: they pass every rule that concerns one file. Assumes nothing.
 use mathlib.Core.Bool.{false, true}
-use mathlib.Core.List.{List, [], _++_, _∷_}
+use mathlib.Core.List.{List, _++_}
 use mathlib.Core.Path.{ap, refl, sym, _∙_, _≡_}
 use Prim.Native.Nat.{_*_, _+_, _-_, _<_, suc, zero, ℕ, _≤_}
 use native.Mathlib.Omega.{arith}
@@ -20,18 +20,6 @@ use Rattle.tables.proofs.Parts.{byte-files}
 use Rattle.tables.proofs.ZeroFiles.{file-zero, head-zero}
 use Rattle.tables.specs.Layout.{fileAt, fileBytes, filesAt, headWord, setFilesBytes}
 use Rattle.tables.specs.Packed.{unpack}
-
--- LAW: eight masks that are all v
-pub eight-masks : (v : ℕ) (s : ℕ) → s < 8 → getD (v ∷ v ∷ v ∷ v ∷ v ∷ v ∷ v ∷ v ∷ []) s 0 ≡ v
-eight-masks v zero l = refl
-eight-masks v (suc zero) l = refl
-eight-masks v (suc (suc zero)) l = refl
-eight-masks v (suc (suc (suc zero))) l = refl
-eight-masks v (suc (suc (suc (suc zero)))) l = refl
-eight-masks v (suc (suc (suc (suc (suc zero))))) l = refl
-eight-masks v (suc (suc (suc (suc (suc (suc zero)))))) l = refl
-eight-masks v (suc (suc (suc (suc (suc (suc (suc zero))))))) l = refl
-eight-masks v (suc (suc (suc (suc (suc (suc (suc (suc s)))))))) l = absurd (omega arith)
 
 -- LAW: one unused set more; r is the record of set n - 1
 pub unused-next : (t : List ℕ) (n : ℕ) (r : SetRecord) → 0 < n → UnusedFrom (unpack t .sets) n → r ≡ unpack t .sets (n - 1) → r .used ≡ false

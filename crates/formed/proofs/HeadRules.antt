@@ -11,19 +11,20 @@ use lib.Seq.{getD-set-other, set-getD}
 use borrow.Author.Tests.{eq-eqb, ltb-false, ltb-true, ne-eqb, not-false, not-true}
 use Rattle.base.specs.Count.{all, all-at, all-not, all-of}
 use Rattle.base.specs.Logic.{and-false, and-true, same?, test?}
-use Rattle.entrycheck.specs.Records.{BlankFrom}
+use Rattle.entrycheck.proofs.Lists.{put-more}
+use Rattle.entrycheck.specs.Records.{AllAre, BlankFrom}
 use Rattle.masks.specs.Pages.{pageMask}
 use Rattle.formed.proofs.AloneRules.{alone-head, head-virgin, head-zero, size-is, state-is}
 use Rattle.formed.proofs.Blank.{blank-alone, blank-dead, blank-end}
 use Rattle.formed.proofs.FileHead.{first-byte}
 use Rattle.formed.proofs.LinkedRules.{live-used}
-use Rattle.formed.proofs.PlaceDigits.{digit-used, lives-next, put-value, rest-next}
+use Rattle.formed.proofs.PlaceDigits.{digit-used, lives-next, rest-next}
 use Rattle.formed.specs.Files.{EndsTo, LivesTo, endOf, fileAlone, fileLinked, headFormed, numberFormed, placeDigit, placeOf}
-use Rattle.formed.specs.Heads.{EachIs, HeadPassed, HeadsPassed}
+use Rattle.formed.specs.Heads.{HeadPassed, HeadsPassed}
 use Rattle.packing.specs.Bitmap.{isOne}
 use Rattle.packing.specs.Bits.{bit, bit-none}
 use Rattle.packing.specs.Words.{getWord, lowWord}
-use Rattle.rules.specs.State.{State, isUnmapped, live}
+use Rattle.rules.specs.State.{State, isUnmapped, live, setCount}
 use Rattle.tables.specs.Layout.{filesAt, headWord, readSize, stateOf}
 use Rattle.tables.specs.Packed.{unpack}
 
@@ -88,7 +89,7 @@ pub record HeadsTo (t : List ℕ) (f : ℕ) (ends : List ℕ) (lives s : ℕ) : 
 
 module _ (t : List ℕ) (f : ℕ) where
   -- LAW: no set yet
-  pub heads-start : (ends : List ℕ) (lives : ℕ) → EachIs ends 64 → lives ≡ 0 → HeadsTo t f ends lives 0
+  pub heads-start : (ends : List ℕ) (lives : ℕ) → AllAre setCount ends 64 → lives ≡ 0 → HeadsTo t f ends lives 0
   heads-start ends lives c e = record {
     alone = λ x l. absurd (omega arith);
     ends-are = record { len = c .0; ends-are = λ x l. absurd (omega arith) };
@@ -124,7 +125,7 @@ module _ (t : List ℕ) (f : ℕ) where
           ends-are = record {
             len = ap length g ∙ length-set ends s _ ∙ k .ends-are .len;
             ends-are = λ y l. ap (λ z. getD z y 0) g
-                ∙ put-value ends s (endOf (unpack t .files f s .state) (unpack t .files f s .size)) (λ z. endOf (unpack t .files f z .state) (unpack t .files f z .size)) (k .ends-are .len) ls (k .ends-are .ends-are) refl y l;
+                ∙ put-more ends s (endOf (unpack t .files f s .state) (unpack t .files f s .size)) (λ z. endOf (unpack t .files f z .state) (unpack t .files f z .size)) (omega (arith, k .ends-are .len)) (k .ends-are .ends-are) refl y l;
           };
           lives-are = subst (LivesTo (unpack t .sets) (unpack t .files f) (s + 1)) (sym c) (lives-next (unpack t .sets) (unpack t .files f) s lives digit ls d used (k .rest-lives) (k .lives-are));
           rest-ends = λ y l m. ap (λ z. getD z y 0) g ∙ getD-set-other ends s y _ 0 (λ q. omega arith) ∙ k .rest-ends y (omega arith) m;

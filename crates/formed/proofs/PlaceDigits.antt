@@ -11,22 +11,16 @@ use lib.Pow.{pow-pos, shl-exact}
 use lib.Seq.{getD-set-other, getD-set-same}
 use borrow.Author.Tests.{ltb-false, ltb-true, ne-eqb, not-false, not-true}
 use Rattle.base.specs.Logic.{or-false, same?, test?}
+use Rattle.entrycheck.proofs.Lists.{put-more}
+use Rattle.entrycheck.specs.Records.{AllAre}
 use Rattle.formed.proofs.AloneRules.{size-field}
 use Rattle.formed.proofs.Resolved.{digit-or}
 use Rattle.formed.specs.Files.{LivesTo, Places, PlacesPut, endOf, placeDigit, placeOf}
-use Rattle.formed.specs.Heads.{EachIs, UnusedFrom}
+use Rattle.formed.specs.Heads.{UnusedFrom}
 use Rattle.packing.specs.Bitmap.{isOne}
 use Rattle.packing.specs.Bits.{bit, bit-none, bit-pow-other, bit-pow-same}
-use Rattle.rules.specs.State.{Files, SetRecord, isOwn, live}
+use Rattle.rules.specs.State.{Files, SetRecord, isOwn, live, setCount}
 use Rattle.tables.specs.Layout.{readSize, stateOf}
-
--- LAW: a value of one set more
-pub put-value : (l : List ℕ) (s v : ℕ) (g : ℕ → ℕ) → length l ≡ 8 → s < 8 → ((x : ℕ) → x < s → getD l x 0 ≡ g x) → v ≡ g s
-    → (x : ℕ) → x < s + 1 → getD (set l s v) x 0 ≡ g x
-put-value l s v g len ls h e x lx =
-    same? x s
-    (λ q. ap (λ y. getD (set l s v) y 0) q ∙ getD-set-same l s v 0 (omega arith) ∙ e ∙ sym (ap g q))
-    (λ q. getD-set-other l s x v 0 q ∙ h x (omega arith))
 
 -- ---- the digit of a set
 -- LAW: none of an unused set
@@ -127,7 +121,7 @@ pub record PlacesTo (sets : ℕ → SetRecord) (parents₀ digits parents : List
 
 -- LAW: of no set
 module _ (sets : ℕ → SetRecord) (digits parents : List ℕ) where
-  pub places-start : EachIs digits 0 → length parents ≡ 8 → PlacesTo sets parents digits parents 0
+  pub places-start : AllAre setCount digits 0 → length parents ≡ 8 → PlacesTo sets parents digits parents 0
   places-start a b = record {
     digits-len = a .0;
     parents-len = b;
@@ -143,8 +137,8 @@ module _ (sets : ℕ → SetRecord) (parents₀ digits parents : List ℕ) (s : 
   places-next ls r d e h = record {
     digits-len = length-set digits s d ∙ k .digits-len;
     parents-len = length-set parents s (r .parent) ∙ k .parents-len;
-    digits-are = put-value digits s d (λ x. placeDigit (sets x) x) (k .digits-len) ls (k .digits-are) (h ∙ ap (λ y. placeDigit y s) e);
-    parents-are = put-value parents s (r .parent) (λ x. sets x .parent) (k .parents-len) ls (k .parents-are) (ap (λ (y : SetRecord). y .parent) e);
+    digits-are = put-more digits s d (λ x. placeDigit (sets x) x) (omega (arith, k .digits-len)) (k .digits-are) (h ∙ ap (λ y. placeDigit y s) e);
+    parents-are = put-more parents s (r .parent) (λ x. sets x .parent) (omega (arith, k .parents-len)) (k .parents-are) (ap (λ (y : SetRecord). y .parent) e);
     rest = λ x l m. getD-set-other digits s x d 0 (λ q. omega arith) ∙ k .rest x (omega arith) m;
     rest-parents = λ x l m. getD-set-other parents s x (r .parent) 0 (λ q. omega arith) ∙ k .rest-parents x (omega arith) m;
   }
@@ -153,6 +147,8 @@ module _ (sets : ℕ → SetRecord) (parents₀ digits parents : List ℕ) (s : 
   pub places-done : (n : ℕ) → s ≡ n → UnusedFrom sets n → PlacesPut sets n parents₀ digits parents
   unfolding placeDigit
   places-done n e u = record {
+    digits-len = k .digits-len;
+    parents-len = k .parents-len;
     digits-are = λ x l. test? (ltb x s)
         (λ q. k .digits-are x (ltb-true x s q))
         (λ q. let m = ltb-false x s q in k .rest x m l ∙ sym (ap (λ b. cond b (2 ^ placeOf sets x) 0) (u x (omega arith) l)));

@@ -23,7 +23,7 @@ use Rattle.setcheck.proofs.WellFormedParts.{block-rules-parts, records-sets, we
 use Rattle.tables.proofs.FormedStore.{header-in}
 use Rattle.tables.proofs.Parts.{whole-length}
 use Rattle.setcheck.specs.Records.{fileRecordsFormed, headerZero, setRecordsFormed}
-use Rattle.tables.specs.Layout.{filesAt, filesBytes, headWidths, headWord, tableBytes}
+use Rattle.tables.specs.Layout.{filesAt, allFilesBytes, headWidths, headWord, tableBytes}
 use Rattle.tables.specs.Packed.{blockRules, kindsFormed, unpack, wellFormed}
 
 -- ---- the rules on file records, all files of a number together
@@ -114,7 +114,7 @@ module _ (t : List ℕ) where
       (files-of (pastFormed (unpack t)) (λ f s lf ls. and-right (aboveFormed (unpack t) f s) (pastFormed (unpack t) f s) (linked-at h f s lf ls)))
 
   -- LAW: the rules on file records, number by number
-  pub records-are : fileRecordsFormed t ≡ all 16 (numberFormed t)
+  records-are : fileRecordsFormed t ≡ all 16 (numberFormed t)
   records-are = same-test (fileRecordsFormed t) (all 16 (numberFormed t)) numbers-pass records-hold
 
 -- ---- all numbers
@@ -155,7 +155,7 @@ module _ (t : List ℕ) (h : length t ≡ tableBytes → ⊥) where
   whole-wrong n = sym (well-formed-parts t n ∙ rw (← blocks-wrong))
 
 -- ---- the first part
-module _ (front files stored unmapped : List ℕ) (len : length front ≡ filesAt) (wide : length files ≡ filesBytes) (h : Bool) (eh : h ≡ headerFormed (unpack front)) where
+module _ (front files stored unmapped : List ℕ) (len : length front ≡ filesAt) (wide : length files ≡ allFilesBytes) (h : Bool) (eh : h ≡ headerFormed (unpack front)) where
   abbrev t : List ℕ
   t = front ++ files
 

@@ -89,6 +89,8 @@ pub record Places (sets : ℕ → SetRecord) (digits parents : List ℕ) : Type 
 
 -- the digits of the sets and the parents of the first n have been put; the parents of the others are as they were
 pub record PlacesPut (sets : ℕ → SetRecord) (n : ℕ) (parents digits′ parents′ : List ℕ) : Type 0 where
+  pub digits-len : length digits′ ≡ setCount
+  pub parents-len : length parents′ ≡ setCount
   pub digits-are : DigitsAre sets digits′
   pub parents-are : (s : ℕ) → s < n → getD parents′ s 0 ≡ sets s .parent
   pub parents-kept : (s : ℕ) → n ≤ s → s < setCount → getD parents′ s 0 ≡ getD parents s 0

@@ -5,7 +5,7 @@ use mathlib.Core.Path.{_≡_}
 use Prim.Native.Nat.{_-_, _/_, _<_, ℕ, _≤_}
 use lib.Bits.{bitOr}
 use lib.Dec.{eqb}
-use lib.ListN.{getD, length, set}
+use lib.ListN.{set}
 use Rattle.base.specs.Count.{all}
 use Rattle.formed.specs.Files.{EndsTo, LivesTo, endOf, fileAlone, headFormed}
 use Rattle.rules.specs.State.{SetRecord, live, setCount}
@@ -22,10 +22,6 @@ pub record UsedTo (sets : ℕ → SetRecord) (n : ℕ) : Type 0 where
   pub after : UnusedFrom sets n
   pub last : 0 < n → sets (n - 1) .used ≡ true
 
--- a list of eight masks that are all v
-abbrev pub EachIs : List ℕ → ℕ → Type 0
-EachIs l v = (length l ≡ setCount) × ((s : ℕ) → s < setCount → getD l s 0 ≡ v)
-
 -- the head w of a file of set s, which has the digit given and the unmapped pages u, has been looked at: the rules that concern no other file decide; the file's
 -- end is kept, and whether it is own or virgin
 pub record HeadPassed (w u s digit : ℕ) (ends ends′ : List ℕ) (lives lives′ : ℕ) (ok : Bool) : Type 0 where
@@ -33,7 +29,7 @@ pub record HeadPassed (w u s digit : ℕ) (ends ends′ : List ℕ) (lives lives
   pub ends-are : ends′ ≡ set ends s (endOf (stateOf (w / 1073741824)) (readSize w))
   pub lives-are : lives′ ≡ bitOr lives (cond (live (stateOf (w / 1073741824))) digit 0)
 
--- the heads of the files of number f have
+-- the heads of the files of number f have been looked at
 pub record HeadsPassed (t : List ℕ) (f : ℕ) (ends : List ℕ) (lives : ℕ) (ok : Bool) : Type 0 where
   pub decided : ok ≡ all setCount (fileAlone t f)
   pub ends-are : ok ≡ true → EndsTo (unpack t .files f) setCount ends

@@ -1,17 +1,17 @@
 // The rules on file records, by the heads of the records and the masks of their pages: the file numbers outside, the sets
-// inside. The records of the sets after the last used one are zero.
+// inside. Those from set n on are zero, and their sets unused.
 ghost use mathlib.Core.List.{_++_};
 ghost use mathlib.Core.Path.{_≡_};
 ghost use Prim.Native.Nat.{ℕ, _*_, _+_, _<_};
 ghost use lib.ListN.{getD, length};
 ghost use Rattle.masks.specs.Pages.{pageMask};
-ghost use Rattle.rules.specs.State.{isUnmapped};
-ghost use Rattle.tables.specs.Layout.{filesAt, filesBytes};
+ghost use Rattle.rules.specs.State.{isUnmapped, setCount};
+ghost use Rattle.tables.specs.Layout.{filesAt, allFilesBytes};
 ghost use Rattle.tables.specs.Packed.{unpack};
 ghost use Rattle.setcheck.specs.Records.{fileRecordsFormed};
-ghost use Rattle.entrycheck.specs.Records.{BlankFrom, MasksAre};
+ghost use Rattle.entrycheck.specs.Records.{AllAre, BlankFrom, MasksAre};
 ghost use Rattle.formed.specs.Files.{DigitsAre, Falling, Places, numberFormed};
-ghost use Rattle.formed.specs.Heads.{EachIs, HeadsPassed, UnusedFrom};
+ghost use Rattle.formed.specs.Heads.{HeadsPassed, UnusedFrom};
 use crate::heads::pass_head;
 use crate::linked::files_linked;
 use crate::places::masks_of;
@@ -29,7 +29,7 @@ fn pass_heads(
     f: usize,
     n: usize,
 ) -> bool
-    requires { ⌜ (length (now front) ≡ filesAt) × (length (now files) ≡ filesBytes) × ((s : ℕ) → s < 8 → getD (now unmapped) (s * 16 + f) 0 ≡ pageMask isUnmapped (unpack (now front ++ now files) .files f s .map)) × EachIs (now ends) 64 × (now lives ≡ 0) × DigitsAre (unpack (now front ++ now files) .sets) (now digits) × (f < 16) × BlankFrom (now files) n ⌝ }
+    requires { ⌜ (length (now front) ≡ filesAt) × (length (now files) ≡ allFilesBytes) × ((s : ℕ) → s < 8 → getD (now unmapped) (s * 16 + f) 0 ≡ pageMask isUnmapped (unpack (now front ++ now files) .files f s .map)) × AllAre setCount (now ends) 64 × (now lives ≡ 0) × DigitsAre (unpack (now front ++ now files) .sets) (now digits) × (f < 16) × BlankFrom (now files) n ⌝ }
     ensures { λ r. ⌜ HeadsPassed (now (front .entry) ++ now (files .entry)) f (now (ends .exit)) (now (lives .exit)) r ⌝ }
 {
     for s in 0..n {
@@ -51,7 +51,7 @@ fn number_formed(
     f: usize,
     n: usize,
 ) -> bool
-    requires { ⌜ (length (now front) ≡ filesAt) × (length (now files) ≡ filesBytes) × Falling (unpack (now front ++ now files) .sets) × MasksAre (now front ++ now files) (now stored) (now unmapped) × Places (unpack (now front ++ now files) .sets) (now digits) (now parents) × (f < 16) × BlankFrom (now files) n ⌝ }
+    requires { ⌜ (length (now front) ≡ filesAt) × (length (now files) ≡ allFilesBytes) × Falling (unpack (now front ++ now files) .sets) × MasksAre (now front ++ now files) (now stored) (now unmapped) × Places (unpack (now front ++ now files) .sets) (now digits) (now parents) × (f < 16) × BlankFrom (now files) n ⌝ }
     ensures { λ r. ⌜ r ≡ numberFormed (now (front .entry) ++ now (files .entry)) f ⌝ }
 {
     let mut ends = numbers_of(64);
@@ -80,7 +80,7 @@ pub fn records_formed(
     unmapped: &[u64; 128],
     n: usize,
 ) -> bool
-    requires { ⌜ (length (now front) ≡ filesAt) × (length (now files) ≡ filesBytes) × Falling (unpack (now front) .sets) × MasksAre (now front ++ now files) (now stored) (now unmapped) × BlankFrom (now files) n × UnusedFrom (unpack (now front) .sets) n ⌝ }
+    requires { ⌜ (length (now front) ≡ filesAt) × (length (now files) ≡ allFilesBytes) × Falling (unpack (now front) .sets) × MasksAre (now front ++ now files) (now stored) (now unmapped) × BlankFrom (now files) n × UnusedFrom (unpack (now front) .sets) n ⌝ }
     ensures { λ r. ⌜ r ≡ fileRecordsFormed (now (front .entry) ++ now (files .entry)) ⌝ }
 {
     let mut digits = masks_of(0);

@@ -7,7 +7,7 @@ ghost use lib.Dec.{eqb};
 ghost use lib.ListN.{getD, length};
 ghost use Rattle.packing.specs.Words.{getWord};
 ghost use Rattle.rules.specs.State.{live};
-ghost use Rattle.tables.specs.Layout.{fileBytes, filesBytes, readSize, stateOf};
+ghost use Rattle.tables.specs.Layout.{fileBytes, allFilesBytes, readSize, stateOf};
 ghost use Rattle.formed.specs.Files.{endOf, turned};
 ghost use Rattle.formed.specs.Heads.{HeadPassed};
 use crate::alone::head_formed;
@@ -61,7 +61,7 @@ fn pass_virgin(lives: &mut u64, s: usize, digit: u64, u: u64) -> bool
 }
 
 // The head of file f of set s, which has the digit given and the unmapped pages u. The file's end is kept, and whether it
-// is own or virgin; the end of an absent or virgin file is there. The head is read with the first two entries, the first
+// is own or virgin; `ends` has 64 already, the end of an absent file and of a virgin one of size 0. The head is read with the first two entries, the first
 // byte the least significant.
 pub fn pass_head(
     files: &[u8],
@@ -72,7 +72,7 @@ pub fn pass_head(
     digit: u64,
     u: u64,
 ) -> bool
-    requires { ⌜ (length (now files) ≡ filesBytes) × (getD (now ends) s 0 ≡ 64) × (f < 16) × (s < 8) ⌝ }
+    requires { ⌜ (length (now files) ≡ allFilesBytes) × (getD (now ends) s 0 ≡ 64) × (f < 16) × (s < 8) ⌝ }
     ensures { λ r. ⌜ HeadPassed (getWord 3 (now (files .entry)) ((s * 16 + f) * fileBytes)) u s digit (now (ends .entry)) (now (ends .exit)) (now (lives .entry)) (now (lives .exit)) r ⌝ }
 {
     let v = words::low64(files, (s * 16 + f) * FILE_BYTES);

@@ -41,7 +41,7 @@ fn link_file(
     f: usize,
     s: usize,
 ) -> bool
-    requires { ⌜ (f < 16) × (s < 8) × Numbered (now front ++ now files) f (now digits) (now parents) (now stored) (now unmapped) (now ends) lives × (live (unpack (now front ++ now files) .files f s .state) ≡ true) × ((n : ℕ) → unpack (now front ++ now files) .sets s .level ≡ suc n → live (unpack (now front ++ now files) .files f (unpack (now front ++ now files) .sets s .parent) .state) ≡ true → getD (now resolved) (unpack (now front ++ now files) .sets s .parent) 0 ≡ resolvedMask (now front ++ now files) f (unpack (now front ++ now files) .sets s .parent)) ⌝ }
+    requires { ⌜ (s < 8) × Numbered (now front ++ now files) f (now digits) (now parents) (now stored) (now unmapped) (now ends) lives × (live (unpack (now front ++ now files) .files f s .state) ≡ true) × ((n : ℕ) → unpack (now front ++ now files) .sets s .level ≡ suc n → live (unpack (now front ++ now files) .files f (unpack (now front ++ now files) .sets s .parent) .state) ≡ true → getD (now resolved) (unpack (now front ++ now files) .sets s .parent) 0 ≡ resolvedMask (now front ++ now files) f (unpack (now front ++ now files) .sets s .parent)) ⌝ }
     ensures { λ r. ⌜ LinkDecided (now (front .entry) ++ now (files .entry)) f s (now (resolved .entry)) (now (resolved .exit)) r ⌝ }
 {
     let i = s * 16 + f;
@@ -72,7 +72,7 @@ pub fn files_linked(
     lives: u64,
     f: usize,
 ) -> bool
-    requires { ⌜ (f < 16) × Numbered (now front ++ now files) f (now digits) (now parents) (now stored) (now unmapped) (now ends) lives ⌝ }
+    requires { ⌜ Numbered (now front ++ now files) f (now digits) (now parents) (now stored) (now unmapped) (now ends) lives ⌝ }
     ensures { λ r. ⌜ r ≡ all 8 (fileLinked (now (front .entry) ++ now (files .entry)) f) ⌝ }
 {
     if lives == 0 {

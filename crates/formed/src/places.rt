@@ -3,27 +3,26 @@
 ghost use mathlib.Core.Path.{_≡_};
 ghost use Prim.Native.Nat.{_<_, _≤_};
 ghost use lib.ListN.{length};
-ghost use Rattle.tables.specs.Layout.{filesAt, filesBytes};
+ghost use Rattle.rules.specs.State.{setCount};
+ghost use Rattle.tables.specs.Layout.{filesAt};
 ghost use Rattle.tables.specs.Meaning.{setMeant};
 ghost use Rattle.tables.specs.Packed.{unpack};
+ghost use Rattle.entrycheck.specs.Records.{AllAre};
 ghost use Rattle.formed.specs.Files.{PlacesPut, placeDigit};
-ghost use Rattle.entrycheck.specs.Records.{BlankFrom};
-ghost use Rattle.formed.specs.Heads.{EachIs, UnusedFrom, UsedTo};
-use packing::words;
-use tables::places::SET_FILES_BYTES;
+ghost use Rattle.formed.specs.Heads.{UnusedFrom, UsedTo};
 use tables::sets::SetRecord;
 use tables::sets::set_at;
 
 // A list of 8 masks that are all m.
 pub fn masks_of(m: u64) -> [u64; 8]
-    ensures { λ r. ⌜ EachIs r m ⌝ }
+    ensures { λ r. ⌜ AllAre setCount r m ⌝ }
 {
     [m; 8]
 }
 
 // A list of 8 numbers that are all m.
 pub fn numbers_of(m: usize) -> [usize; 8]
-    ensures { λ r. ⌜ EachIs r m ⌝ }
+    ensures { λ r. ⌜ AllAre setCount r m ⌝ }
 {
     [m; 8]
 }
@@ -41,7 +40,7 @@ fn digit_of(r: SetRecord, s: usize) -> u64
 
 // The digits and the parents of the sets: those from set n on are unused.
 pub fn put_places(front: &[u8], digits: &mut [u64; 8], parents: &mut [usize; 8], n: usize)
-    requires { ⌜ (filesAt ≤ length (now front)) × EachIs (now digits) 0 × (length (now parents) ≡ 8) × (n ≤ 8) × UnusedFrom (unpack (now front) .sets) n ⌝ }
+    requires { ⌜ (filesAt ≤ length (now front)) × AllAre setCount (now digits) 0 × (length (now parents) ≡ 8) × (n ≤ 8) × UnusedFrom (unpack (now front) .sets) n ⌝ }
     ensures { λ _. ⌜ PlacesPut (unpack (now (front .entry)) .sets) n (now (parents .entry)) (now (digits .exit)) (now (parents .exit)) ⌝ }
 {
     for s in 0..n {
@@ -52,7 +51,7 @@ pub fn put_places(front: &[u8], digits: &mut [u64; 8], parents: &mut [usize; 8],
 }
 
 // The number after that of the last used set.
-fn used_to(front: &[u8]) -> usize
+pub fn used_to(front: &[u8]) -> usize
     requires { ⌜ filesAt ≤ length (now front) ⌝ }
     ensures { λ r. ⌜ UsedTo (unpack (now (front .entry)) .sets) r ⌝ }
 {
@@ -65,17 +64,4 @@ fn used_to(front: &[u8]) -> usize
         n -= 1;
     }
     n
-}
-
-// A number from which on sets are unused and their file records all zero: that after the last used set, or 8 where a record
-// behind it is not all zero.
-pub fn blank_from(front: &[u8], files: &[u8]) -> usize
-    requires { ⌜ (filesAt ≤ length (now front)) × (length (now files) ≡ filesBytes) ⌝ }
-    ensures { λ r. ⌜ BlankFrom (now (files .entry)) r × UnusedFrom (unpack (now (front .entry)) .sets) r ⌝ }
-{
-    let n = used_to(front);
-    if words::all_zero(files, n * SET_FILES_BYTES, (8 - n) * SET_FILES_BYTES) {
-        return n;
-    }
-    8
 }

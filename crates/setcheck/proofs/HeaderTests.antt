@@ -2,7 +2,7 @@
 use mathlib.Core.Bool.{false}
 use mathlib.Core.List.{List}
 use mathlib.Core.Path.{ap, _∙_, _≡_}
-use Prim.Native.Nat.{_%_, _*_, _/_, _<_, ℕ, _≤_}
+use Prim.Native.Nat.{_%_, _/_, _<_, ℕ, _≤_}
 use native.Mathlib.Omega.{arith}
 use lib.Dec.{eqb, ltb}
 use borrow.Author.Tests.{le-leb, lt-leb}

@@ -40,7 +40,7 @@ module _ (t : List ℕ) where
   zeros-say = refl
 
   -- LAW: the rules on zero fields, sets and files are those on the header's zero field, on set records and on file records
-  pub set-rules-parts : setRules t ≡ (headerZero t && setRecordsFormed t && fileRecordsFormed t)
+  set-rules-parts : setRules t ≡ (headerZero t && setRecordsFormed t && fileRecordsFormed t)
   unfolding setRules fieldsFormed zerosFormed setRecordsFormed zerosOfSets unusedZero fileRecordsFormed
   set-rules-parts =
       by-record (headerZero t) (allSets (setZero t)) (allFiles (λ f s. eqb (getField headWidths (headWord t f s) 2) 0))

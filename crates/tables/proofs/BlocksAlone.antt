@@ -4,7 +4,6 @@ use mathlib.Core.List.{List, []}
 use mathlib.Core.Path.{ap, ap₂, sym, _∙_, _≡_}
 use Prim.Native.Nat.{_<_, ℕ}
 use lib.Dec.{eqb}
-use lib.ListN.{length}
 use Rattle.base.specs.Count.{all-same, count-same}
 use Rattle.base.specs.Logic.{digit}
 use Rattle.rules.proofs.Blocks.Sums.{sum-same}
@@ -20,7 +19,7 @@ module _ (t t′ : List ℕ) (k : SameBlocks t t′) where
 
   same-header : headerFormed (unpack t) ≡ headerFormed (unpack t′)
   unfolding headerFormed
-  same-header = rw (k .same-count, k .same-next)
+  same-header = rw (k .same-blocks, k .same-next)
 
   same-kinds : kindsFormed t ≡ kindsFormed t′
   unfolding kindsFormed allFiles allPages
@@ -34,7 +33,7 @@ module _ (t t′ : List ℕ) (k : SameBlocks t t′) where
   unfolding bitsFormed allFiles allPages
   same-bitmap = ap₂ _&&_
       (all-same 4096 _ _ (λ b l. ap₂ eqb (same-times b) (ap digit (k .same-bits b l))))
-      (all-same 8 _ _ (λ s ls. all-same 16 _ _ (λ f lf. all-same 64 _ _ (λ p lp. ap₂ blockBelow (k .same-count) (same-map f s p lf ls lp)))))
+      (all-same 8 _ _ (λ s ls. all-same 16 _ _ (λ f lf. all-same 64 _ _ (λ p lp. ap₂ blockBelow (k .same-blocks) (same-map f s p lf ls lp)))))
 
   same-rules : blockRules t ≡ blockRules t′
   unfolding blockRules

@@ -2,7 +2,7 @@
 -- of one of the two. Assumes nothing.
 use mathlib.Core.List.{List, _++_}
 use mathlib.Core.Path.{ap, ap₂, fun-ext, sym, _∙_, _≡_}
-use Prim.Native.Nat.{_*_, _+_, _-_, _/_, _<_, ℕ}
+use Prim.Native.Nat.{_*_, _+_, _-_, _<_, ℕ}
 use native.Mathlib.Omega.{arith}
 use lib.Dec.{ltb}
 use lib.ListN.{drop, getD, length, length-append, length-drop, take, take-append-drop}
@@ -11,21 +11,21 @@ use borrow.Author.Tests.{ltb-false, ltb-true}
 use Rattle.base.specs.Logic.{test?}
 use Rattle.packing.specs.Bitmap.{bit-front}
 use Rattle.packing.specs.Words.{get-behind, get-front, getWord}
-use Rattle.rules.specs.State.{fileCount, largestBlocks, setCount}
-use Rattle.tables.proofs.ReadParts.{bit-default, read-bit, read-blocks, read-next, read-set, set-default}
-use Rattle.tables.specs.Layout.{bitmapAt, entryBytes, entryWord, fileBytes, filesAt, filesBytes, headBytes, headWord, headerWord, readBlocks, readNext, readSet, setAt, setWord, tableBytes}
+use Rattle.rules.specs.State.{fileCount, largestBlocks, pageCount, setCount}
+use Rattle.tables.proofs.ReadParts.{bit-default, read-bit, read-blocks, read-map, read-next, read-set, set-default}
+use Rattle.tables.specs.Layout.{bitmapAt, entryBytes, entryWord, fileBytes, filesAt, allFilesBytes, headBytes, headWord, headerWord, readBlocks, readEntry, readNext, readSet, setAt, setWord, tableBytes}
 use Rattle.tables.specs.Packed.{unpack}
 
--- LAW: tables as they stand, cut in two
-pub two-parts : (t : List ℕ) → length t ≡ tableBytes → take filesAt t ++ take (length t - filesAt) (drop filesAt t) ≡ t
-two-parts t len = ap (λ x. take filesAt t ++ x) (take-all (length t - filesAt) (drop filesAt t) (omega (arith, length-drop filesAt t))) ∙ take-append-drop filesAt t
+-- LAW: a list as it stands, cut in two
+pub two-parts : (t : List ℕ) → take filesAt t ++ take (length t - filesAt) (drop filesAt t) ≡ t
+two-parts t = ap (λ x. take filesAt t ++ x) (take-all (length t - filesAt) (drop filesAt t) (omega (arith, length-drop filesAt t))) ∙ take-append-drop filesAt t
 
 module _ (front files : List ℕ) (len : length front ≡ filesAt) where
   abbrev whole : List ℕ
   whole = front ++ files
 
   -- LAW: the length
-  pub whole-length : length files ≡ filesBytes → length whole ≡ tableBytes
+  pub whole-length : length files ≡ allFilesBytes → length whole ≡ tableBytes
   whole-length h = length-append front files ∙ ap₂ _+_ len h
 
   -- LAWS: a byte, a word
@@ -75,3 +75,7 @@ module _ (front files : List ℕ) (len : length front ≡ filesAt) where
   entry-files f s p =
       let q : filesAt + headBytes + (s * fileCount + f) * fileBytes + p * entryBytes ≡ filesAt + (headBytes + (s * fileCount + f) * fileBytes + p * entryBytes) = omega arith in
       ap (getWord 1 whole) q ∙ word-files 1 (headBytes + (s * fileCount + f) * fileBytes + p * entryBytes)
+
+  pub map-files : (f s p : ℕ) → f < fileCount → s < setCount → p < pageCount
+      → unpack whole .files f s .map p ≡ readEntry (getWord 1 files (headBytes + (s * fileCount + f) * fileBytes + p * entryBytes))
+  map-files f s p lf ls lp = read-map whole f s p lf ls lp ∙ ap readEntry (entry-files f s p)

@@ -26,7 +26,7 @@ checkOn t p = lookedAt (checkAnswer (wellFormed t (length p))) t p []
 -- "whatever else they hold": tables of the same length, with the same B, next start and bits, and the same words of all entries
 pub record SameBlocks (t t′ : List ℕ) : Type 0 where
   pub same-length : length t ≡ length t′
-  pub same-count : unpack t .blocks ≡ unpack t′ .blocks
+  pub same-blocks : unpack t .blocks ≡ unpack t′ .blocks
   pub same-next : unpack t .next ≡ unpack t′ .next
   pub same-bits : (b : ℕ) → b < largestBlocks → unpack t .bits b ≡ unpack t′ .bits b
   pub same-entries : (f s p : ℕ) → f < fileCount → s < setCount → p < pageCount → entryWord t f s p ≡ entryWord t′ f s p

@@ -67,12 +67,13 @@ mapAt f s = mapsAt + (s * fileCount + f) * fileBytes
 abbrev pub entryAt : ℕ → ℕ → ℕ → ℕ
 entryAt f s p = mapAt f s + p * entryBytes
 
-abbrev pub filesBytes : ℕ
-filesBytes = setCount * setFilesBytes
+-- the file records of all sets
+abbrev pub allFilesBytes : ℕ
+allFilesBytes = setCount * setFilesBytes
 
 -- "The tables are 17,436 bytes"
 abbrev pub tableBytes : ℕ
-tableBytes = filesAt + filesBytes
+tableBytes = filesAt + allFilesBytes
 
 -- "block count B 13, next start 12, zero 7"
 abbrev pub headerWidths : List ℕ

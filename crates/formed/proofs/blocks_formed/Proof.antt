@@ -14,7 +14,7 @@ returns-2 : tie.Need-returns-2
 returns-2 c =
     let e = c .before .before .before .before .before .before .before in
     let a = e .before .before .args in
-    c .first-part .ensures .decided ∙ ap blockRules (two-parts (a .t .now) (e .if1 .left))
+    c .first-part .ensures .decided ∙ ap blockRules (two-parts (a .t .now))
 
 pub blocks-formed-spec : {M : Type 1} → statement M
 blocks-formed-spec =

@@ -1,7 +1,6 @@
 -- `formed::parts_formed` meets its contract. Assumes nothing.
 use borrow.Author.Needs.{needs}
 use borrow.Author.Tests.{not-false}
-use native.Mathlib.Omega.{arith}
 use Rattle.formed.proofs.Whole.{sets-falling, whole-blocks, whole-files, whole-pages, whole-sets, whole-zero}
 use Rattle.formed.proofs.parts_formed.Statement.{statement}
 use Rattle.formed.proofs.parts_formed.Tie as tie

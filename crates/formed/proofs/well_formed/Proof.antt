@@ -14,7 +14,7 @@ returns-2 : tie.Need-returns-2
 returns-2 c =
     let e = c .before .before .before in
     let a = e .before .before .args in
-    c .parts-formed .ensures ∙ ap (λ t. wellFormed t (a .n)) (two-parts (a .t .now) (e .if1 .left))
+    c .parts-formed .ensures ∙ ap (λ t. wellFormed t (a .n)) (two-parts (a .t .now))
 
 pub well-formed-spec : {M : Type 1} → statement M
 well-formed-spec =

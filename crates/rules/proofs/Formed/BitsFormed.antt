@@ -2,7 +2,7 @@
 -- and a store whose tables pass it, and are empty out of range, has its blocks in order. Assumes nothing.
 use mathlib.Core.Bool.{_&&_, Bool, cond, false, not, true, true≢false, _||_}
 use mathlib.Core.Path.{ap, fun-ext, refl, sym, _∙_, _≡_}
-use Prim.Native.Nat.{_*_, _<_, ℕ, _≤_}
+use Prim.Native.Nat.{_<_, ℕ, _≤_}
 use native.Mathlib.Omega.{arith}
 use lib.Dec.{eqb, leb, ltb}
 use lib.ListN.{set}

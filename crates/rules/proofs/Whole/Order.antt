@@ -1,7 +1,7 @@
 -- A STORE IN ORDER: blocks, sets and files as well-formed tables have them, whatever calls made them. One call keeps it, and goes with the tally that the store shows. Assumes nothing.
 use mathlib.Core.Bool.{true}
 use mathlib.Core.Path.{ap, refl, subst, sym, _∙_, _≡_}
-use Prim.Native.Nat.{_*_, suc, zero, ℕ, _≤_}
+use Prim.Native.Nat.{suc, zero, ℕ, _≤_}
 use native.Mathlib.Omega.{arith}
 use Rattle.base.specs.Logic.{and-both}
 use Rattle.rules.proofs.Blocks.RealCalls.{Stands, kept-format, step-same}

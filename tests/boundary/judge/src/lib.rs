@@ -41,9 +41,8 @@ pub struct Broken {
 }
 
 /// Makes a store in which the rule at this place in `Rule::ALL` is broken, and no other if that can
-/// be; the seed chooses it. False where there is no such rule. Where the rule is one of the first part,
-/// which does not look at them, pages that the buffer cannot hold are cut off at its end, which breaks
-/// the rule on their length too.
+/// be; the seed chooses it. False where there is no such rule. Where the rule is `block-count`, the
+/// pages, which the buffer cannot hold, are cut off at its end; that breaks the rule on their length too.
 ///
 /// # Safety
 /// Each buffer has as many bytes as its length says; they do not overlap.
@@ -55,7 +54,7 @@ pub unsafe extern "C" fn break_rule(rule: u32, seed: u64, buffers: &[Slice; 2], 
     let mut rng = Rng::new(seed);
     let room = buffers[1].length;
     let mut broke = break_alone(&mut rng, rule);
-    while broke.pages.len() > room && !rule.is_first_part() {
+    while broke.pages.len() > room && rule != Rule::BlockCount {
         broke = break_alone(&mut rng, rule);
     }
     let Broke { tables, mut pages, alone, .. } = broke;

@@ -20,18 +20,16 @@ files-linked-requires c κs =
     let i = c .before in
     let k = i .before .pass-heads in
     let p = i .before .before .before .before .before .before .before .pre in
-    let o = not-false (k .result) (i .if1 .left) in (
-      p .5,
-      record {
-        low = p .5;
-        falling = p .2;
-        places = p .4;
-        masks = p .3;
-        ends-are = k .ensures .ends-are o;
-        lives-are = k .ensures .lives-are o;
-        alone = all-alone _ _ _ _ _ (k .ensures) (i .if1 .left);
-      },
-    )
+    let o = not-false (k .result) (i .if1 .left) in
+    record {
+      low = p .5;
+      falling = p .2;
+      places = p .4;
+      masks = p .3;
+      ends-are = k .ensures .ends-are o;
+      lives-are = k .ensures .lives-are o;
+      alone = all-alone _ _ _ _ _ (k .ensures) (i .if1 .left);
+    }
 
 returns-2 : tie.Need-returns-2
 returns-2 c =

@@ -9,20 +9,20 @@ returns : tie.Need-returns
 returns c =
     let i = c .before .before .before .before in
     let p = i .before .before .before .before .pre in
-    mapped-decided _ _ _ _ _ _ _ _ _ (p .2) (p .1) (p .3) _ refl (i .if1 .taken) _ _ _ (c .put-resolved .ensures)
+    mapped-decided _ _ _ _ _ _ _ _ _ (p .1) (p .0) (p .2) _ refl (i .if1 .taken) _ _ _ (c .put-resolved .ensures)
 
 returns-2 : tie.Need-returns-2
 returns-2 c =
     let i = c .before .before in
     let p = i .before .before .before .before .pre in
-    none-above _ _ _ _ _ _ _ _ _ (p .2) (p .1) (p .3) _ refl (i .if1 .left) _ refl _ (c .if2 .taken)
+    none-above _ _ _ _ _ _ _ _ _ (p .1) (p .0) (p .2) _ refl (i .if1 .left) _ refl _ (c .if2 .taken)
 
 returns-3 : tie.Need-returns-3
 returns-3 c =
     let x = c .before .before in
     let i = x .before .before in
     let p = i .before .before .before .before .pre in
-    dead-above _ _ _ _ _ _ _ _ _ (p .2) (p .1) (p .3) _ refl (i .if1 .left) _ refl _ (x .if2 .left) (c .if3 .taken)
+    dead-above _ _ _ _ _ _ _ _ _ (p .1) (p .0) (p .2) _ refl (i .if1 .left) _ refl _ (x .if2 .left) (c .if3 .taken)
 
 returns-4 : tie.Need-returns-4
 returns-4 c =
@@ -30,7 +30,7 @@ returns-4 c =
     let x = d .before .before in
     let i = x .before .before in
     let p = i .before .before .before .before .pre in
-    above-decided _ _ _ _ _ _ _ _ _ (p .2) (p .1) (p .3) _ refl (i .if1 .left) _ refl (x .if2 .left) (d .if3 .left) _ (p .4) _ _ (c .put-resolved2 .ensures)
+    above-decided _ _ _ _ _ _ _ _ _ (p .1) (p .0) (p .2) _ refl (i .if1 .left) _ refl (x .if2 .left) (d .if3 .left) _ (p .3) _ _ (c .put-resolved2 .ensures)
 
 pub link-file-spec : {M : Type 1} → statement M
 link-file-spec = tie.close (tie.spec (λ c. search needs) (λ c. search needs) (λ c. search needs) (λ c. search needs) (λ c. search needs) (λ c. search needs) (λ c. search needs) (λ c. search needs) (λ c κs. search needs) returns (λ c. search needs) (λ c. search needs) returns-2 (λ c. search needs) (λ c. search needs) returns-3 (λ c. search needs) (λ c. search needs) (λ c. search needs) (λ c. search needs) (λ c. search needs) (λ c. search needs) (λ c κs. search needs) returns-4)

@@ -1,9 +1,9 @@
--- `formed::places::blank_from` meets its contract. Assumes nothing.
+-- `formed::blank_from` meets its contract. Assumes nothing.
 use mathlib.Core.Path.{sym, _∙_}
 use borrow.Author.Needs.{needs}
 use Rattle.formed.proofs.Blank.{blank-from, blank-none}
-use Rattle.formed.proofs.places.blank_from.Statement.{statement}
-use Rattle.formed.proofs.places.blank_from.Tie as tie
+use Rattle.formed.proofs.blank_from.Statement.{statement}
+use Rattle.formed.proofs.blank_from.Tie as tie
 
 returns : tie.Need-returns
 returns c =
