@@ -1,7 +1,7 @@
 // The check that tables are well formed, in two parts. The first decides by the header, the kinds and blocks of all
 // entries and the bitmap, and by nothing else; then come the length of the pages buffer, the zero fields, the set records
-// with their chains, and the heads of the file records. The tables are looked at as two
-// slices: front, the header, the bitmap and the set records; and files, the file records.
+// with their chains, and the heads of the file records. The tables are looked at as two slices: front, the header, the bitmap
+// and the set records; and files, the file records.
 ghost use mathlib.Core.Bool.{false};
 ghost use mathlib.Core.List.{_++_};
 ghost use mathlib.Core.Path.{_≡_};
