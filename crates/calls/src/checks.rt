@@ -1,4 +1,4 @@
-// The well-formed check as a call of its own: its first part, and the whole.
+// The well-formed check as two calls: its first part, and the whole.
 ghost use mathlib.Core.List.{[]};
 ghost use mathlib.Core.Path.{_≡_};
 ghost use Rattle.tables.specs.Checks.{checkBlocksOn, checkOn};

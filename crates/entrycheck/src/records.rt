@@ -5,7 +5,7 @@ ghost use mathlib.Core.Path.{_≡_};
 ghost use Prim.Native.Nat.{_+_, _<_, _≤_};
 ghost use lib.ListN.{getD, length};
 ghost use Rattle.packing.specs.Zeros.{zeroBytes};
-ghost use Rattle.tables.specs.Layout.{filesAt, allFilesBytes};
+ghost use Rattle.tables.specs.Layout.{allFilesBytes, filesAt};
 ghost use Rattle.tables.specs.Packed.{unpack};
 ghost use Rattle.entrycheck.specs.Records.{AllAre, BlankFrom, EntriesSeen, RecordPassed};
 ghost use Rattle.entrycheck.specs.Seeing.{recordCount};

@@ -23,7 +23,7 @@ use Rattle.setcheck.proofs.WellFormedParts.{block-rules-parts, records-sets, we
 use Rattle.tables.proofs.FormedStore.{header-in}
 use Rattle.tables.proofs.Parts.{whole-length}
 use Rattle.setcheck.specs.Records.{fileRecordsFormed, headerZero, setRecordsFormed}
-use Rattle.tables.specs.Layout.{filesAt, allFilesBytes, headWidths, headWord, tableBytes}
+use Rattle.tables.specs.Layout.{allFilesBytes, filesAt, headWidths, headWord, tableBytes}
 use Rattle.tables.specs.Packed.{blockRules, kindsFormed, unpack, wellFormed}
 
 -- ---- the rules on file records, all files of a number together

@@ -6,7 +6,7 @@ ghost use Prim.Native.Nat.{ℕ, _*_, _+_, _<_};
 ghost use lib.ListN.{getD, length};
 ghost use Rattle.masks.specs.Pages.{pageMask};
 ghost use Rattle.rules.specs.State.{isUnmapped, setCount};
-ghost use Rattle.tables.specs.Layout.{filesAt, allFilesBytes};
+ghost use Rattle.tables.specs.Layout.{allFilesBytes, filesAt};
 ghost use Rattle.tables.specs.Packed.{unpack};
 ghost use Rattle.setcheck.specs.Records.{fileRecordsFormed};
 ghost use Rattle.entrycheck.specs.Records.{AllAre, BlankFrom, MasksAre};

@@ -7,7 +7,7 @@ ghost use lib.Dec.{eqb};
 ghost use lib.ListN.{getD, length};
 ghost use Rattle.packing.specs.Words.{getWord};
 ghost use Rattle.rules.specs.State.{live};
-ghost use Rattle.tables.specs.Layout.{fileBytes, allFilesBytes, readSize, stateOf};
+ghost use Rattle.tables.specs.Layout.{allFilesBytes, fileBytes, readSize, stateOf};
 ghost use Rattle.formed.specs.Files.{endOf, turned};
 ghost use Rattle.formed.specs.Heads.{HeadPassed};
 use crate::alone::head_formed;
@@ -61,8 +61,8 @@ fn pass_virgin(lives: &mut u64, s: usize, digit: u64, u: u64) -> bool
 }
 
 // The head of file f of set s, which has the digit given and the unmapped pages u. The file's end is kept, and whether it
-// is own or virgin; `ends` has 64 already, the end of an absent file and of a virgin one of size 0. The head is read with the first two entries, the first
-// byte the least significant.
+// is own or virgin; `ends` has 64 already, the end of an absent file and of a virgin one of size 0. The head is read with
+// the first two entries, the first byte the least significant.
 pub fn pass_head(
     files: &[u8],
     ends: &mut [usize; 8],

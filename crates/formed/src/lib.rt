@@ -7,7 +7,7 @@ ghost use mathlib.Core.List.{_++_};
 ghost use mathlib.Core.Path.{_≡_};
 ghost use Prim.Native.Nat.{_≤_};
 ghost use lib.ListN.{length};
-ghost use Rattle.tables.specs.Layout.{filesAt, allFilesBytes};
+ghost use Rattle.tables.specs.Layout.{allFilesBytes, filesAt};
 ghost use Rattle.tables.specs.Packed.{blockRules, unpack, wellFormed};
 ghost use Rattle.entrycheck.specs.Records.{AllAre, BlankFrom};
 ghost use Rattle.entrycheck.specs.Seeing.{recordCount};

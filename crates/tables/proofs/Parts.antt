@@ -13,7 +13,7 @@ use Rattle.packing.specs.Bitmap.{bit-front}
 use Rattle.packing.specs.Words.{get-behind, get-front, getWord}
 use Rattle.rules.specs.State.{fileCount, largestBlocks, pageCount, setCount}
 use Rattle.tables.proofs.ReadParts.{bit-default, read-bit, read-blocks, read-map, read-next, read-set, set-default}
-use Rattle.tables.specs.Layout.{bitmapAt, entryBytes, entryWord, fileBytes, filesAt, allFilesBytes, headBytes, headWord, headerWord, readBlocks, readEntry, readNext, readSet, setAt, setWord, tableBytes}
+use Rattle.tables.specs.Layout.{allFilesBytes, bitmapAt, entryBytes, entryWord, fileBytes, filesAt, headBytes, headWord, headerWord, readBlocks, readEntry, readNext, readSet, setAt, setWord, tableBytes}
 use Rattle.tables.specs.Packed.{unpack}
 
 -- LAW: a list as it stands, cut in two
