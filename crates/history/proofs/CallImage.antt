@@ -65,7 +65,7 @@ module _ (B : ℕ) (least : 1 ≤ B) (most : B ≤ 4096) (r : Store real) (o : I
   unfolding acceptedOn bufferOf
   accepted-image format = changing format refl
   accepted-image (create s f) = changing (create s f) refl
-  accepted-image (write s f off bs) = changing (write s f off bs) refl
+  accepted-image (write g s f off bs) = changing (write g s f off bs) refl
   accepted-image (read s f off buffer) = looking (read s f off buffer) (λ st. readInto st s f off buffer) refl ∙ (unfold accepted in refl)
   accepted-image (truncate s f n) = changing (truncate s f n) refl
   accepted-image (delete s f) = changing (delete s f) refl
@@ -86,8 +86,8 @@ module _ (B : ℕ) (least : 1 ≤ B) (most : B ≤ 4096) (r : Store real) (o : I
   unfolding accepted worked
   accepted-number format = refl
   accepted-number (create s f) = refl
-  accepted-number (write s f off []) = refl
-  accepted-number (write s f off (x ∷ bs)) = refl
+  accepted-number (write g s f off []) = refl
+  accepted-number (write g s f off (x ∷ bs)) = refl
   accepted-number (read s f off buffer) = refl
   accepted-number (truncate s f n) = refl
   accepted-number (delete s f) = refl

@@ -9,7 +9,7 @@ use Rattle.rules.specs.Numbers.{Call}
 use Rattle.tables.specs.Checks.{checkBlocksOn, checkOn}
 
 pub data Event : Type 0 where
-  -- one of the ten
+  -- one of the ten; each write by a group size of its own
   listed : Call → Event
   -- document 02, Ask 4: the first part of the check, which is lent no pages, and the whole check
   checkBlocks : Event

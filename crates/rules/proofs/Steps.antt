@@ -6,5 +6,6 @@ pub mod OneStep
 pub mod StepFour
 pub mod WriterSteps
 pub mod Pending
+pub mod Groups
 pub mod Erased
 pub mod Handing

@@ -82,8 +82,8 @@ module _ (S : Storage) where
   unfoldable pub accepted : S .Memory → Call → Store S → Result S
   accepted fresh format st = done (formatted fresh)
   accepted fresh (create s f) st = done (created s f st)
-  accepted fresh (write s f off []) st = done st
-  accepted fresh (write s f off (x ∷ bs)) st = worked st f (writeFile S (treeIn st) s off (x ∷ bs) (begin st f))
+  accepted fresh (write g s f off []) st = done st
+  accepted fresh (write g s f off (x ∷ bs)) st = worked st f (writeFile S (treeIn st) g s off (x ∷ bs) (begin st f))
   accepted fresh (read s f off buffer) st = readOf s f off (readCount (length buffer) off (sizeByReading (treeIn st) (st .files f) s)) st
   accepted fresh (truncate s f n) st = worked st f (truncateFile S (treeIn st) s n (begin st f))
   accepted fresh (delete s f) st = worked st f (deleteFile S (treeIn st) s (begin st f))

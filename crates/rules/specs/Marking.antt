@@ -1,4 +1,4 @@
--- WHY A FILE BECOMES MARKED, judged at the turn of each needed copy. Document 01, "Marking" and "Demand 3"; document 02, Ask 2.
+-- WHY A FILE BECOMES MARKED, judged at the turn of each needed copy. Document 01, "Marking" and "Demand 3"; document 02, Asks 2 and 5.
 -- Of the tally this reads the turn of a child (`childTurn`) and, for the pages before, the turns at a page (`atPage`): a page that a child needs
 -- becomes a hole there, is taken over, or is copied to a free block; with none free the child's file is marked.
 use mathlib.Core.Bool.{_&&_, Bool, cond, false, not, true}
@@ -58,10 +58,10 @@ pub record MarkingTurn (t : Tree) (s : ℕ) (touches hands : ℕ → Bool) (x : 
   pub fails : FindsNone t s page child (turnBefore t s touches hands x page earlier)
   pub reached : MarkedDown t (turnBefore t s touches hands x page earlier .files) y child
 
--- WHY FILE f OF SET y BECOMES MARKED in an accepted call c, where ta is the tally before it: a turn of a write, of a truncate to below the size,
--- of a delete of an own or virgin file; or its set is made from one where it is marked. No other call marks a file.
+-- WHY FILE f OF SET y BECOMES MARKED in an accepted call c, where ta is the tally before it: a turn at a touched page (an extra page "marks nothing") of a
+-- write, of a truncate to below the size, or of a delete of an own or virgin file; or its set is made from one where it is marked. No other call marks a file.
 pub data BecomesMarked (ta : Tally) (c : Call) (f y : ℕ) : Type 0 where
-  in-write : (s off : ℕ) (bs : List ℕ) → c ≡ write s f off bs
+  in-write : (g s off : ℕ) (bs : List ℕ) → c ≡ write g s f off bs
       → MarkingTurn (ta .tree) s (holdsByte off (length bs)) (λ p. false) (ownTaken ta f (tallyWriteNeed (ta .files f) s off (length bs))) y → BecomesMarked ta c f y
   in-truncate : (s n : ℕ) → c ≡ truncate s f n → n < tallySize (ta .tree) (ta .files f) s
       → MarkingTurn (ta .tree) s (truncateTouches n (tallySize (ta .tree) (ta .files f) s)) (λ p. not (partPage n p)) (ownTaken ta f (tallyTruncateNeed (ta .tree) (ta .files f) s n)) y

@@ -12,8 +12,8 @@ pub data Call : Type 0 where
   format : Call
   -- set, file
   create : ℕ → ℕ → Call
-  -- set, file, offset, data
-  write : ℕ → ℕ → ℕ → List ℕ → Call
+  -- group size, set, file, offset, data
+  write : ℕ → ℕ → ℕ → ℕ → List ℕ → Call
   -- set, file, offset, what the buffer holds
   read : ℕ → ℕ → ℕ → List ℕ → Call
   -- set, file, new size
@@ -29,6 +29,14 @@ pub data Call : Type 0 where
   -- "and the free blocks"
   tellFree : Call
 
+-- "A write now copies by aligned groups of eight unless the caller asks for a narrow one" (document 02, Ask 5): a narrow write is by groups
+-- of one page
+abbrev pub groupedWrite : ℕ → ℕ → ℕ → List ℕ → Call
+groupedWrite s f off bs = write 8 s f off bs
+
+abbrev pub narrowWrite : ℕ → ℕ → ℕ → List ℕ → Call
+narrowWrite s f off bs = write 1 s f off bs
+
 -- what a call asks for that only looks: the bytes of a read, a file's size
 pub data Look : Type 0 where
   bytesAsked : ℕ → ℕ → ℕ → List ℕ → Look
@@ -38,7 +46,7 @@ pub data Look : Type 0 where
 abbrev pub lookOf : Call → Look
 lookOf format = noneAsked
 lookOf (create s f) = noneAsked
-lookOf (write s f off bs) = noneAsked
+lookOf (write g s f off bs) = noneAsked
 lookOf (read s f off buffer) = bytesAsked s f off buffer
 lookOf (truncate s f n) = noneAsked
 lookOf (delete s f) = noneAsked
@@ -115,7 +123,7 @@ module _ (v : View) where
   unfoldable pub conditions : Call → List (Bool × ℕ)
   conditions format = (not (v .formats), 1) ∷ []
   conditions (create s f) = notFormed ∷ noSuchSet s ∷ noSuchFile f ∷ readOnly s ∷ (not (isAbsent (v .state f s)), 9) ∷ []
-  conditions (write s f off bs) =
+  conditions (write g s f off bs) =
       notFormed ∷ noSuchSet s ∷ noSuchFile f ∷ readOnly s ∷ fileAbsent s f ∷ fileMarked s f
       ∷ endOver (off + length bs) ∷ needOver (v .writeNeed s f off (length bs)) ∷ []
   conditions (read s f off buffer) = notFormed ∷ noSuchSet s ∷ noSuchFile f ∷ fileAbsent s f ∷ fileMarked s f ∷ []

@@ -36,12 +36,12 @@ present (some l) g = some (g l)
 unfoldable pub putFile : ℕ → ℕ → Option (List ℕ) → Plain → Plain
 putFile s f o pl = record { tree = pl .tree; files = upd (pl .files) f (upd (pl .files f) s o) }
 
--- AN ACCEPTED CALL. "empty writes, read, size and free change nothing"
+-- AN ACCEPTED CALL. "empty writes, read, size and free change nothing"; a write's group size g makes no difference
 unfoldable pub plainCall : Call → Plain → Plain
 plainCall format pl = plainFormat
 plainCall (create s f) pl = putFile s f (some []) pl
-plainCall (write s f off []) pl = pl
-plainCall (write s f off (x ∷ bs)) pl = putFile s f (present (pl .files f s) (λ l. overwrite l off (x ∷ bs))) pl
+plainCall (write g s f off []) pl = pl
+plainCall (write g s f off (x ∷ bs)) pl = putFile s f (present (pl .files f s) (λ l. overwrite l off (x ∷ bs))) pl
 plainCall (read s f off buffer) pl = pl
 plainCall (truncate s f n) pl = putFile s f (present (pl .files f s) (λ l. cutOrFill l n)) pl
 plainCall (delete s f) pl = putFile s f none pl

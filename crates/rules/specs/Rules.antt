@@ -1,7 +1,8 @@
--- The rules of "Changing calls" (document 01), with "Delete hands its blocks to the copy" (document 02, Ask 2), once, over any storage.
+-- The rules of "Changing calls" (document 01), with "Delete hands its blocks to the copy" and "Eight pages at a time" (document 02, Asks 2 and 5), once, over
+-- any storage.
 use mathlib.Core.Bool.{_&&_, Bool, cond, false, not, true}
-use mathlib.Core.List.{List, _∷_, []}
-use Prim.Native.Nat.{_%_, _+_, _-_, _/_, max, suc, zero, ℕ}
+use mathlib.Core.List.{_++_, List, _∷_, []}
+use Prim.Native.Nat.{_%_, _*_, _+_, _-_, _/_, max, min, suc, zero, ℕ}
 use lib.Dec.{eqb, ltb}
 use lib.ListN.{length}
 use Rattle.base.specs.Count.{count}
@@ -48,6 +49,27 @@ keptPages n e = cond (not (eqb (n % pageBytes) 0) && isStored e) (n / pageBytes 
 unfoldable pub partPages : ℕ → List ℕ
 partPages n = cond (eqb (n % pageBytes) 0) [] (n / pageBytes ∷ [])
 
+-- "any group size from 1 to 64". Any number is taken: 0 counts as 1; more than 64 comes to the same as 64, since a write ends at 32,768 at most.
+abbrev pub groupSize : ℕ → ℕ
+groupSize g = max 1 g
+
+-- "aligned groups": the first page of the group of page p
+abbrev pub groupFirst : ℕ → ℕ → ℕ
+groupFirst g p = p / groupSize g * groupSize g
+
+-- the page behind the group of page p; "the last group ending at page 63"
+abbrev pub groupEnd : ℕ → ℕ → ℕ
+groupEnd g p = min pageCount (groupFirst g p + groupSize g)
+
+-- "the other pages of each touched group ..., ascending", of a write of n bytes from offset off on. The touched pages follow one another, from a to b: the
+-- others are those before a in its group and those behind b in its group.
+unfoldable pub extraPages : ℕ → ℕ → ℕ → List ℕ
+extraPages g off zero = []
+extraPages g off (suc n) =
+    let a : ℕ = off / pageBytes in
+    let b : ℕ = (off + n) / pageBytes in
+    from (groupFirst g a) (a - groupFirst g a) ++ from (suc b) (groupEnd g b - suc b)
+
 -- "All other touched pages become holes in this map"
 unfoldable pub droppedPages : ℕ → ℕ → List ℕ
 droppedPages n z = cond (eqb (n % pageBytes) 0) (cutPages n z) (from (suc (n / pageBytes)) ((z - 1) / pageBytes - n / pageBytes))
@@ -80,9 +102,10 @@ module _ {K : Type 0} where
   holes p = cond (ltb p pageCount) hole unmapped
 
 -- How a page is given to the children that need it. copied: each gets a copy. handed, where the call drops the page whole: if it is stored in the
--- file's own map, the first of them takes it over and the others get copies.
+-- file's own map, the first of them takes it over and the others get copies. extra: each gets a copy if a block is free,
+-- else the page stays unmapped there.
 pub data Giving : Type 0 where
-  copied handed : Giving
+  copied handed extra : Giving
 
 -- What a call works on: the memory, the files of its number, the blocks pending for pages of the writer from step 3 until they enter its map in step 5, the counts.
 pub record Work (S : Storage) : Type 0 where
@@ -157,14 +180,15 @@ module _ (S : Storage) (t : Tree) where
       let q : S .Block × S .Memory = S .put (r .1) (r .0) (S .get (r .1) b) in
       record { memory = q .1; files = putEntry (w .files) c p (stored (q .0)); pending = w .pending; taken = w .taken; copies = suc (w .copies); marks = w .marks }
 
-  -- "a page resolving to a hole becomes a hole there"
-  unfoldable pub supply : Entry (S .Block) → ℕ → ℕ → Work S → Work S
-  supply unmapped c p w = w
-  supply hole c p w = withFiles w (putEntry (w .files) c p hole)
-  supply (stored b) c p w = cond (eqb (S .free (w .memory)) 0) (mark c w) (copy b c p w)
+  -- "a page resolving to a hole becomes a hole there". must: the page is touched, so that a copy of it is a needed copy; else it is an extra page, and "an
+  -- extra page finding no free block stays unmapped, marks nothing and is not a needed copy". "An extra copy made counts in the second count", as any.
+  unfoldable pub supply : Bool → Entry (S .Block) → ℕ → ℕ → Work S → Work S
+  supply must unmapped c p w = w
+  supply must hole c p w = withFiles w (putEntry (w .files) c p hole)
+  supply must (stored b) c p w = cond (eqb (S .free (w .memory)) 0) (cond must (mark c w) w) (copy b c p w)
 
-  unfoldable pub give : ℕ → ℕ → ℕ → Work S → Work S
-  give s p c w = cond (needs (w .files) c p) (supply (resolve t (w .files) s p) c p w) w
+  unfoldable pub give : Bool → ℕ → ℕ → ℕ → Work S → Work S
+  give must s p c w = cond (needs (w .files) c p) (supply must (resolve t (w .files) s p) c p w) w
 
   -- "takes over the block itself": page p, stored in the map of set s, moves to the map of set c. "A block handed over counts as no copy, and the
   -- delete or truncate itself does not free it": in set s the page is a hole from now on.
@@ -175,15 +199,17 @@ module _ (S : Storage) (t : Tree) where
   -- block moves: that changes nothing, since neither c nor s depends on another child (the tally has the order of the sentence, and agrees).
   unfoldable pub hand : ℕ → ℕ → List ℕ → Work S → Work S
   hand s p [] w = w
-  hand s p (c ∷ cs) w = cond (needs (w .files) c p) (handOver s p c (each (give s p) cs w)) (hand s p cs w)
+  hand s p (c ∷ cs) w = cond (needs (w .files) c p) (handOver s p c (each (give true s p) cs w)) (hand s p cs w)
 
   -- "for each child in order of making that needs it"; and "When delete, or truncate dropping a whole page, reaches a page stored in the file's own
   -- map", it is handed over. "Pages that the file only reads through its parent are copied as before, and so is the part page of a truncate."
+  -- The other pages of a touched group are gone through "with the same copying".
   unfoldable pub givePage : Giving → ℕ → ℕ → Work S → Work S
-  givePage copied s p w = each (give s p) (t .children s) w
-  givePage handed s p w = cond (isStored (w .files s .map p)) (hand s p (t .children s) w) (each (give s p) (t .children s) w)
+  givePage copied s p w = each (give true s p) (t .children s) w
+  givePage handed s p w = cond (isStored (w .files s .map p)) (hand s p (t .children s) w) (each (give true s p) (t .children s) w)
+  givePage extra s p w = each (give false s p) (t .children s) w
 
-  -- "For each touched page ascending". The part page of a truncate, which is copied, is the lowest.
+  -- "For each touched page ascending", and so for each extra page. The part page of a truncate, which is copied, is the lowest.
   unfoldable pub giveAll : Giving → ℕ → List ℕ → Work S → Work S
   giveAll how s ps w = each (givePage how s) ps w
 
@@ -207,28 +233,29 @@ module _ (S : Storage) (t : Tree) where
       record { memory = freeEntry S (w .files s .map p) (w .memory); files = putEntry (w .files) s p hole; pending = w .pending; taken = w .taken; copies = w .copies; marks = w .marks }
 
   -- A change of the file in set s, steps 2 to 5: of the touched pages, ps are copied to the children; ds, which are dropped whole, are handed over where
-  -- the file's own map stores them; of ps, rs get new bytes by lay; ds become holes; the size is changed by resized.
-  unfoldable pub change : ℕ → List ℕ → List ℕ → List ℕ → (ℕ → S .Page → S .Page) → (ℕ → ℕ) → Work S → Work S
-  change s ps rs ds lay resized w =
+  -- the file's own map stores them; "After step 4 for the touched pages" the extra pages es have their turns; of ps, rs get new bytes by lay; ds become
+  -- holes; the size is changed by resized.
+  unfoldable pub change : ℕ → List ℕ → List ℕ → List ℕ → List ℕ → (ℕ → S .Page → S .Page) → (ℕ → ℕ) → Work S → Work S
+  change s ps rs ds es lay resized w =
       let w₁ : Work S = each settle (s ∷ t .children s) w in
       let w₂ : Work S = each (reserve s) rs w₁ in
-      let w₃ : Work S = giveAll handed s ds (giveAll copied s ps w₂) in
+      let w₃ : Work S = giveAll extra s es (giveAll handed s ds (giveAll copied s ps w₂)) in
       let w₄ : Work S = each (enter s lay) rs w₃ in
       let w₅ : Work S = each (dropPage s) ds w₄ in
       resize s (resized (w₅ .files s .size)) w₅
 
-  -- Write of one byte or more: "size raised to the write's end if larger".
-  unfoldable pub writeFile : ℕ → ℕ → List ℕ → Work S → Work S
-  writeFile s off bs w =
+  -- Write of one byte or more, "by aligned groups" of g pages: "size raised to the write's end if larger".
+  unfoldable pub writeFile : ℕ → ℕ → ℕ → List ℕ → Work S → Work S
+  writeFile g s off bs w =
       let ps : List ℕ = touched off (length bs) in
-      change s ps ps [] (S .over off bs) (λ n. max n (off + length bs)) w
+      change s ps ps [] (extraPages g off (length bs)) (S .over off bs) (λ n. max n (off + length bs)) w
 
   -- "At t equal to the size, nothing changes. Above it, step 2 and the new size only." Below it, the page of t "is zeroed from t on".
   unfoldable pub truncateAs : Bool → Bool → ℕ → ℕ → ℕ → Work S → Work S
   truncateAs true above s n z w = w
-  truncateAs false true s n z w = change s [] [] [] (λ p v. v) (λ m. n) w
+  truncateAs false true s n z w = change s [] [] [] [] (λ p v. v) (λ m. n) w
   truncateAs false false s n z w =
-      change s (partPages n) (keptPages n (resolve t (w .files) s (n / pageBytes))) (droppedPages n z) (λ p. S .cut (n % pageBytes)) (λ m. n) w
+      change s (partPages n) (keptPages n (resolve t (w .files) s (n / pageBytes))) (droppedPages n z) [] (λ p. S .cut (n % pageBytes)) (λ m. n) w
 
   unfoldable pub truncateFile : ℕ → ℕ → Work S → Work S
   truncateFile s n w = let z : ℕ = sizeByReading t (w .files) s in truncateAs (eqb n z) (ltb z n) s n z w

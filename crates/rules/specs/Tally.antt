@@ -1,5 +1,5 @@
 -- The tally: "the same calls under the rules above with sets, states, sizes, kinds and a count of free blocks (B at format), but no block numbers or bytes".
--- Document 01, "Demand 3", and document 02, Asks 2 and 3. It is stated on its own, in its own words, and shares no rule with the store but the table of
+-- Document 01, "Demand 3", and document 02, Asks 2, 3 and 5. It is stated on its own, in its own words, and shares no rule with the store but the table of
 -- numbers: a rule of the store that marked, copied or counted too much or too little would show.
 use mathlib.Core.Bool.{_&&_, Bool, cond, false, not, true, _||_}
 use mathlib.Core.List.{List, _∷_, []}
@@ -53,7 +53,7 @@ kindOver unmapped above = above
 kindOver hole above = hole
 kindOver (stored b) above = stored tt
 
--- what step 4 goes through: the files of one number, the free blocks, the copies made and the files marked so far in this call
+-- what step 4 and the extra pages go through: the files of one number, the free blocks, the copies made and the files marked so far in this call
 pub record Turn : Type 0 where
   pub files : TallyFiles
   pub free : ℕ
@@ -136,6 +136,11 @@ module _ (t : Tree) where
   unfoldable pub childTurn : ℕ → ℕ → ℕ → Turn → Turn
   childTurn s p c x = cond (tallyNeeds (x .files) c p) (childPage (kindAt (x .files) s p) p c x) x
 
+  -- a child's turn at an extra page: as at a touched page, "with the same copying. An extra copy made counts in the second count"; but where a copy would
+  -- find no free block nothing happens: the page "stays unmapped, marks nothing and is not a needed copy"
+  unfoldable pub extraTurn : ℕ → ℕ → ℕ → Turn → Turn
+  extraTurn s p c x = cond (isStored (kindAt (x .files) s p) && eqb (x .free) 0) x (childTurn s p c x)
+
   -- page p, stored in the map of set s, is taken over by child c: "A block handed over counts as no copy", and no block is taken
   unfoldable pub takenOver : ℕ → ℕ → ℕ → Turn → Turn
   takenOver s p c x = record { files = tallyKind s p hole (tallyKind c p (stored tt) (x .files)); free = x .free; copies = x .copies; marks = x .marks }
@@ -161,9 +166,24 @@ module _ (t : Tree) where
   unfoldable pub tallyGive : ℕ → (ℕ → Bool) → (ℕ → Bool) → Turn → Turn
   tallyGive s touches hands x = eachPage (atPage s touches hands) pageCount x
 
+  -- "After step 4 for the touched pages, the other pages ... are gone through, ascending, children in order of making": the turns at the extra pages below
+  -- 64, of the file in set s
+  unfoldable pub tallyExtra : ℕ → (ℕ → Bool) → Turn → Turn
+  tallyExtra s extras x = eachPage (λ p y. cond (extras p) (eachChild (extraTurn s p) (t .children s) y) y) pageCount x
+
 -- does page p hold one of the n bytes from off on: of a write "the pages that hold its bytes", of a read "each page holding a byte read"
 unfoldable pub holdsByte : ℕ → ℕ → ℕ → Bool
 holdsByte off n p = not (eqb n 0) && leb (off / pageBytes) p && leb p ((off + n - 1) / pageBytes)
+
+-- does one of the pages below n pass
+unfoldable pub anyPage : ℕ → (ℕ → Bool) → Bool
+anyPage zero f = false
+anyPage (suc n) f = f n || anyPage n f
+
+-- "the other pages of each touched group": is page p not touched by a write of n bytes from off on, but in the same group of g pages (0 counts as 1) as a
+-- page that is
+unfoldable pub isExtra : ℕ → ℕ → ℕ → ℕ → Bool
+isExtra g off n p = not (holdsByte off n p) && anyPage pageCount (λ q. holdsByte off n q && eqb (p / max 1 g) (q / max 1 g))
 
 -- does a truncate from z to n bytes touch page p
 unfoldable pub truncateTouches : ℕ → ℕ → ℕ → Bool
@@ -196,11 +216,12 @@ tallyLeaves ta f s taken x y released = record {
   tally = record { tree = ta .tree; files = upd (ta .files) f (upd (x .files) s y); free = x .free + released };
 }
 
--- a write of n bytes, n at least 1
-unfoldable pub tallyWrite : ℕ → ℕ → ℕ → ℕ → Tally → TallyResult
-tallyWrite s f off n ta =
+-- a write of n bytes, n at least 1, by groups of g pages
+unfoldable pub tallyWrite : ℕ → ℕ → ℕ → ℕ → ℕ → Tally → TallyResult
+tallyWrite g s f off n ta =
     let taken : ℕ = tallyWriteNeed (ta .files f) s off n in
-    let x : Turn = tallyTurns ta f s (s ∷ ta .tree .children s) taken (holdsByte off n) (λ p. false) in
+    let x₄ : Turn = tallyTurns ta f s (s ∷ ta .tree .children s) taken (holdsByte off n) (λ p. false) in
+    let x : Turn = tallyExtra (ta .tree) s (isExtra g off n) x₄ in
     tallyLeaves ta f s taken x
     (record { state = own; size = max (x .files s .size) (off + n); map = λ p. cond (ltb p pageCount && holdsByte off n p) (stored tt) (x .files s .map p) })
     0
@@ -264,8 +285,8 @@ tallyCall blocks (create s f) ta =
       free = ta .free;
       files = upd (ta .files) f (upd (ta .files f) s (record { state = own; size = 0; map = λ p. cond (ltb p pageCount) hole unmapped }));
     })
-tallyCall blocks (write s f off []) ta = tallyTold 0 ta
-tallyCall blocks (write s f off (x ∷ bs)) ta = tallyWrite s f off (length (x ∷ bs)) ta
+tallyCall blocks (write g s f off []) ta = tallyTold 0 ta
+tallyCall blocks (write g s f off (x ∷ bs)) ta = tallyWrite g s f off (length (x ∷ bs)) ta
 tallyCall blocks (read s f off buffer) ta = tallyRead s f off (min (length buffer) (tallySize (ta .tree) (ta .files f) s - off)) ta
 tallyCall blocks (truncate s f n) ta = tallyTruncate s f n ta
 tallyCall blocks (delete s f) ta = tallyDelete s f ta

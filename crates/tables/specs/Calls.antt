@@ -1,4 +1,4 @@
--- The ten calls on bytes: what their exported functions do.
+-- The ten calls on bytes: what their exported functions do. A write is stated for groups of any size; its two functions take 8 and 1.
 use mathlib.Core.Bool.{_&&_, Bool, cond}
 use mathlib.Core.List.{List, []}
 use Prim.Native.Nat.{_%_, _*_, _+_, _/_, suc, zero, ℕ}
@@ -71,7 +71,7 @@ acceptedOn (tellSize s f) t p = lookedAt (accepted real (freshOf p) (tellSize s 
 acceptedOn tellFree t p = lookedAt (accepted real (freshOf p) tellFree (storeOf t p) .answer) t p []
 acceptedOn format t p = repacked (accepted real (freshOf p) format (storeOf t p))
 acceptedOn (create s f) t p = repacked (accepted real (freshOf p) (create s f) (storeOf t p))
-acceptedOn (write s f off bs) t p = repacked (accepted real (freshOf p) (write s f off bs) (storeOf t p))
+acceptedOn (write g s f off bs) t p = repacked (accepted real (freshOf p) (write g s f off bs) (storeOf t p))
 acceptedOn (truncate s f n) t p = repacked (accepted real (freshOf p) (truncate s f n) (storeOf t p))
 acceptedOn (delete s f) t p = repacked (accepted real (freshOf p) (delete s f) (storeOf t p))
 acceptedOn (make s c w) t p = repacked (accepted real (freshOf p) (make s c w) (storeOf t p))

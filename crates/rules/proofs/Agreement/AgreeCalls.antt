@@ -26,7 +26,7 @@ use Rattle.rules.specs.Calls.{Store, accepted, begin, created, formatted
 use Rattle.rules.specs.Numbers.{Call, View, create, delete, format, make, numberOf, read, remove, tellFree, tellSize, truncate, write}
 use Rattle.rules.specs.Plain.{Plain, cutOrFill, isNone, overwrite, plainCall, plainFormat, present, putFile}
 use Rattle.rules.specs.Reading.{resolve, sizeByReading}
-use Rattle.rules.specs.Rules.{change, deleteFile, droppedPages, keptPages, partPages, touched, truncateAs, truncateFile, writeFile}
+use Rattle.rules.specs.Rules.{change, deleteFile, droppedPages, extraPages, keptPages, partPages, touched, truncateAs, truncateFile, writeFile}
 use Rattle.rules.specs.Sets.{appendSet, rootAlone, unlinkSet}
 use Rattle.rules.specs.State.{File, Files, Tree, absentFile, isAbsent, live, treeOf}
 use Rattle.rules.specs.Storage.{PageData, overlay, zeroFrom}
@@ -71,14 +71,14 @@ module _ (st : Store model) (pl : Plain) (g : Plainly st pl) where
     unfolding created plainCall
     create-plain s f gone = one-file f s _ _ (st .memory) (create-agree (treeIn model st) (st .files f) (v .files-ok f) s gone (pl .files f) (g .agree f))
 
-    write-plain : (s f off x : ℕ) (bs : List ℕ) → live (st .files f s .state) ≡ true
-        → Plainly (worked model st f (writeFile model (treeIn model st) s off (x ∷ bs) (begin model st f)) .store) (plainCall (write s f off (x ∷ bs)) pl)
+    write-plain : (k s f off x : ℕ) (bs : List ℕ) → live (st .files f s .state) ≡ true
+        → Plainly (worked model st f (writeFile model (treeIn model st) k s off (x ∷ bs) (begin model st f)) .store) (plainCall (write k s f off (x ∷ bs)) pl)
     unfolding worked plainCall writeFile
-    write-plain s f off x bs al =
+    write-plain k s f off x bs al =
         let t = treeIn model st in
         let ps : List ℕ = touched off (length (x ∷ bs)) in
         let q = listed s f al in
-        let w = changed t (v .proper) s ps ps [] (λ p m. m) (λ p m k. elim m [ ]) (λ p m. elim m [ ]) (touched-once off (length (x ∷ bs))) (overlay off (x ∷ bs)) (λ n. max n (off + length (x ∷ bs))) (begin model st f) (v .files-ok f) al in
+        let w = changed t (v .proper) s ps ps [] (extraPages k off (length (x ∷ bs))) (λ p m. m) (λ p m k. elim m [ ]) (λ p m. elim m [ ]) (touched-once off (length (x ∷ bs))) (overlay off (x ∷ bs)) (λ n. max n (off + length (x ∷ bs))) (begin model st f) (v .files-ok f) al in
         one-file f s _ (present (pl .files f s) (λ l. overwrite l off (x ∷ bs))) _
         (rw (q .1) (agree-write t s off (off + length (x ∷ bs)) (x ∷ bs) (q .0) (st .files f) _ (pl .files f) (q .1) al w refl (g .agree f)))
 
@@ -112,7 +112,7 @@ module _ (st : Store model) (pl : Plain) (g : Plainly st pl) where
             let r = cut-off t (v .proper) s n (begin model st f) (v .files-ok f) al z most less in
             agree-cut t s n l (st .files f) _ (pl .files f) has al (g .agree f) (omega (arith, len))
             (subst (λ y. Changed t s (keptPages n k) (droppedPages n y) (λ p. zeroFrom (n % 512)) (λ m. n) (st .files f)
-            (change model t s (partPages n) (keptPages n k) (droppedPages n z) (λ p. zeroFrom (n % 512)) (λ m. n) (begin model st f) .files)) len r)
+            (change model t s (partPages n) (keptPages n k) (droppedPages n z) [] (λ p. zeroFrom (n % 512)) (λ m. n) (begin model st f) .files)) len r)
 
     truncate-plain : (s f n : ℕ) → live (st .files f s .state) ≡ true
         → Plainly (worked model st f (truncateFile model (treeIn model st) s n (begin model st f)) .store) (plainCall (truncate s f n) pl)
@@ -163,8 +163,8 @@ module _ (st : Store model) (pl : Plain) (g : Plainly st pl) where
       unfolding accepted plainCall
       accepted-plain format h = format-plain
       accepted-plain (create s f) h = create-plain s f (ap (λ (x : View). isAbsent (x .state f s)) (sym is) ∙ passed-create now s f h .gone)
-      accepted-plain (write s f off []) h = g
-      accepted-plain (write s f off (x ∷ bs)) h = write-plain s f off x bs (ap (λ (x : View). live (x .state f s)) (sym is) ∙ passed-write now s f off (x ∷ bs) h .alive)
+      accepted-plain (write k s f off []) h = g
+      accepted-plain (write k s f off (x ∷ bs)) h = write-plain k s f off x bs (ap (λ (x : View). live (x .state f s)) (sym is) ∙ passed-write now k s f off (x ∷ bs) h .alive)
       accepted-plain (read s f off buffer) h = g
       accepted-plain (truncate s f n) h = truncate-plain s f n (ap (λ (x : View). live (x .state f s)) (sym is) ∙ passed-truncate now s f n h .alive)
       accepted-plain (delete s f) h = delete-plain s f

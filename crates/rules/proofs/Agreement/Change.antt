@@ -9,10 +9,10 @@ use Rattle.base.specs.Update.{upd, upd-other, upd-same}
 use Rattle.rules.proofs.Storages.Model.{model}
 use Rattle.rules.proofs.Steps.OneStep.{Alive, FilesOk, TreeOk, cut-page, cut-size, keep-refl, putEntry-ent, putEntry-other, putEntry-page, putEntry-size, putEntry-state, resolve-same}
 use Rattle.rules.proofs.Steps.States.{alive-own, live-present}
-use Rattle.rules.proofs.Steps.StepFour.{Going, each-all, each-inv, giveAll-done, giveAll-going, served-refl}
+use Rattle.rules.proofs.Steps.StepFour.{Going, each-all, each-inv, extra-going, giveAll-done, giveAll-going, served-refl}
 use Rattle.rules.proofs.Steps.WriterSteps.{Entered, IsPending, NoDup, Settled, bytes, enter-all, laid, mem?, reserve-files, reserve-pending, resolve-here, settle-no-virgin, settle-each, size-here}
 use Rattle.rules.specs.Reading.{needs, resolve, sizeByReading}
-use Rattle.rules.specs.Rules.{Work, change, copied, dropPage, each, enter, giveAll, handed, putEntry, reserve, resize, settle}
+use Rattle.rules.specs.Rules.{Work, change, copied, dropPage, each, enter, extra, giveAll, handed, putEntry, reserve, resize, settle}
 use Rattle.rules.specs.State.{File, Files, Tree, hole, isAbsent, live, own, stored, unmapped, virgin}
 use Rattle.rules.specs.Storage.{PageData}
 use Rattle.rules.proofs.Steps.Handing.{AllHanded, ProperTree, Served, all-handed, served-any, served-then}
@@ -129,9 +129,9 @@ module _ (t : Tree) (ok : TreeOk t) (s : ℕ) (ps rs ds : List ℕ) (in-r : (p :
         ∙ ap sz (r₅ .size′ ∙ r₄ .size′ ∙ r₃ .length ∙ sym (size-here t b₁ s own₁) ∙ r₁ .keep .size s (r₁ .live′ s ∙ al));
   }
 
-module _ (t : Tree) (proper : ProperTree t) (s : ℕ) (ps rs ds : List ℕ) (in-r : (p : ℕ) → List·Memᴰ p rs → List·Memᴰ p ps) (apart : (p : ℕ) → List·Memᴰ p ds → List·Memᴰ p rs → ⊥) (low-d : (p : ℕ) → List·Memᴰ p ds → p < 64) (nd : NoDup rs)
+module _ (t : Tree) (proper : ProperTree t) (s : ℕ) (ps rs ds es : List ℕ) (in-r : (p : ℕ) → List·Memᴰ p rs → List·Memᴰ p ps) (apart : (p : ℕ) → List·Memᴰ p ds → List·Memᴰ p rs → ⊥) (low-d : (p : ℕ) → List·Memᴰ p ds → p < 64) (nd : NoDup rs)
     (lay : ℕ → PageData → PageData) (sz : ℕ → ℕ) (w : Work model) (k : FilesOk t (w .files)) (a : Alive (w .files) s) where
-  pub changed : Changed t s rs ds lay sz (w .files) (change model t s ps rs ds lay sz w .files)
+  pub changed : Changed t s rs ds lay sz (w .files) (change model t s ps rs ds es lay sz w .files)
   unfolding change resize last
   changed =
       let ok = proper .ok in
@@ -139,7 +139,8 @@ module _ (t : Tree) (proper : ProperTree t) (s : ℕ) (ps rs ds : List ℕ) (in-
       let w₁ : Work model = each (settle model t) (s ∷ t .children s) w in
       let w₂ : Work model = each (reserve model t s) rs w₁ in
       let wₚ : Work model = giveAll model t copied s ps w₂ in
-      let w₃ : Work model = giveAll model t handed s ds wₚ in
+      let wₕ : Work model = giveAll model t handed s ds wₚ in
+      let w₃ : Work model = giveAll model t extra s es wₕ in
       let w₄ : Work model = each (enter model t s lay) rs w₃ in
       let w₅ : Work model = each (dropPage model t s) ds w₄ in
       let e₂ : w₂ .files ≡ w₁ .files = reserve-files t s rs w₁ in
@@ -148,10 +149,12 @@ module _ (t : Tree) (proper : ProperTree t) (s : ℕ) (ps rs ds : List ℕ) (in-
       let no-virgin′ : (c : ℕ) → List·Memᴰ c (t .children s) → w₂ .files c .state ≡ virgin → ⊥ = λ c m. no-virgin c (List·Memᴰ·tail m) in
       let g : Going t ok s w₂ w₂ = record { served = served-refl (r₁ .ok′); pending = refl } in
       let gₚ : Going t ok s w₂ wₚ = giveAll-going t ok s w₂ no-virgin′ ps g in
-      let g₃ : AllHanded t ok s (proper .once s) (λ p. List·Memᴰ p ds) ds wₚ w₃ =
+      let gₕ : AllHanded t ok s (proper .once s) (λ p. List·Memᴰ p ds) ds wₚ wₕ =
       all-handed t ok s (proper .once s) (λ p. List·Memᴰ p ds) ds (λ p m. (low-d p m, m)) wₚ (gₚ .served .ok′) (λ c m v. no-virgin′ c m (gₚ .served .no-new-virgin c v)) in
-      let r₃ : Served t s (λ p. List·Memᴰ p ds) (w₂ .files) (w₃ .files) = served-then (served-any (gₚ .served)) (g₃ .served) in
+      let rₕ : Served t s (λ p. List·Memᴰ p ds) (w₂ .files) (wₕ .files) = served-then (served-any (gₚ .served)) (gₕ .served) in
+      let g₃ : Going t ok s wₕ w₃ = extra-going t ok s wₕ (λ c m v. no-virgin′ c m (rₕ .no-new-virgin c v)) es (record { served = served-refl (rₕ .ok′); pending = refl }) in
+      let r₃ : Served t s (λ p. List·Memᴰ p ds) (w₂ .files) (w₃ .files) = served-then rₕ (served-any (g₃ .served)) in
       let idle : (p : ℕ) → List·Memᴰ p ps ⊎ List·Memᴰ p ds → (c : ℕ) → List·Memᴰ c (t .children s) → needs (w₃ .files) c p ≡ false = λ p o c l.
-      ⊎-elim (λ m. g₃ .served .less c p (giveAll-done t ok s w₂ no-virgin′ ps g p m c l)) (λ m. g₃ .idle p m c l) o in
-      let pending : (p : ℕ) → List·Memᴰ p rs → IsPending (w₃ .pending p) = λ p m. rw (g₃ .pending ∙ gₚ .pending) (reserve-pending t s rs w₁ p m) in
+      g₃ .served .less c p (⊎-elim (λ m. gₕ .served .less c p (giveAll-done t ok s w₂ no-virgin′ ps g p m c l)) (λ m. gₕ .idle p m c l) o) in
+      let pending : (p : ℕ) → List·Memᴰ p rs → IsPending (w₃ .pending p) = λ p m. rw (g₃ .pending ∙ gₕ .pending ∙ gₚ .pending) (reserve-pending t s rs w₁ p m) in
       assembled t ok s ps rs ds in-r apart lay sz (w .files) (w₂ .files) (w₃ .files) (w₄ .files) (w₅ .files) a r₁ no-virgin r₃ idle (enter-all t s lay rs nd w₃ pending) (drop-all t s ds w₄)

@@ -119,16 +119,16 @@ unstored (stored v) i h = absurd (true≢false h)
 -- WHAT A TRUNCATE CHANGES, over the model
 module _ (t : Tree) (proper : ProperTree t) (s n : ℕ) (w : Work model) (k : FilesOk t (w .files)) (al : Alive (w .files) s) where
   -- above the size
-  pub filled-up : Changed t s [] [] (λ p x. x) (λ m. n) (w .files) (change model t s [] [] [] (λ p x. x) (λ m. n) w .files)
-  filled-up = changed t proper s [] [] [] (λ p m. m) (λ p m k. elim m [ ]) (λ p m. elim m [ ]) tt (λ p x. x) (λ m. n) w k al
+  pub filled-up : Changed t s [] [] (λ p x. x) (λ m. n) (w .files) (change model t s [] [] [] [] (λ p x. x) (λ m. n) w .files)
+  filled-up = changed t proper s [] [] [] [] (λ p m. m) (λ p m k. elim m [ ]) (λ p m. elim m [ ]) tt (λ p x. x) (λ m. n) w k al
 
   -- below the size z
   pub cut-off : (z : ℕ) → z ≤ 32768 → n < z → let e : Entry PageData = resolve t (w .files) s (n / 512) in
       Changed t s (keptPages n e) (droppedPages n z) (λ p. zeroFrom (n % 512)) (λ m. n)
-      (w .files) (change model t s (partPages n) (keptPages n e) (droppedPages n z) (λ p. zeroFrom (n % 512)) (λ m. n) w .files)
+      (w .files) (change model t s (partPages n) (keptPages n e) (droppedPages n z) [] (λ p. zeroFrom (n % 512)) (λ m. n) w .files)
   cut-off z most less =
       let e : Entry PageData = resolve t (w .files) s (n / 512) in
-      changed t proper s (partPages n) (keptPages n e) (droppedPages n z) (kept-part n e) (apart n z e) (λ p m. dropped-under n z p most less m) (kept-once n e)
+      changed t proper s (partPages n) (keptPages n e) (droppedPages n z) [] (kept-part n e) (apart n z e) (λ p m. dropped-under n z p most less m) (kept-once n e)
       (λ p. zeroFrom (n % 512)) (λ m. n) w k al
 
 -- a cut

@@ -82,10 +82,10 @@ module _ (m : Store model) (v : ModelFormed m) (B : ℕ) where
   accepted-formed (create s f) h =
       let a = passed-create now s f h in
       one-number m v f (a .file) _ _ (create-formed t tree-ok (m .files f) (v .files-ok f) s (a .set .used) (a .set .low) (a .gone))
-  accepted-formed (write s f off []) h = v
-  accepted-formed (write s f off (x ∷ bs)) h =
-      let a = passed-write now s f off (x ∷ bs) h in
-      one-number m v f (a .file) _ _ (write-formed t proper s (begin model m f) (v .files-ok f) (a .alive) off (x ∷ bs) (a .end-in))
+  accepted-formed (write g s f off []) h = v
+  accepted-formed (write g s f off (x ∷ bs)) h =
+      let a = passed-write now g s f off (x ∷ bs) h in
+      one-number m v f (a .file) _ _ (write-formed t proper s (begin model m f) (v .files-ok f) (a .alive) g off (x ∷ bs) (a .end-in))
   accepted-formed (read s f off buffer) h = v
   accepted-formed (truncate s f n) h =
       let a = passed-truncate now s f n h in

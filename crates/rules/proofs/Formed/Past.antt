@@ -14,13 +14,14 @@ use Rattle.rules.proofs.Agreement.Agree.{from-high, from-mem, touched-o
 use Rattle.rules.proofs.Agreement.Change.{Changed, changed}
 use Rattle.rules.proofs.Agreement.Delete.{deleted}
 use Rattle.rules.proofs.Storages.Model.{model}
+use Rattle.rules.proofs.Steps.Groups.{extra-under}
 use Rattle.rules.proofs.Steps.OneStep.{Alive}
 use Rattle.rules.proofs.Steps.States.{live-present}
 use Rattle.rules.proofs.Formed.Shape.{FilesFormed, Fit, fit-change, shape-delete, size-most}
 use Rattle.rules.proofs.Agreement.Truncate.{apart, dropped-under, kept-in, kept-once, kept-part, part-in}
 use Rattle.rules.proofs.Steps.WriterSteps.{NoDup, mem?}
 use Rattle.rules.specs.Reading.{resolve, sizeByReading}
-use Rattle.rules.specs.Rules.{Work, change, cutPages, deleteFile, droppedPages, keptPages, partPages, touched, truncateAs, truncateFile, writeFile}
+use Rattle.rules.specs.Rules.{Work, change, cutPages, deleteFile, droppedPages, extraPages, keptPages, partPages, touched, truncateAs, truncateFile, writeFile}
 use Rattle.rules.specs.State.{Entry, Files, Tree, isStored, live}
 use Rattle.rules.specs.Storage.{PageData, overlay, zeroFrom}
 use Rattle.rules.proofs.Steps.Handing.{ProperTree}
@@ -75,15 +76,15 @@ module _ (t : Tree) (proper : ProperTree t) (s : ℕ) (w : Work model) (k : File
     fit = record { shape = k .shape; here = live-present (w .files s .state) al }
 
     -- any change of the file in s
-    change-formed : (ps rs ds : List ℕ) (lay : ℕ → PageData → PageData) (sz : ℕ → ℕ) → ((p : ℕ) → List·Memᴰ p ps → p < 64) →
-        (in-r : (p : ℕ) → List·Memᴰ p rs → List·Memᴰ p ps) → ((p : ℕ) → List·Memᴰ p ds → List·Memᴰ p rs → ⊥) → ((p : ℕ) → List·Memᴰ p ds → p < 64) → NoDup rs → ((n : ℕ) → n ≤ 32768 → sz n ≤ 32768) →
+    change-formed : (ps rs ds es : List ℕ) (lay : ℕ → PageData → PageData) (sz : ℕ → ℕ) → ((p : ℕ) → List·Memᴰ p ps → p < 64) →
+        (in-r : (p : ℕ) → List·Memᴰ p rs → List·Memᴰ p ps) → ((p : ℕ) → List·Memᴰ p ds → List·Memᴰ p rs → ⊥) → ((p : ℕ) → List·Memᴰ p ds → p < 64) → ((p : ℕ) → List·Memᴰ p es → p < 64) → NoDup rs → ((n : ℕ) → n ≤ 32768 → sz n ≤ 32768) →
         ((p : ℕ) → p < 64 → (List·Memᴰ p ds → ⊥) → sz (sizeByReading t (w .files) s) ≤ p * 512 → (List·Memᴰ p rs → ⊥) × (sizeByReading t (w .files) s ≤ p * 512)) →
-        FilesFormed t (change model t s ps rs ds lay sz w .files)
-    change-formed ps rs ds lay sz under in-r away under-d nd most past =
-        let b : Files PageData = change model t s ps rs ds lay sz w .files in
-        let r : Changed t s rs ds lay sz (w .files) b = changed t proper s ps rs ds in-r away under-d nd lay sz w (k .ok) al in
+        FilesFormed t (change model t s ps rs ds es lay sz w .files)
+    change-formed ps rs ds es lay sz under in-r away under-d under-e nd most past =
+        let b : Files PageData = change model t s ps rs ds es lay sz w .files in
+        let r : Changed t s rs ds lay sz (w .files) b = changed t proper s ps rs ds es in-r away under-d nd lay sz w (k .ok) al in
         record {
-          shape = fit-change model t s proper ps rs ds lay sz under (λ p m. under p (in-r p m)) under-d most w fit .shape;
+          shape = fit-change model t s proper ps rs ds es lay sz under (λ p m. under p (in-r p m)) under-d under-e most w fit .shape;
           ok = r .ok′;
           past = past-one t t (w .files) b s k (λ x n. r .alive x) (r .page) (r .size)
               (λ p l h z. ⊎-elim
@@ -93,11 +94,11 @@ module _ (t : Tree) (proper : ProperTree t) (s : ℕ) (w : Work model) (k : File
         }
 
     -- WRITE
-    pub write-formed : (off : ℕ) (bs : List ℕ) → off + length bs ≤ 32768 → FilesFormed t (writeFile model t s off bs w .files)
+    pub write-formed : (g off : ℕ) (bs : List ℕ) → off + length bs ≤ 32768 → FilesFormed t (writeFile model t g s off bs w .files)
     unfolding writeFile
-    write-formed off bs l =
-        change-formed (touched off (length bs)) (touched off (length bs)) [] (overlay off bs) (λ n. max n (off + length bs))
-        (λ p m. let e = touched-end off (length bs) p m in omega arith) (λ p m. m) (λ p m o. elim m [ ]) (λ p m. elim m [ ]) (touched-once off (length bs)) (λ n h. omega arith)
+    write-formed g off bs l =
+        change-formed (touched off (length bs)) (touched off (length bs)) [] (extraPages g off (length bs)) (overlay off bs) (λ n. max n (off + length bs))
+        (λ p m. let e = touched-end off (length bs) p m in omega arith) (λ p m. m) (λ p m o. elim m [ ]) (λ p m. elim m [ ]) (λ p m. extra-under g off (length bs) p l m) (touched-once off (length bs)) (λ n h. omega arith)
         (λ p h o z. (λ m. let e = touched-end off (length bs) p m in omega arith, omega arith))
 
     -- TRUNCATE
@@ -112,15 +113,15 @@ module _ (t : Tree) (proper : ProperTree t) (s : ℕ) (w : Work model) (k : File
         go true c e h = k
         go false true e h =
             let d = ltb-true size n h in
-            change-formed [] [] [] (λ p v. v) (λ m. n) (λ p m. elim m [ ]) (λ p m. m) (λ p m o. elim m [ ]) (λ p m. elim m [ ]) tt (λ m h. l) (λ p h o z. (o, omega arith))
+            change-formed [] [] [] [] (λ p v. v) (λ m. n) (λ p m. elim m [ ]) (λ p m. m) (λ p m o. elim m [ ]) (λ p m. elim m [ ]) (λ p m. elim m [ ]) tt (λ m h. l) (λ p h o z. (o, omega arith))
         go false false e h =
             let d = ltb-false size n h in
             let n≢ = eqb-false n size e in
             let less : n < size = same? n size (λ q. absurd (n≢ q)) (λ q. omega arith) in
             let kept : Entry PageData = resolve t (w .files) s (n / 512) in
-            change-formed (partPages n) (keptPages n kept) (droppedPages n size) (λ p. zeroFrom (n % 512)) (λ m. n)
+            change-formed (partPages n) (keptPages n kept) (droppedPages n size) [] (λ p. zeroFrom (n % 512)) (λ m. n)
             (λ p m. let a = cut-end n size p less (part-in n size p m) in let b = size-most t (w .files) (k .shape) s in omega arith)
-            (kept-part n kept) (apart n size kept) (λ p m. dropped-under n size p (size-most t (w .files) (k .shape) s) less m) (kept-once n kept) (λ m h. l)
+            (kept-part n kept) (apart n size kept) (λ p m. dropped-under n size p (size-most t (w .files) (k .shape) s) less m) (λ p m. elim m [ ]) (kept-once n kept) (λ m h. l)
             (λ p h o z.
             let f : size ≤ p * 512 = test? (ltb (p * 512) size) (λ q. absurd (o (dropped-past n size p z (ltb-true (p * 512) size q)))) (λ q. ltb-false (p * 512) size q) in
             (λ m. let a = cut-end n size p less (kept-in n size kept p m) in omega arith, f))

@@ -1,6 +1,6 @@
 -- The rules on files as propositions, for the files of one number, over any storage.
 -- Every step of a write, a truncate and a delete keeps those of them that look at one file at a time. Assumes nothing.
-use mathlib.Core.Bool.{Bool, false, true, true≢false}
+use mathlib.Core.Bool.{Bool, cond, false, true, true≢false}
 use mathlib.Core.List.{List, List·Memᴰ, List·Memᴰ·head, List·Memᴰ·tail, [], _∷_}
 use mathlib.Core.Logic.{⊎-elim}
 use mathlib.Core.Option.{Option, none, some}
@@ -16,7 +16,7 @@ use Rattle.rules.proofs.Steps.Reached.{reached-by, reached-live, some-u
 use Rattle.rules.proofs.Steps.States.{live-present}
 use Rattle.rules.proofs.Steps.StepFour.{each-inv, needs-alive, needs-unmapped}
 use Rattle.rules.specs.Reading.{dependent, needs, reaches, resolve, shownSize, sizeByReading, walk}
-use Rattle.rules.specs.Rules.{Giving, Work, change, copied, copy, deleteAs, deleteFile, dropPage, each, enter, enterAs, eraseFile, from, give, giveAll, givePage, hand, handOver, handed, mark, markDown, markFile, pageOf, putEntry, reserve, reserveAs, resize, settle, settleAs, settleFile, supply, takeOwn}
+use Rattle.rules.specs.Rules.{Giving, Work, change, copied, copy, deleteAs, deleteFile, dropPage, each, enter, enterAs, eraseFile, extra, from, give, giveAll, givePage, hand, handOver, handed, mark, markDown, markFile, pageOf, putEntry, reserve, reserveAs, resize, settle, settleAs, settleFile, supply, takeOwn}
 use Rattle.rules.specs.State.{Entry, File, Files, State, Tree, absent, absentFile, hole, isAbsent, isStored, isUnmapped, live, marked, own, stored, unmapped, virgin}
 use Rattle.rules.specs.Storage.{Storage}
 use Rattle.rules.proofs.Steps.Handing.{ProperTree, some-leave, some-self}
@@ -172,25 +172,29 @@ module _ (S : Storage) (t : Tree) (s : ℕ) where
   abbrev FitW : Work S → Type 0
   FitW w = Fit t s (w .files)
 
-  fit-supply : (e : Entry (S .Block)) (p c : ℕ) (w : Work S) → p < 64 → FitW w → Alive (w .files) c → (c ≡ 0 → ⊥) → FitW (supply S t e c p w)
+  fit-supply : (must : Bool) (e : Entry (S .Block)) (p c : ℕ) (w : Work S) → p < 64 → FitW w → Alive (w .files) c → (c ≡ 0 → ⊥) → FitW (supply S t must e c p w)
   unfolding supply copy mark
-  fit-supply unmapped p c w l f a n = f
-  fit-supply hole p c w l f a n = fit-put t s (w .files) f c p hole l (live-present (w .files c .state) a) refl
-  fit-supply (stored b) p c w l f a n =
-      test? {P = FitW (supply S t (stored b) c p w)} (eqb (S .free (w .memory)) 0)
-      (λ z. rw (z, supply) (fit-mark t s (w .files) f c a n))
+  fit-supply must unmapped p c w l f a n = f
+  fit-supply must hole p c w l f a n = fit-put t s (w .files) f c p hole l (live-present (w .files c .state) a) refl
+  fit-supply must (stored b) p c w l f a n =
+      test? {P = FitW (supply S t must (stored b) c p w)} (eqb (S .free (w .memory)) 0)
+      (λ z. rw (z, supply) (full must))
       (λ z. rw (z, supply) (fit-put t s (w .files) f c p _ l (live-present (w .files c .state) a) refl))
+    where
+      full : (must : Bool) → FitW (cond must (mark S t c w) w)
+      full true = fit-mark t s (w .files) f c a n
+      full false = f
 
-  fit-give : (p c : ℕ) (w : Work S) → p < 64 → FitW w → FitW (give S t s p c w)
+  fit-give : (must : Bool) (p c : ℕ) (w : Work S) → p < 64 → FitW w → FitW (give S t must s p c w)
   unfolding give
-  fit-give p c w l f =
+  fit-give must p c w l f =
       test? (needs (w .files) c p)
       (λ n. let a = needs-alive (w .files) c p n in
-      rw n (fit-supply (resolve t (w .files) s p) p c w l f a (λ z. f .shape c .root-full z (live-present (w .files c .state) a) p l (needs-unmapped (w .files) c p n))))
+      rw n (fit-supply must (resolve t (w .files) s p) p c w l f a (λ z. f .shape c .root-full z (live-present (w .files c .state) a) p l (needs-unmapped (w .files) c p n))))
       (λ n. rw n f)
 
-  fit-some : (p : ℕ) → p < 64 → (cs : List ℕ) (w : Work S) → FitW w → FitW (each (give S t s p) cs w)
-  fit-some p l cs w f = each-inv (give S t s p) FitW cs (λ c u k i. fit-give p c u l i) w f
+  fit-some : (must : Bool) (p : ℕ) → p < 64 → (cs : List ℕ) (w : Work S) → FitW w → FitW (each (give S t must s p) cs w)
+  fit-some must p l cs w f = each-inv (give S t must s p) FitW cs (λ c u k i. fit-give must p c u l i) w f
 
   stored-mapped : (e : Entry (S .Block)) → isStored e ≡ true → isUnmapped e ≡ false
   stored-mapped unmapped h = absurd (true≢false (sym h))
@@ -211,16 +215,17 @@ module _ (S : Storage) (t : Tree) (s : ℕ) where
     fit-hand p l (c ∷ cs) kids nd w f h =
         let inside : (d : ℕ) → List·Memᴰ d cs → List·Memᴰ d (t .children s) = λ d m. kids d (List·Memᴰ·tail m) in
         test? (needs (w .files) c p)
-        (λ n. rw n (fit-over p c (each (give S t s p) cs w) l (fit-some p l cs w f)
-        (ap (λ (x : File (S .Block)). isAbsent (x .state)) (some-leave S t (proper .ok) s p cs inside w c (kids c (List·Memᴰ·head refl)) (nd .0)) ∙ live-present (w .files c .state) (needs-alive (w .files) c p n))
-        (ap (λ (x : File (S .Block)). isStored (x .map p)) (some-self S t (proper .ok) s p cs inside w) ∙ h)))
+        (λ n. rw n (fit-over p c (each (give S t true s p) cs w) l (fit-some true p l cs w f)
+        (ap (λ (x : File (S .Block)). isAbsent (x .state)) (some-leave S t (proper .ok) true s p cs inside w c (kids c (List·Memᴰ·head refl)) (nd .0)) ∙ live-present (w .files c .state) (needs-alive (w .files) c p n))
+        (ap (λ (x : File (S .Block)). isStored (x .map p)) (some-self S t (proper .ok) true s p cs inside w) ∙ h)))
         (λ n. rw n (fit-hand p l cs inside (nd .1) w f h))
 
     fit-page : (how : Giving) (p : ℕ) → p < 64 → (w : Work S) → FitW w → FitW (givePage S t how s p w)
     unfolding givePage
-    fit-page copied p l w f = fit-some p l (t .children s) w f
+    fit-page copied p l w f = fit-some true p l (t .children s) w f
+    fit-page extra p l w f = fit-some false p l (t .children s) w f
     fit-page handed p l w f =
-        test? (isStored (w .files s .map p)) (λ e. rw e (fit-hand p l (t .children s) (λ d m. m) (proper .once s) w f e)) (λ e. rw e (fit-some p l (t .children s) w f))
+        test? (isStored (w .files s .map p)) (λ e. rw e (fit-hand p l (t .children s) (λ d m. m) (proper .once s) w f e)) (λ e. rw e (fit-some true p l (t .children s) w f))
 
     fit-give-all : (how : Giving) (ps : List ℕ) → ((p : ℕ) → List·Memᴰ p ps → p < 64) → (w : Work S) → FitW w → FitW (giveAll S t how s ps w)
     unfolding giveAll
@@ -253,18 +258,18 @@ module _ (S : Storage) (t : Tree) (s : ℕ) where
   fit-drop p w l f = fit-put t s (w .files) f s p hole l (f .here) refl
 
   -- any change of one file
-  pub fit-change : ProperTree t → (ps rs ds : List ℕ) (lay : ℕ → S .Page → S .Page) (resized : ℕ → ℕ) → ((p : ℕ) → List·Memᴰ p ps → p < 64) → ((p : ℕ) → List·Memᴰ p rs → p < 64) →
-      ((p : ℕ) → List·Memᴰ p ds → p < 64) → ((n : ℕ) → n ≤ 32768 → resized n ≤ 32768) → (w : Work S) → FitW w → FitW (change S t s ps rs ds lay resized w)
+  pub fit-change : ProperTree t → (ps rs ds es : List ℕ) (lay : ℕ → S .Page → S .Page) (resized : ℕ → ℕ) → ((p : ℕ) → List·Memᴰ p ps → p < 64) → ((p : ℕ) → List·Memᴰ p rs → p < 64) →
+      ((p : ℕ) → List·Memᴰ p ds → p < 64) → ((p : ℕ) → List·Memᴰ p es → p < 64) → ((n : ℕ) → n ≤ 32768 → resized n ≤ 32768) → (w : Work S) → FitW w → FitW (change S t s ps rs ds es lay resized w)
   unfolding change resize
-  fit-change proper ps rs ds lay resized lp lr ld most w f =
+  fit-change proper ps rs ds es lay resized lp lr ld le most w f =
       let w₁ : Work S = each (settle S t) (s ∷ t .children s) w in
       let w₂ : Work S = each (reserve S t s) rs w₁ in
-      let w₃ : Work S = giveAll S t handed s ds (giveAll S t copied s ps w₂) in
+      let w₃ : Work S = giveAll S t extra s es (giveAll S t handed s ds (giveAll S t copied s ps w₂)) in
       let w₄ : Work S = each (enter S t s lay) rs w₃ in
       let w₅ : Work S = each (dropPage S t s) ds w₄ in
       let f₁ : FitW w₁ = fit-settle-each (s ∷ t .children s) w f in
       let f₂ : FitW w₂ = each-inv (reserve S t s) FitW rs (λ p v m g. fit-reserve p v g) w₁ f₁ in
-      let f₃ : FitW w₃ = fit-give-all proper handed ds ld _ (fit-give-all proper copied ps lp w₂ f₂) in
+      let f₃ : FitW w₃ = fit-give-all proper extra es le _ (fit-give-all proper handed ds ld _ (fit-give-all proper copied ps lp w₂ f₂)) in
       let f₄ : FitW w₄ = each-inv (enter S t s lay) FitW rs (λ p v m g. fit-enter lay p v (lr p m) g) w₃ f₃ in
       let f₅ : FitW w₅ = each-inv (dropPage S t s) FitW ds (λ p v m g. fit-drop p v (ld p m) g) w₄ f₄ in
       fit-resize t s (w₅ .files) f₅ (resized (w₅ .files s .size)) (most (w₅ .files s .size) (f₅ .shape s .most))

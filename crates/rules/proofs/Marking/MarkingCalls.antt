@@ -1,5 +1,5 @@
 -- When a file becomes marked in an accepted call: exactly at a turn of step 4 that is a needed copy which finds none free, and in a set that is made where it is marked in the parent.
--- Steps 2, 3 and 5 mark nothing, nor does any other call. Assumes nothing.
+-- Steps 2, 3 and 5 and the turns at extra pages mark nothing, nor does any other call. Assumes nothing.
 use mathlib.Core.Bool.{Bool, cond, false, not, true, true≢false}
 use mathlib.Core.List.{List, _∷_, []}
 use mathlib.Core.Logic.{inl, inr, _↔_, _⊎_, ⊎-elim}
@@ -14,11 +14,11 @@ use Rattle.base.specs.Update.{upd, upd-keeps, upd-other, upd-same}
 use Rattle.rules.proofs.Marking.MarkingRun.{run-marks}
 use Rattle.rules.proofs.Marking.MarkingSettled.{alike-back, marking-alike, settle-alike}
 use Rattle.rules.proofs.Steps.Handing.{ProperTree}
-use Rattle.rules.proofs.Tally.TallyWriter.{turns-state}
+use Rattle.rules.proofs.Tally.TallyWriter.{Quiet, extra-quiet, nothing-quiet, turns-state}
 use Rattle.rules.specs.Marking.{BecomesMarked, MarkingTurn, in-delete, in-make, in-truncate, in-write, ownTaken}
 use Rattle.rules.specs.Numbers.{Call, create, delete, format, make, read, refusal, remove, tellFree, tellSize, truncate, write}
 use Rattle.rules.specs.State.{State, Tree, absent, isMarked, isVirgin, live, marked, own, setCount, virgin}
-use Rattle.rules.specs.Tally.{Tally, TallyFile, TallyFiles, TallyResult, Turn, eachChild, holdsByte, partPage, tallyCall, tallyChild, tallyCut, tallyDelete, tallyFormat, tallyGrow, tallyLeaves, tallyRead, tallySettle, tallySize, tallyTold, tallyTruncate, tallyTruncateNeed, tallyTurns, tallyWrite, tallyWriteNeed, truncateTouches}
+use Rattle.rules.specs.Tally.{Tally, TallyFile, TallyFiles, TallyResult, Turn, eachChild, holdsByte, isExtra, partPage, tallyCall, tallyChild, tallyCut, tallyDelete, tallyFormat, tallyGrow, tallyLeaves, tallyRead, tallySettle, tallySize, tallyTold, tallyTruncate, tallyTruncateNeed, tallyTurns, tallyWrite, tallyWriteNeed, truncateTouches}
 
 -- STEP 2 marks nothing
 settle-mark : (t : Tree) (c : ℕ) (fs : TallyFiles) (y : ℕ) → isMarked (tallySettle t c fs y .state) ≡ isMarked (fs y .state)
@@ -53,11 +53,11 @@ module _ (ta : Tally) (f s taken : ℕ) (x : Turn) (z : TallyFile) (m : ℕ) whe
   unfolding tallyLeaves
   leaves-other g n = upd-other (ta .files) f _ g n
 
--- A CHANGING CALL: steps 2 to 5, where z is the file that step 5 leaves in set s
+-- A CHANGING CALL: steps 2 to 5, where the turns at extra pages are `last`, and z is the file that step 5 leaves in set s
 module _ (ta : Tally) (proper : ProperTree (ta .tree)) (shallow : (x : ℕ) → ta .tree .level x ≤ setCount)
-    (f s taken : ℕ) (cs : List ℕ) (touches hands : ℕ → Bool) (z : TallyFile) (m : ℕ) (fine : isMarked (z .state) ≡ false) where
+    (f s taken : ℕ) (cs : List ℕ) (touches hands : ℕ → Bool) (last : Turn → Turn) (quiet : Quiet last) (z : TallyFile) (m : ℕ) (fine : isMarked (z .state) ≡ false) where
   abbrev turns : Turn
-  turns = tallyTurns ta f s cs taken touches hands
+  turns = last (tallyTurns ta f s cs taken touches hands)
 
   abbrev after : TallyResult
   after = tallyLeaves ta f s taken turns z m
@@ -65,13 +65,16 @@ module _ (ta : Tally) (proper : ProperTree (ta .tree)) (shallow : (x : ℕ) → 
   turns-mark : (y : ℕ) → (isMarked (turns .files y .state) ≡ true) ↔ ((isMarked (ta .files f y .state) ≡ true) ⊎ MarkingTurn (ta .tree) s touches hands (turnsStart ta f cs taken) y)
   unfolding tallyTurns
   turns-mark y =
+      let q = ap isMarked (quiet .state (tallyTurns ta f s cs taken touches hands) y) in
       let r = run-marks (ta .tree) proper shallow s y touches hands (turnsStart ta f cs taken) in
       let e = settle-marks (ta .tree) cs (ta .files f) y in
-      (λ h. ⊎-elim (λ a. inl (sym e ∙ a)) inr (r .0 h), λ h. r .1 (⊎-elim (λ a. inl (e ∙ a)) inr h))
+      (λ h. ⊎-elim (λ a. inl (sym e ∙ a)) inr (r .0 (sym q ∙ h)), λ h. q ∙ r .1 (⊎-elim (λ a. inl (e ∙ a)) inr h))
 
   own-mark : isMarked (turns .files s .state) ≡ isMarked (ta .files f s .state)
   unfolding tallyTurns
-  own-mark = ap isMarked (turns-state (ta .tree) proper s touches hands (turnsStart ta f cs taken)) ∙ settle-marks (ta .tree) cs (ta .files f) s
+  own-mark =
+      ap isMarked (quiet .state (tallyTurns ta f s cs taken touches hands) s ∙ turns-state (ta .tree) proper s touches hands (turnsStart ta f cs taken))
+      ∙ settle-marks (ta .tree) cs (ta .files f) s
 
   -- STEP 5 marks nothing
   pub last-marks : (y : ℕ) → isMarked (ta .files f y .state) ≡ false → isMarked (after .tally .files f y .state) ≡ isMarked (turns .files y .state)
@@ -118,7 +121,7 @@ truncate-cases P ta s f n a b c =
 abbrev WhyMarked : Tally → Call → ℕ → ℕ → Type 0
 WhyMarked ta format g y = ⊥
 WhyMarked ta (create s f) g y = ⊥
-WhyMarked ta (write s f off bs) g y =
+WhyMarked ta (write k s f off bs) g y =
     (f ≡ g) × MarkingTurn (ta .tree) s (holdsByte off (length bs)) (λ p. false) (turnsStart ta f (s ∷ ta .tree .children s) (tallyWriteNeed (ta .files f) s off (length bs))) y
 WhyMarked ta (read s f off buffer) g y = ⊥
 WhyMarked ta (truncate s f n) g y =
@@ -142,7 +145,7 @@ module _ (ta : Tally) (f s : ℕ) (cs : List ℕ) (touches hands : ℕ → Bool)
 why-means : (ta : Tally) (c : Call) (g y : ℕ) → WhyMarked ta c g y → BecomesMarked ta c g y
 why-means ta format g y r = absurd r
 why-means ta (create s f) g y r = absurd r
-why-means ta (write s f off bs) g y r = subst (λ g. BecomesMarked ta (write s f off bs) g y) (r .0) (in-write s off bs refl (unsettled ta f s _ _ _ _ y (r .1)))
+why-means ta (write k s f off bs) g y r = subst (λ g. BecomesMarked ta (write k s f off bs) g y) (r .0) (in-write k s off bs refl (unsettled ta f s _ _ _ _ y (r .1)))
 why-means ta (read s f off buffer) g y r = absurd r
 why-means ta (truncate s f n) g y r = subst (λ g. BecomesMarked ta (truncate s f n) g y) (r .1 .0) (in-truncate s n refl (r .0) (unsettled ta f s _ _ _ _ y (r .1 .1)))
 why-means ta (delete s f) g y r =
@@ -155,7 +158,7 @@ why-means ta (tellSize s f) g y r = absurd r
 why-means ta tellFree g y r = absurd r
 
 means-why : (ta : Tally) (c : Call) (g y : ℕ) → BecomesMarked ta c g y → WhyMarked ta c g y
-means-why ta c g y (in-write s off bs e r) = subst (λ c. WhyMarked ta c g y) (sym e) (refl, settled ta g s _ _ _ _ y r)
+means-why ta c g y (in-write k s off bs e r) = subst (λ c. WhyMarked ta c g y) (sym e) (refl, settled ta g s _ _ _ _ y r)
 means-why ta c g y (in-truncate s n e l r) = subst (λ c. WhyMarked ta c g y) (sym e) (l, (refl, settled ta g s _ _ _ _ y r))
 means-why ta c g y (in-delete s e h r) =
     subst (λ c. WhyMarked ta c g y) (sym e)
@@ -188,25 +191,26 @@ module _ (ta : Tally) (proper : ProperTree (ta .tree)) (shallow : (x : ℕ) → 
   abbrev marksIn : Call → Type 0
   marksIn c = (isMarked (tallyCall blocks c ta .tally .files g y .state) ≡ true) ↔ WhyMarked ta c g y
 
-  write-marks : (s f off : ℕ) (bs : List ℕ) → marksIn (write s f off bs)
+  write-marks : (k s f off : ℕ) (bs : List ℕ) → marksIn (write k s f off bs)
   unfolding tallyCall tallyTold tallyWrite holdsByte
-  write-marks s f off [] = (λ a. absurd (true≢false (sym a ∙ h)), λ r. absurd (no-turn (ta .tree) s _ _ _ y (λ p. refl) (r .1)))
-  write-marks s f off (b ∷ bs) =
-      change-marks ta proper shallow f s _ (s ∷ ta .tree .children s) (holdsByte off (length (b ∷ bs))) (λ p. false) _ 0 refl g y h
+  write-marks k s f off [] = (λ a. absurd (true≢false (sym a ∙ h)), λ r. absurd (no-turn (ta .tree) s _ _ _ y (λ p. refl) (r .1)))
+  write-marks k s f off (b ∷ bs) =
+      change-marks ta proper shallow f s _ (s ∷ ta .tree .children s) (holdsByte off (length (b ∷ bs))) (λ p. false)
+      _ (extra-quiet (ta .tree) s (isExtra k off (length (b ∷ bs)))) _ 0 refl g y h
 
   truncate-marks : (s f n : ℕ) → marksIn (truncate s f n)
   unfolding tallyCall tallyGrow tallyCut
   truncate-marks s f n =
       truncate-cases (λ r. (isMarked (r .tally .files g y .state) ≡ true) ↔ WhyMarked ta (truncate s f n) g y) ta s f n
       (λ e. (λ a. absurd (true≢false (sym a ∙ h)), λ b. let l = b .0 in absurd (omega arith)))
-      (λ e. let r = change-marks ta proper shallow f s 0 (s ∷ ta .tree .children s) (λ p. false) (λ p. false) _ 0 refl g y h in
+      (λ e. let r = change-marks ta proper shallow f s 0 (s ∷ ta .tree .children s) (λ p. false) (λ p. false) _ nothing-quiet _ 0 refl g y h in
       (λ a. absurd (no-turn (ta .tree) s _ _ _ y (λ p. refl) (r .0 a .1)), λ b. let l = b .0 in absurd (omega arith)))
-      (λ e. let r = change-marks ta proper shallow f s _ (s ∷ ta .tree .children s) (truncateTouches n (tallySize (ta .tree) (ta .files f) s)) (λ p. not (partPage n p)) _ _ refl g y h in
+      (λ e. let r = change-marks ta proper shallow f s _ (s ∷ ta .tree .children s) (truncateTouches n (tallySize (ta .tree) (ta .files f) s)) (λ p. not (partPage n p)) _ nothing-quiet _ _ refl g y h in
       (λ a. (e, r .0 a), λ b. r .1 (b .1)))
 
   delete-marks : (s f : ℕ) → marksIn (delete s f)
   unfolding tallyCall tallyDelete
-  delete-marks s f = change-marks ta proper shallow f s 0 _ _ (λ p. true) _ _ refl g y h
+  delete-marks s f = change-marks ta proper shallow f s 0 _ _ (λ p. true) _ nothing-quiet _ _ refl g y h
 
   make-marks : (s c : ℕ) (w : Bool) → marksIn (make s c w)
   unfolding tallyCall tallyTold
@@ -229,7 +233,7 @@ module _ (ta : Tally) (proper : ProperTree (ta .tree)) (shallow : (x : ℕ) → 
   unfolding tallyCall tallyRead tallyTold tallyFormat
   why-marked format = never _ refl
   why-marked (create s f) = create-marks s f
-  why-marked (write s f off bs) = write-marks s f off bs
+  why-marked (write k s f off bs) = write-marks k s f off bs
   why-marked (read s f off buffer) = never _ h
   why-marked (truncate s f n) = truncate-marks s f n
   why-marked (delete s f) = delete-marks s f

@@ -2,7 +2,7 @@
 use mathlib.Core.Bool.{_&&_, Bool, cond, false, not, true, true≢false, _||_}
 use mathlib.Core.List.{List, _∷_, []}
 use mathlib.Core.Logic.{inl}
-use mathlib.Core.Path.{_∙_, _≡_, ap, refl, sym}
+use mathlib.Core.Path.{_∙_, _≡_, ap, ap₂, refl, sym}
 use Prim.Native.Nat.{_+_, suc, zero, ℕ, _≤_}
 use native.Mathlib.Nat.{add-zero, zero-add}
 use native.Mathlib.Omega.{arith}
@@ -15,11 +15,11 @@ use Rattle.rules.proofs.Marking.MarkingCalls.{last-marks, settle-marks,
 use Rattle.rules.proofs.Marking.MarkingRun.{run-marks}
 use Rattle.rules.proofs.Steps.Handing.{ProperTree}
 use Rattle.rules.proofs.Steps.States.{live-unmarked}
-use Rattle.rules.proofs.Tally.TallyWriter.{over-state, turns-inv}
+use Rattle.rules.proofs.Tally.TallyWriter.{Quiet, extra-quiet, nothing-quiet, over-state, turns-inv}
 use Rattle.rules.specs.Marking.{MarkedDown, mark-below, mark-itself}
 use Rattle.rules.specs.Numbers.{delete, truncate, write}
 use Rattle.rules.specs.State.{Tree, hole, isMarked, isStored, isUnmapped, live, setCount, stored, unmapped}
-use Rattle.rules.specs.Tally.{Kind, Tally, TallyFile, TallyFiles, Turn, childPage, childTurn, holdsByte, kindAt, markedWith, neededCopy, partPage, takenOver, tallyCall, tallyCut, tallyDelete, tallyGive, tallyGrow, tallyLeaves, tallySize, tallyTold, tallyTurns, tallyWrite, truncateTouches}
+use Rattle.rules.specs.Tally.{Kind, Tally, TallyFile, TallyFiles, Turn, childPage, childTurn, holdsByte, isExtra, kindAt, markedWith, neededCopy, partPage, takenOver, tallyCall, tallyCut, tallyDelete, tallyGive, tallyGrow, tallyLeaves, tallySize, tallyTold, tallyTurns, tallyWrite, truncateTouches}
 
 -- numbers that pass one test or another, none both; and those that pass the one and not the other
 count-or : (n : ℕ) (f g : ℕ → Bool) → ((y : ℕ) → f y ≡ true → g y ≡ true → ⊥) → count n (λ y. f y || g y) ≡ count n f + count n g
@@ -109,31 +109,33 @@ unfolding tallyLeaves
 leaves-third ta f s taken x z m = refl
 
 module _ (ta : Tally) (proper : ProperTree (ta .tree)) (shallow : (x : ℕ) → ta .tree .level x ≤ setCount) where
-  change-newly : (f s taken : ℕ) (cs : List ℕ) (touches hands : ℕ → Bool) (z : TallyFile) (m : ℕ) → isMarked (z .state) ≡ false →
-      let r = tallyLeaves ta f s taken (tallyTurns ta f s cs taken touches hands) z m in r .answer .third ≡ newlyMarked (ta .files f) (r .tally .files f)
+  change-newly : (f s taken : ℕ) (cs : List ℕ) (touches hands : ℕ → Bool) (last : Turn → Turn) → Quiet last → (z : TallyFile) (m : ℕ) → isMarked (z .state) ≡ false →
+      let r = tallyLeaves ta f s taken (last (tallyTurns ta f s cs taken touches hands)) z m in r .answer .third ≡ newlyMarked (ta .files f) (r .tally .files f)
   unfolding tallyTurns
-  change-newly f s taken cs touches hands z m fine =
-      let x : Turn = tallyTurns ta f s cs taken touches hands in
-      leaves-third ta f s taken x z m ∙ run-newly (ta .tree) proper shallow s touches hands (turnsStart ta f cs taken) ∙ zero-add _
+  change-newly f s taken cs touches hands last quiet z m fine =
+      let v : Turn = tallyTurns ta f s cs taken touches hands in
+      let x : Turn = last v in
+      leaves-third ta f s taken x z m ∙ quiet .marks v ∙ run-newly (ta .tree) proper shallow s touches hands (turnsStart ta f cs taken) ∙ zero-add _
       ∙ count-same setCount (λ y. isMarked (tallyLeaves ta f s taken x z m .tally .files f y .state) && not (isMarked (ta .files f y .state)))
-      (λ y. isMarked (x .files y .state) && not (isMarked (turnsStart ta f cs taken .files y .state)))
-      (λ y l. ap (λ b. isMarked (x .files y .state) && not b) (settle-marks (ta .tree) cs (ta .files f) y)
-      ∙ new-same _ _ (isMarked (ta .files f y .state)) (λ e. sym (last-marks ta proper shallow f s taken cs touches hands z m fine y e)))
+      (λ y. isMarked (v .files y .state) && not (isMarked (turnsStart ta f cs taken .files y .state)))
+      (λ y l. ap₂ (λ a b. isMarked a && not b) (sym (quiet .state v y)) (settle-marks (ta .tree) cs (ta .files f) y)
+      ∙ new-same _ _ (isMarked (ta .files f y .state)) (λ e. sym (last-marks ta proper shallow f s taken cs touches hands last quiet z m fine y e)))
 
   -- the third count of an accepted write, truncate, delete
-  pub write-newly : (blocks s f off : ℕ) (bs : List ℕ) → let r = tallyCall blocks (write s f off bs) ta in r .answer .third ≡ newlyMarked (ta .files f) (r .tally .files f)
+  pub write-newly : (blocks k s f off : ℕ) (bs : List ℕ) → let r = tallyCall blocks (write k s f off bs) ta in r .answer .third ≡ newlyMarked (ta .files f) (r .tally .files f)
   unfolding tallyCall tallyTold tallyWrite
-  write-newly blocks s f off [] = sym (newly-none (ta .files f))
-  write-newly blocks s f off (b ∷ bs) = change-newly f s _ (s ∷ ta .tree .children s) (holdsByte off (length (b ∷ bs))) (λ p. false) _ 0 refl
+  write-newly blocks k s f off [] = sym (newly-none (ta .files f))
+  write-newly blocks k s f off (b ∷ bs) =
+      change-newly f s _ (s ∷ ta .tree .children s) (holdsByte off (length (b ∷ bs))) (λ p. false) _ (extra-quiet (ta .tree) s (isExtra k off (length (b ∷ bs)))) _ 0 refl
 
   pub truncate-newly : (blocks s f n : ℕ) → let r = tallyCall blocks (truncate s f n) ta in r .answer .third ≡ newlyMarked (ta .files f) (r .tally .files f)
   unfolding tallyCall tallyGrow tallyCut
   truncate-newly blocks s f n =
       truncate-cases (λ r. r .answer .third ≡ newlyMarked (ta .files f) (r .tally .files f)) ta s f n
       (λ e. sym (newly-none (ta .files f)))
-      (λ e. change-newly f s 0 (s ∷ ta .tree .children s) (λ p. false) (λ p. false) _ 0 refl)
-      (λ e. change-newly f s _ (s ∷ ta .tree .children s) (truncateTouches n (tallySize (ta .tree) (ta .files f) s)) (λ p. not (partPage n p)) _ _ refl)
+      (λ e. change-newly f s 0 (s ∷ ta .tree .children s) (λ p. false) (λ p. false) _ nothing-quiet _ 0 refl)
+      (λ e. change-newly f s _ (s ∷ ta .tree .children s) (truncateTouches n (tallySize (ta .tree) (ta .files f) s)) (λ p. not (partPage n p)) _ nothing-quiet _ _ refl)
 
   pub delete-newly : (blocks s f : ℕ) → let r = tallyCall blocks (delete s f) ta in r .answer .third ≡ newlyMarked (ta .files f) (r .tally .files f)
   unfolding tallyCall tallyDelete
-  delete-newly blocks s f = change-newly f s 0 _ _ (λ p. true) _ _ refl
+  delete-newly blocks s f = change-newly f s 0 _ _ (λ p. true) _ nothing-quiet _ _ refl

@@ -1,5 +1,5 @@
 -- A page handed over, over the model: the first child that needs it takes the file's own entry, when the others have theirs. Assumes nothing.
-use mathlib.Core.Bool.{_&&_, false, true}
+use mathlib.Core.Bool.{_&&_, Bool, cond, false, true}
 use mathlib.Core.List.{List, List·Memᴰ, List·Memᴰ·cases-cons, List·Memᴰ·head, List·Memᴰ·tail, _∷_, []}
 use mathlib.Core.Logic.{⊎-elim}
 use mathlib.Core.Path.{_≡_, ap, refl, subst, sym, _∙_}
@@ -37,38 +37,42 @@ not-reached t ok files d (suc n) x e l =
 
 -- A CHILD'S TURN leaves a file that is not reached from it
 module _ (S : Storage) (t : Tree) (s d x : ℕ) (apart : d ≡ x → ⊥) (missed : (files : Files (S .Block)) → reaches t files d x ≡ false) where
-  give-leaves : (p : ℕ) (w : Work S) → give S t s p d w .files x ≡ w .files x
+  give-leaves : (must : Bool) (p : ℕ) (w : Work S) → give S t must s p d w .files x ≡ w .files x
   unfolding give supply mark copy
-  give-leaves p w = test? (needs (w .files) d p) (λ n. rw n (go (resolve t (w .files) s p))) (λ n. rw n)
+  give-leaves must p w = test? (needs (w .files) d p) (λ n. rw n (go (resolve t (w .files) s p))) (λ n. rw n)
     where
-      go : (e : Entry (S .Block)) → supply S t e d p w .files x ≡ w .files x
+      full : (must : Bool) → cond must (mark S t d w) w .files x ≡ w .files x
+      full true = marked-by t (w .files) d x false (missed (w .files))
+      full false = refl
+
+      go : (e : Entry (S .Block)) → supply S t must e d p w .files x ≡ w .files x
       go unmapped = refl
       go hole = putEntry-other (w .files) d p hole x apart
-      go (stored b) = test? (eqb (S .free (w .memory)) 0) (λ z. rw z (marked-by t (w .files) d x false (missed (w .files)))) (λ z. rw z (putEntry-other (w .files) d p _ x apart))
+      go (stored b) = test? (eqb (S .free (w .memory)) 0) (λ z. rw z (full must)) (λ z. rw z (putEntry-other (w .files) d p _ x apart))
 
 module _ (S : Storage) (t : Tree) (ok : TreeOk t) (s : ℕ) where
   -- a sibling, and the file of the set above
-  give-sibling : (c d : ℕ) → List·Memᴰ c (t .children s) → List·Memᴰ d (t .children s) → (d ≡ c → ⊥) → (p : ℕ) (w : Work S) → give S t s p d w .files c ≡ w .files c
+  give-sibling : (c d : ℕ) → List·Memᴰ c (t .children s) → List·Memᴰ d (t .children s) → (d ≡ c → ⊥) → (must : Bool) (p : ℕ) (w : Work S) → give S t must s p d w .files c ≡ w .files c
   unfolding reaches dependsOn
   give-sibling c d kc kd apart =
       give-leaves S t s d c apart
       (λ files. let m = ok .kid-lvl s d kd in
       rw (ok .kid-lvl s c kc, ok .kid-par s c kc, ne-eqb d c apart, not-reached t ok files d (t .level s) s refl (omega arith)) (and-false (dependent (files c))))
 
-  give-parent : (d : ℕ) → List·Memᴰ d (t .children s) → (p : ℕ) (w : Work S) → give S t s p d w .files s ≡ w .files s
+  give-parent : (d : ℕ) → List·Memᴰ d (t .children s) → (must : Bool) (p : ℕ) (w : Work S) → give S t must s p d w .files s ≡ w .files s
   unfolding reaches
   give-parent d kd =
       give-leaves S t s d s (λ q. not-itself t ok s d kd (sym q))
       (λ files. not-reached t ok files d (t .level s) s refl (omega (arith, ok .kid-lvl s d kd)))
 
 -- the turns of some of the children
-module _ (S : Storage) (t : Tree) (ok : TreeOk t) (s p : ℕ) (cs : List ℕ) (kids : (d : ℕ) → List·Memᴰ d cs → List·Memᴰ d (t .children s)) (w : Work S) where
-  pub some-leave : (c : ℕ) → List·Memᴰ c (t .children s) → (List·Memᴰ c cs → ⊥) → each (give S t s p) cs w .files c ≡ w .files c
+module _ (S : Storage) (t : Tree) (ok : TreeOk t) (must : Bool) (s p : ℕ) (cs : List ℕ) (kids : (d : ℕ) → List·Memᴰ d cs → List·Memᴰ d (t .children s)) (w : Work S) where
+  pub some-leave : (c : ℕ) → List·Memᴰ c (t .children s) → (List·Memᴰ c cs → ⊥) → each (give S t must s p) cs w .files c ≡ w .files c
   some-leave c m out =
-      each-inv (give S t s p) (λ v. v .files c ≡ w .files c) cs (λ d v l i. give-sibling S t ok s c d m (kids d l) (λ q. out (subst (λ y. List·Memᴰ y cs) q l)) p v ∙ i) w refl
+      each-inv (give S t must s p) (λ v. v .files c ≡ w .files c) cs (λ d v l i. give-sibling S t ok s c d m (kids d l) (λ q. out (subst (λ y. List·Memᴰ y cs) q l)) must p v ∙ i) w refl
 
-  pub some-self : each (give S t s p) cs w .files s ≡ w .files s
-  some-self = each-inv (give S t s p) (λ v. v .files s ≡ w .files s) cs (λ d v l i. give-parent S t ok s d (kids d l) p v ∙ i) w refl
+  pub some-self : each (give S t must s p) cs w .files s ≡ w .files s
+  some-self = each-inv (give S t must s p) (λ v. v .files s ≡ w .files s) cs (λ d v l i. give-parent S t ok s d (kids d l) must p v ∙ i) w refl
 
 module _ {K : Type 0} where
   -- WHAT THE OTHERS SEE where pages of H have left the map of set s: nothing
@@ -171,12 +175,12 @@ module _ (t : Tree) (ok : TreeOk t) (s : ℕ) (once : NoDup (t .children s)) (H 
 
       -- the first child that needs it
       first-takes : (c : ℕ) (cs : List ℕ) → List·Memᴰ c (t .children s) → ((d : ℕ) → List·Memᴰ d cs → List·Memᴰ d (t .children s)) → (List·Memᴰ c cs → ⊥) → needs (w .files) c p ≡ true →
-          ((d : ℕ) → List·Memᴰ d (t .children s) → (List·Memᴰ d (c ∷ cs) → ⊥) → needs (w .files) d p ≡ false) → PageHanded p w (handOver model t s p c (each (give model t s p) cs w))
+          ((d : ℕ) → List·Memᴰ d (t .children s) → (List·Memᴰ d (c ∷ cs) → ⊥) → needs (w .files) d p ≡ false) → PageHanded p w (handOver model t s p c (each (give model t true s p) cs w))
       unfolding handOver needs
       first-takes c cs m kids out n rest =
-          let u : Work model = each (give model t s p) cs w in
-          let g : Going t ok s w u = some-going t ok s w nv p cs kids w start in
-          let e : u .files c ≡ w .files c = some-leave model t ok s p cs kids w c m out in
+          let u : Work model = each (give model t true s p) cs w in
+          let g : Going t ok s w u = some-going t ok s w nv true p cs kids w start in
+          let e : u .files c ≡ w .files c = some-leave model t ok true s p cs kids w c m out in
           let here : u .files s .map p ≡ stored b = ap (λ (x : File PageData). x .map p) (g .served .self) ∙ has in
           let n₁ : needs (u .files) c p ≡ true = ap (λ (x : File PageData). live (x .state) && isUnmapped (x .map p)) e ∙ n in
           let r₁ : ChildServed t s (u .files) (putEntry (u .files) c p (stored b)) =
@@ -210,7 +214,7 @@ module _ (t : Tree) (ok : TreeOk t) (s : ℕ) (once : NoDup (t .children s)) (H 
         test? (isStored (w .files s .map p))
         (λ e. let h = stored-is (w .files s .map p) e in rw e (hand-served w k nv (h .0) (h .1) (t .children s) (λ d m. m) once (λ d l o. absurd (o l))))
         (λ e. let i : Going t ok s w w = record { served = served-refl k; pending = refl } in
-        let g = page-going t ok s w nv p w i in
+        let g = page-going t ok s w nv true p w i in
         rw e (record { served = served-any (g .served); idle = page-done t ok s w nv p w i; pending = g .pending }))
 
   -- ALL OF THE PAGES

@@ -15,7 +15,7 @@ use Rattle.rules.proofs.Steps.StepFour.{each-all, each-inv}
 use Rattle.rules.proofs.Agreement.Truncate.{apart}
 use Rattle.rules.proofs.Steps.WriterSteps.{NoDup, mem?}
 use Rattle.rules.specs.Reading.{needs, resolve, sizeByReading}
-use Rattle.rules.specs.Rules.{Giving, Work, change, copied, copy, deleteAs, deleteFile, dropPage, droppedPages, each, enter, enterAs, eraseFile, freeEntry, freeMap, from, give, giveAll, givePage, hand, handOver, handed, keptPages, mark, partPages, putEntry, reserve, reserveAs, resize, settle, supply, takeOwn, touched, truncateAs, truncateFile, withFiles, writeFile}
+use Rattle.rules.specs.Rules.{Giving, Work, change, copied, copy, deleteAs, deleteFile, dropPage, droppedPages, each, enter, enterAs, eraseFile, extra, extraPages, freeEntry, freeMap, from, give, giveAll, givePage, hand, handOver, handed, keptPages, mark, partPages, putEntry, reserve, reserveAs, resize, settle, supply, takeOwn, touched, truncateAs, truncateFile, withFiles, writeFile}
 use Rattle.rules.specs.State.{Entry, File, Tree, absentFile, hole, isAbsent, isStored, live, own, stored, unmapped}
 use Rattle.rules.specs.Storage.{Storage}
 
@@ -36,32 +36,34 @@ module _ (S : Storage) (t : Tree) (s : ℕ) where
   unfolding settle
   settle-pending cs w = each-inv (settle S t) (λ v. v .pending ≡ w .pending) cs (λ c v m i. i) w refl
 
-  give-one-pending : (p c : ℕ) (w : Work S) → give S t s p c w .pending ≡ w .pending
+  give-one-pending : (must : Bool) (p c : ℕ) (w : Work S) → give S t must s p c w .pending ≡ w .pending
   unfolding give supply copy mark
-  give-one-pending p c w = go (needs (w .files) c p) (resolve t (w .files) s p)
+  give-one-pending must p c w = go (needs (w .files) c p) (resolve t (w .files) s p)
     where
-      go₂ : (b : Bool) (k : S .Block) → cond b (mark S t c w) (copy S t k c p w) .pending ≡ w .pending
-      go₂ true k = refl
-      go₂ false k = refl
+      go₂ : (b m : Bool) (k : S .Block) → cond b (cond m (mark S t c w) w) (copy S t k c p w) .pending ≡ w .pending
+      go₂ true true k = refl
+      go₂ true false k = refl
+      go₂ false m k = refl
 
-      go : (b : Bool) (e : Entry (S .Block)) → cond b (supply S t e c p w) w .pending ≡ w .pending
+      go : (b : Bool) (e : Entry (S .Block)) → cond b (supply S t must e c p w) w .pending ≡ w .pending
       go false e = refl
       go true unmapped = refl
       go true hole = refl
-      go true (stored k) = go₂ (eqb (S .free (w .memory)) 0) k
+      go true (stored k) = go₂ (eqb (S .free (w .memory)) 0) must k
 
-  pub some-pending : (p : ℕ) (cs : List ℕ) (w : Work S) → each (give S t s p) cs w .pending ≡ w .pending
-  some-pending p cs w = each-inv (give S t s p) (λ u. u .pending ≡ w .pending) cs (λ c u m j. give-one-pending p c u ∙ j) w refl
+  pub some-pending : (must : Bool) (p : ℕ) (cs : List ℕ) (w : Work S) → each (give S t must s p) cs w .pending ≡ w .pending
+  some-pending must p cs w = each-inv (give S t must s p) (λ u. u .pending ≡ w .pending) cs (λ c u m j. give-one-pending must p c u ∙ j) w refl
 
   hand-pending : (p : ℕ) (cs : List ℕ) (w : Work S) → hand S t s p cs w .pending ≡ w .pending
   unfolding hand handOver
   hand-pending p [] w = refl
-  hand-pending p (c ∷ cs) w = test? (needs (w .files) c p) (λ e. rw e (some-pending p cs w)) (λ e. rw e (hand-pending p cs w))
+  hand-pending p (c ∷ cs) w = test? (needs (w .files) c p) (λ e. rw e (some-pending true p cs w)) (λ e. rw e (hand-pending p cs w))
 
   pub page-pending : (how : Giving) (p : ℕ) (w : Work S) → givePage S t how s p w .pending ≡ w .pending
   unfolding givePage
-  page-pending copied p w = some-pending p (t .children s) w
-  page-pending handed p w = test? (isStored (w .files s .map p)) (λ e. rw e (hand-pending p (t .children s) w)) (λ e. rw e (some-pending p (t .children s) w))
+  page-pending copied p w = some-pending true p (t .children s) w
+  page-pending handed p w = test? (isStored (w .files s .map p)) (λ e. rw e (hand-pending p (t .children s) w)) (λ e. rw e (some-pending true p (t .children s) w))
+  page-pending extra p w = some-pending false p (t .children s) w
 
   pub give-pending : (how : Giving) (ps : List ℕ) (w : Work S) → giveAll S t how s ps w .pending ≡ w .pending
   unfolding giveAll
@@ -172,18 +174,18 @@ module _ (S : Storage) (t : Tree) (s : ℕ) where
       }
 
   -- FINISHED, after a change and after erasing
-  change-finished : (ps rs ds : List ℕ) → ((p : ℕ) → List·Memᴰ p ds → List·Memᴰ p rs → ⊥) → (lay : ℕ → S .Page → S .Page) (sz : ℕ → ℕ) (w : Work S) →
-      ((p : ℕ) → isStored (w .pending p) ≡ false) → Finished S s (change S t s ps rs ds lay sz w)
+  change-finished : (ps rs ds es : List ℕ) → ((p : ℕ) → List·Memᴰ p ds → List·Memᴰ p rs → ⊥) → (lay : ℕ → S .Page → S .Page) (sz : ℕ → ℕ) (w : Work S) →
+      ((p : ℕ) → isStored (w .pending p) ≡ false) → Finished S s (change S t s ps rs ds es lay sz w)
   unfolding change resize
-  change-finished ps rs ds away lay sz w empty =
+  change-finished ps rs ds es away lay sz w empty =
       let w₁ : Work S = each (settle S t) (s ∷ t .children s) w in
       let w₂ : Work S = each (reserve S t s) rs w₁ in
-      let w₃ : Work S = giveAll S t handed s ds (giveAll S t copied s ps w₂) in
+      let w₃ : Work S = giveAll S t extra s es (giveAll S t handed s ds (giveAll S t copied s ps w₂)) in
       let w₄ : Work S = each (enter S t s lay) rs w₃ in
       let w₅ : Work S = each (dropPage S t s) ds w₄ in
       let last = upd-same (w₅ .files) s (record { state = own; size = sz (w₅ .files s .size); map = w₅ .files s .map }) in
       let late : w₅ .pending ≡ w₃ .pending = drops ds w₄ .pending ∙ enter-pending lay rs w₃ in
-      let early : w₃ .pending ≡ w₂ .pending = give-pending handed ds (giveAll S t copied s ps w₂) ∙ give-pending copied ps w₂ in
+      let early : w₃ .pending ≡ w₂ .pending = give-pending extra es (giveAll S t handed s ds (giveAll S t copied s ps w₂)) ∙ give-pending handed ds (giveAll S t copied s ps w₂) ∙ give-pending copied ps w₂ in
       record {
         entered = λ p h.
             let h₃ : isStored (w₃ .pending p) ≡ true = ap (λ (g : ℕ → Entry (S .Block)). isStored (g p)) (sym late) ∙ h in
@@ -204,9 +206,9 @@ module _ (S : Storage) (t : Tree) (s : ℕ) where
 
   -- FINISHED, after each call on a file
   module _ (w : Work S) (empty : (p : ℕ) → isStored (w .pending p) ≡ false) where
-    pub write-finished : (off : ℕ) (bs : List ℕ) → Finished S s (writeFile S t s off bs w)
+    pub write-finished : (g off : ℕ) (bs : List ℕ) → Finished S s (writeFile S t g s off bs w)
     unfolding writeFile
-    write-finished off bs = change-finished (touched off (length bs)) (touched off (length bs)) [] (λ p m k. elim m [ ]) (S .over off bs) (λ n. max n (off + length bs)) w empty
+    write-finished g off bs = change-finished (touched off (length bs)) (touched off (length bs)) [] (extraPages g off (length bs)) (λ p m k. elim m [ ]) (S .over off bs) (λ n. max n (off + length bs)) w empty
 
     pub truncate-finished : (n : ℕ) → Finished S s w → Finished S s (truncateFile S t s n w)
     unfolding truncateFile truncateAs
@@ -220,8 +222,8 @@ module _ (S : Storage) (t : Tree) (s : ℕ) where
 
         go : (x y : Bool) → Finished S s (truncateAs S t x y s n z w)
         go true y = i
-        go false true = change-finished [] [] [] (λ p m k. elim m [ ]) (λ p v. v) (λ m. n) w empty
-        go false false = change-finished (partPages n) (keptPages n e) (droppedPages n z) (apart n z e) (λ p. S .cut (n % 512)) (λ m. n) w empty
+        go false true = change-finished [] [] [] [] (λ p m k. elim m [ ]) (λ p v. v) (λ m. n) w empty
+        go false false = change-finished (partPages n) (keptPages n e) (droppedPages n z) [] (apart n z e) (λ p. S .cut (n % 512)) (λ m. n) w empty
 
     pub delete-finished : Finished S s (deleteFile S t s w)
     unfolding deleteFile deleteAs

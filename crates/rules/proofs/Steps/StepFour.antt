@@ -1,6 +1,6 @@
 -- One turn of step 4 (a page, a child), over the model, where an entry holds its bytes; and the loops. Assumes nothing.
-use mathlib.Core.Bool.{_&&_, Bool, false, true}
-use mathlib.Core.List.{List, List·Memᴰ, List·Memᴰ·head, List·Memᴰ·tail, _∷_, []}
+use mathlib.Core.Bool.{_&&_, Bool, cond, false, true, true≢false}
+use mathlib.Core.List.{_++_, List, List·Memᴰ, List·Memᴰ·head, List·Memᴰ·tail, _∷_, []}
 use mathlib.Core.Option.{some}
 use mathlib.Core.Path.{_≡_, ap, refl, subst, subst₂, sym, _∙_}
 use Prim.Native.Nat.{_<_, suc, zero, ℕ}
@@ -13,9 +13,15 @@ use Rattle.rules.proofs.Steps.OneStep.{Alive, FilesOk, Keep, TreeOk, fi
 use Rattle.rules.proofs.Steps.Reached.{mark-same, marked-by, reaches-self}
 use Rattle.rules.proofs.Steps.States.{unmapped-is}
 use Rattle.rules.specs.Reading.{dependent, dependsOn, needs, reaches, resolve, shownEntry}
-use Rattle.rules.specs.Rules.{Work, copy, each, give, giveAll, givePage, copied, mark, markDown, markFile, putEntry, supply}
+use Rattle.rules.specs.Rules.{Work, copied, copy, each, extra, give, giveAll, givePage, mark, markDown, markFile, putEntry, supply}
 use Rattle.rules.specs.State.{Entry, File, Files, Tree, hole, isUnmapped, live, stored, unmapped, virgin}
 use Rattle.rules.specs.Storage.{PageData}
+
+-- one list after another
+pub each-append : {A W : Type 0} (f : A → W → W) (xs ys : List A) (w : W) → each f (xs ++ ys) w ≡ each f ys (each f xs w)
+unfolding each
+each-append f [] ys w = refl
+each-append f (x ∷ xs) ys w = each-append f xs ys (f x w)
 
 -- loops
 module _ {A W : Type 0} (f : A → W → W) where
@@ -146,38 +152,42 @@ module _ {K : Type 0} where
 
 -- one turn of step 4 over the model
 module _ (t : Tree) (ok : TreeOk t) (s : ℕ) where
-  give-yes : (p c : ℕ) (w : Work model) → needs (w .files) c p ≡ true → give model t s p c w ≡ supply model t (resolve t (w .files) s p) c p w
+  give-yes : (must : Bool) (p c : ℕ) (w : Work model) → needs (w .files) c p ≡ true → give model t must s p c w ≡ supply model t must (resolve t (w .files) s p) c p w
   unfolding give
-  give-yes p c w h = rw h
+  give-yes must p c w h = rw h
 
-  give-no : (p c : ℕ) (w : Work model) → needs (w .files) c p ≡ false → give model t s p c w ≡ w
+  give-no : (must : Bool) (p c : ℕ) (w : Work model) → needs (w .files) c p ≡ false → give model t must s p c w ≡ w
   unfolding give
-  give-no p c w h = rw h
+  give-no must p c w h = rw h
 
-  pub record Turn (p c : ℕ) (w v : Work model) : Type 0 where
+  pub record Turn (must : Bool) (p c : ℕ) (w v : Work model) : Type 0 where
     pub served : ChildServed t s (w .files) (v .files)
-    pub done : needs (v .files) c p ≡ false
+    pub done : must ≡ true → needs (v .files) c p ≡ false
     pub pending : v .pending ≡ w .pending
 
   module _ (p c : ℕ) (w : Work model) (kid : List·Memᴰ c (t .children s)) (k : FilesOk t (w .files)) (nv : w .files c .state ≡ virgin → ⊥) where
-    supply-turn : (e : Entry PageData) → needs (w .files) c p ≡ true → resolve t (w .files) s p ≡ e → Turn p c w (supply model t e c p w)
+    supply-turn : (must : Bool) (e : Entry PageData) → needs (w .files) c p ≡ true → resolve t (w .files) s p ≡ e → Turn must p c w (supply model t must e c p w)
     unfolding supply copy mark
-    supply-turn unmapped n r = let z : _≡_ {A = ℕ} 0 1 = cc (resolve-shown t (w .files) s p) in absurd (omega arith)
-    supply-turn hole n r = record {
+    supply-turn must unmapped n r = let z : _≡_ {A = ℕ} 0 1 = cc (resolve-shown t (w .files) s p) in absurd (omega arith)
+    supply-turn must hole n r = record {
       served = fill-served t ok s (w .files) k c kid p hole nv n r;
-      done = fill-done t ok s (w .files) k c kid p hole refl;
+      done = λ _. fill-done t ok s (w .files) k c kid p hole refl;
       pending = refl;
     }
-    supply-turn (stored b) n r =
-        test? {P = Turn p c w (supply model t (stored b) c p w)} (eqb (w .memory) 0)
-        (λ z. rw (z, supply) (record { served = mark-served t ok s (w .files) k c kid (needs-alive (w .files) c p n); done = mark-done t ok s (w .files) k c kid p; pending = refl }))
-        (λ z. rw (z, supply) (record { served = fill-served t ok s (w .files) k c kid p (stored b) nv n r; done = fill-done t ok s (w .files) k c kid p (stored b) refl; pending = refl }))
+    supply-turn must (stored b) n r =
+        test? {P = Turn must p c w (supply model t must (stored b) c p w)} (eqb (w .memory) 0)
+        (λ z. rw (z, supply) (full must))
+        (λ z. rw (z, supply) (record { served = fill-served t ok s (w .files) k c kid p (stored b) nv n r; done = λ _. fill-done t ok s (w .files) k c kid p (stored b) refl; pending = refl }))
+      where
+        full : (must : Bool) → Turn must p c w (cond must (mark model t c w) w)
+        full true = record { served = mark-served t ok s (w .files) k c kid (needs-alive (w .files) c p n); done = λ _. mark-done t ok s (w .files) k c kid p; pending = refl }
+        full false = record { served = served-refl k; done = λ e. absurd (true≢false (sym e)); pending = refl }
 
-    pub give-turn : Turn p c w (give model t s p c w)
-    give-turn =
+    pub give-turn : (must : Bool) → Turn must p c w (give model t must s p c w)
+    give-turn must =
         test? (needs (w .files) c p)
-        (λ n. rw (give-yes p c w n) (supply-turn (resolve t (w .files) s p) n refl))
-        (λ n. rw (give-no p c w n) (record { served = served-refl k; done = n; pending = refl }))
+        (λ n. rw (give-yes must p c w n) (supply-turn must (resolve t (w .files) s p) n refl))
+        (λ n. rw (give-no must p c w n) (record { served = served-refl k; done = λ _. n; pending = refl }))
 
   -- all of step 4
   pub record Going (w v : Work model) : Type 0 where
@@ -185,38 +195,43 @@ module _ (t : Tree) (ok : TreeOk t) (s : ℕ) where
     pub pending : v .pending ≡ w .pending
 
   module _ (w : Work model) (no-virgin : (c : ℕ) → List·Memᴰ c (t .children s) → w .files c .state ≡ virgin → ⊥) where
-    turn : (p c : ℕ) (v : Work model) → List·Memᴰ c (t .children s) → Going w v → Turn p c v (give model t s p c v)
-    turn p c v m g = give-turn p c v m (g .served .ok′) (λ h. no-virgin c m (g .served .no-new-virgin c h))
+    turn : (must : Bool) (p c : ℕ) (v : Work model) → List·Memᴰ c (t .children s) → Going w v → Turn must p c v (give model t must s p c v)
+    turn must p c v m g = give-turn p c v m (g .served .ok′) (λ h. no-virgin c m (g .served .no-new-virgin c h)) must
 
-    going : (p c : ℕ) (v : Work model) → List·Memᴰ c (t .children s) → Going w v → Going w (give model t s p c v)
-    going p c v m g = record { served = served-trans (g .served) (turn p c v m g .served); pending = turn p c v m g .pending ∙ g .pending }
+    going : (must : Bool) (p c : ℕ) (v : Work model) → List·Memᴰ c (t .children s) → Going w v → Going w (give model t must s p c v)
+    going must p c v m g = record { served = served-trans (g .served) (turn must p c v m g .served); pending = turn must p c v m g .pending ∙ g .pending }
 
     -- some of the children, then all
-    pub some-going : (p : ℕ) (cs : List ℕ) → ((c : ℕ) → List·Memᴰ c cs → List·Memᴰ c (t .children s)) → (v : Work model) → Going w v → Going w (each (give model t s p) cs v)
-    some-going p cs kids v g = each-inv (give model t s p) (Going w) cs (λ c u m. going p c u (kids c m)) v g
+    pub some-going : (must : Bool) (p : ℕ) (cs : List ℕ) → ((c : ℕ) → List·Memᴰ c cs → List·Memᴰ c (t .children s)) → (v : Work model) → Going w v → Going w (each (give model t must s p) cs v)
+    some-going must p cs kids v g = each-inv (give model t must s p) (Going w) cs (λ c u m. going must p c u (kids c m)) v g
 
-    pub some-done : (p : ℕ) (cs : List ℕ) → ((c : ℕ) → List·Memᴰ c cs → List·Memᴰ c (t .children s)) → (v : Work model) → Going w v → (c : ℕ) → List·Memᴰ c cs → needs (each (give model t s p) cs v .files) c p ≡ false
+    pub some-done : (p : ℕ) (cs : List ℕ) → ((c : ℕ) → List·Memᴰ c cs → List·Memᴰ c (t .children s)) → (v : Work model) → Going w v → (c : ℕ) → List·Memᴰ c cs → needs (each (give model t true s p) cs v .files) c p ≡ false
     some-done p cs kids v g =
-        each-all (give model t s p) (Going w) (λ c u. needs (u .files) c p ≡ false) cs
-        (λ c u m. going p c u (kids c m)) (λ c u m g. turn p c u (kids c m) g .done) (λ c c′ u m g h. turn p c′ u (kids c′ m) g .served .less c p h) v g
+        each-all (give model t true s p) (Going w) (λ c u. needs (u .files) c p ≡ false) cs
+        (λ c u m. going true p c u (kids c m)) (λ c u m g. turn true p c u (kids c m) g .done refl) (λ c c′ u m g h. turn true p c′ u (kids c′ m) g .served .less c p h) v g
 
-    pub page-going : (p : ℕ) (v : Work model) → Going w v → Going w (each (give model t s p) (t .children s) v)
-    page-going p v g = some-going p (t .children s) (λ c m. m) v g
+    pub page-going : (must : Bool) (p : ℕ) (v : Work model) → Going w v → Going w (each (give model t must s p) (t .children s) v)
+    page-going must p v g = some-going must p (t .children s) (λ c m. m) v g
 
-    pub page-done : (p : ℕ) (v : Work model) → Going w v → (c : ℕ) → List·Memᴰ c (t .children s) → needs (each (give model t s p) (t .children s) v .files) c p ≡ false
+    pub page-done : (p : ℕ) (v : Work model) → Going w v → (c : ℕ) → List·Memᴰ c (t .children s) → needs (each (give model t true s p) (t .children s) v .files) c p ≡ false
     page-done p v g = some-done p (t .children s) (λ c m. m) v g
 
-    page-less : (p q c : ℕ) (v : Work model) → Going w v → needs (v .files) c q ≡ false → needs (each (give model t s p) (t .children s) v .files) c q ≡ false
+    page-less : (p q c : ℕ) (v : Work model) → Going w v → needs (v .files) c q ≡ false → needs (each (give model t true s p) (t .children s) v .files) c q ≡ false
     page-less p q c v g h =
-        each-inv (give model t s p) (λ u. Going w u × (needs (u .files) c q ≡ false)) (t .children s)
-        (λ c′ u m i. (going p c′ u m (i .0), turn p c′ u m (i .0) .served .less c q (i .1))) v (g, h) .1
+        each-inv (give model t true s p) (λ u. Going w u × (needs (u .files) c q ≡ false)) (t .children s)
+        (λ c′ u m i. (going true p c′ u m (i .0), turn true p c′ u m (i .0) .served .less c q (i .1))) v (g, h) .1
 
     pub giveAll-going : (ps : List ℕ) → Going w w → Going w (giveAll model t copied s ps w)
     unfolding giveAll givePage
-    giveAll-going ps g = each-inv _ (Going w) ps (λ p v m. page-going p v) w g
+    giveAll-going ps g = each-inv _ (Going w) ps (λ p v m. page-going true p v) w g
+
+    -- the extra pages
+    pub extra-going : (es : List ℕ) → Going w w → Going w (giveAll model t extra s es w)
+    unfolding giveAll givePage
+    extra-going es g = each-inv _ (Going w) es (λ p v m. page-going false p v) w g
 
     pub giveAll-done : (ps : List ℕ) → Going w w → (p : ℕ) → List·Memᴰ p ps → (c : ℕ) → List·Memᴰ c (t .children s) → needs (giveAll model t copied s ps w .files) c p ≡ false
     unfolding giveAll givePage
     giveAll-done ps g =
         each-all _ (Going w) (λ p v. (c : ℕ) → List·Memᴰ c (t .children s) → needs (v .files) c p ≡ false) ps
-        (λ p v m. page-going p v) (λ p v m. page-done p v) (λ p q v m g h c k. page-less q p c v g (h c k)) w g
+        (λ p v m. page-going true p v) (λ p v m. page-done p v) (λ p q v m g h c k. page-less q p c v g (h c k)) w g

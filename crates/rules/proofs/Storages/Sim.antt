@@ -1,5 +1,5 @@
 -- One storage stands for another: what must hold of single operations, and then each step of the rules keeps them together. Assumes nothing.
-use mathlib.Core.Bool.{false, true, true≢false}
+use mathlib.Core.Bool.{Bool, cond, false, true, true≢false}
 use mathlib.Core.List.{List}
 use mathlib.Core.Path.{ap, ap₂, fun-ext, refl, subst₂, sym, _∙_, _≡_}
 use Prim.Native.Nat.{_-_, _<_, suc, ℕ}
@@ -178,21 +178,25 @@ module _ {S S′ : Storage} {T : Translation S S′} {D : Demands S} {t : Tree} 
       marks = r .marks;
     }
 
-    rel-supply : (e : Entry (S .Block)) (c p : ℕ) → needs (w .files) c p ≡ true → D .Kid c → resolve t (w .files) s p ≡ e →
-        Rel T D (supply S t e c p w) (supply S′ t (mapEntry (T .block (w .memory)) e) c p v)
+    rel-supply : (must : Bool) (e : Entry (S .Block)) (c p : ℕ) → needs (w .files) c p ≡ true → D .Kid c → resolve t (w .files) s p ≡ e →
+        Rel T D (supply S t must e c p w) (supply S′ t must (mapEntry (T .block (w .memory)) e) c p v)
     unfolding supply
-    rel-supply unmapped c p n k e = r
-    rel-supply hole c p n k e = rel-hole c p n
-    rel-supply (stored b) c p n k e =
+    rel-supply must unmapped c p n k e = r
+    rel-supply must hole c p n k e = rel-hole c p n
+    rel-supply must (stored b) c p n k e =
         test? (eqb (S .free (w .memory)) 0)
-        (λ z. rw (rel-free, z, supply) (rel-mark c p n k))
+        (λ z. rw (rel-free, z, supply) (full must))
         (λ z. rw (rel-free, z, supply) (rel-copy b c p (positive (S .free (w .memory)) z) n k e))
+      where
+        full : (must : Bool) → Rel T D (cond must (mark S t c w) w) (cond must (mark S′ t c v) v)
+        full true = rel-mark c p n k
+        full false = r
 
-    pub rel-give : (p c : ℕ) → D .Kid c → Rel T D (give S t s p c w) (give S′ t s p c v)
+    pub rel-give : (must : Bool) (p c : ℕ) → D .Kid c → Rel T D (give S t must s p c w) (give S′ t must s p c v)
     unfolding give
-    rel-give p c k =
+    rel-give must p c k =
         test? (needs (w .files) c p)
-        (λ n. rw (rel-needs c p, n, rel-res s p) (rel-supply (resolve t (w .files) s p) c p n k refl))
+        (λ n. rw (rel-needs c p, n, rel-res s p) (rel-supply must (resolve t (w .files) s p) c p n k refl))
         (λ n. rw (rel-needs c p, n) r)
 
     pub rel-own : (p : ℕ) → isStored (v .files s .map p) ≡ isStored (w .files s .map p)

@@ -17,12 +17,11 @@ use Rattle.rules.proofs.Steps.StepFour.{each-inv}
 use Rattle.rules.proofs.Agreement.Truncate.{apart, kept-in, kept-once}
 use Rattle.rules.proofs.Steps.WriterSteps.{NoDup}
 use Rattle.rules.specs.Reading.{needs, resolve, sizeByReading}
-use Rattle.rules.specs.Rules.{Giving, Work, change, copied, countIn, cutPages, deleteAs, deleteFile, dropPage, droppedPages, each, enter, eraseFile, from, give, giveAll, givePage, hand, handed, keptPages, ownNeed, partPages, reserve, reserveAs, settle, takeOwn, touched, truncateAs, truncateFile, truncateNeed, writeFile}
+use Rattle.rules.specs.Rules.{Giving, Work, change, copied, countIn, cutPages, deleteAs, deleteFile, dropPage, droppedPages, each, enter, eraseFile, extra, extraPages, from, give, giveAll, givePage, hand, handed, keptPages, ownNeed, partPages, reserve, reserveAs, settle, takeOwn, touched, truncateAs, truncateFile, truncateNeed, writeFile}
 use Rattle.rules.specs.State.{Entry, File, Files, Tree, hole, isStored, isUnmapped, live, stored, unmapped}
 use Rattle.rules.specs.Storage.{Storage}
 use Rattle.rules.proofs.Steps.Handing.{some-leave, some-self}
 use Rattle.rules.proofs.Steps.OneStep.{TreeOk}
-use mathlib.Core.Logic.{_⊎_, inl, inr, ⊎-elim}
 
 none-needed : (S : Storage) (s : ℕ) (files : Files (S .Block)) (n : ℕ) → ownNeed S s [] files ≤ n
 unfolding ownNeed countIn
@@ -49,8 +48,11 @@ needs-as : {K : Type 0} (files files′ : Files K) (c p : ℕ) → files′ c �
 unfolding needs
 needs-as {K} files files′ c p e = ap (λ (x : File K). live (x .state) && isUnmapped (x .map p)) e
 
-not-copied : _≡_ {A = Giving} handed copied → ⊥
-not-copied e = let z : _≡_ {A = ℕ} 0 1 = cc in omega arith
+copied-handed : _≡_ {A = Giving} copied handed → ⊥
+copied-handed e = let z : _≡_ {A = ℕ} 0 1 = cc in omega arith
+
+extra-handed : _≡_ {A = Giving} extra handed → ⊥
+extra-handed e = let z : _≡_ {A = ℕ} 0 1 = cc in omega arith
 
 module _ {S S′ : Storage} {T : Translation S S′} {D : Demands S} {t : Tree} {s : ℕ} (M : Sim S S′ T D t s) where
   rel-each : {A : Type 0} (f : A → Work S → Work S) (f′ : A → Work S′ → Work S′) (xs : List A) → ((x : A) (w : Work S) (v : Work S′) → List·Memᴰ x xs → Rel T D w v → Rel T D (f x w) (f′ x v)) →
@@ -115,8 +117,8 @@ module _ {S S′ : Storage} {T : Translation S S′} {D : Demands S} {t : Tree} 
 
   module _ (ok : TreeOk t) (once : NoDup (t .children s)) (kids : (c : ℕ) → List·Memᴰ c (t .children s) → D .Kid c) where
     -- STEP 4
-    rel-some : (p : ℕ) (cs : List ℕ) → ((c : ℕ) → List·Memᴰ c cs → List·Memᴰ c (t .children s)) → (w : Work S) (v : Work S′) → Rel T D w v → Rel T D (each (give S t s p) cs w) (each (give S′ t s p) cs v)
-    rel-some p cs in-kids = rel-each (give S t s p) (give S′ t s p) cs (λ c w v m r. rel-give M r p c (kids c (in-kids c m)))
+    rel-some : (must : Bool) (p : ℕ) (cs : List ℕ) → ((c : ℕ) → List·Memᴰ c cs → List·Memᴰ c (t .children s)) → (w : Work S) (v : Work S′) → Rel T D w v → Rel T D (each (give S t must s p) cs w) (each (give S′ t must s p) cs v)
+    rel-some must p cs in-kids = rel-each (give S t must s p) (give S′ t must s p) cs (λ c w v m r. rel-give M r must p c (kids c (in-kids c m)))
 
     rel-handed : (p : ℕ) (cs : List ℕ) → ((c : ℕ) → List·Memᴰ c cs → List·Memᴰ c (t .children s)) → NoDup cs → (w : Work S) (v : Work S′) → Rel T D w v → isStored (w .files s .map p) ≡ true → isStored (w .pending p) ≡ false →
         Rel T D (hand S t s p cs w) (hand S′ t s p cs v)
@@ -127,55 +129,58 @@ module _ {S S′ : Storage} {T : Translation S S′} {D : Demands S} {t : Tree} 
         let inside : (d : ℕ) → List·Memᴰ d cs → List·Memᴰ d (t .children s) = λ d l. in-kids d (List·Memᴰ·tail l) in
         test? (needs (w .files) c p)
         (λ n. rw (rel-needs M r c p, n)
-        (rel-hand M (rel-some p cs inside w v r) p c (kids c m)
-        (needs-as (w .files) (each (give S t s p) cs w .files) c p (some-leave S t ok s p cs inside w c m (nd .0)) ∙ n)
-        (ap (λ (x : File (S .Block)). isStored (x .map p)) (some-self S t ok s p cs inside w) ∙ h)
-        (ap (λ (g : ℕ → Entry (S .Block)). isStored (g p)) (some-pending S t s p cs w) ∙ o)))
+        (rel-hand M (rel-some true p cs inside w v r) p c (kids c m)
+        (needs-as (w .files) (each (give S t true s p) cs w .files) c p (some-leave S t ok true s p cs inside w c m (nd .0)) ∙ n)
+        (ap (λ (x : File (S .Block)). isStored (x .map p)) (some-self S t ok true s p cs inside w) ∙ h)
+        (ap (λ (g : ℕ → Entry (S .Block)). isStored (g p)) (some-pending S t s true p cs w) ∙ o)))
         (λ n. rw (rel-needs M r c p, n) (rel-handed p cs inside (nd .1) w v r h o))
 
-    rel-page : (how : Giving) (p : ℕ) (w : Work S) (v : Work S′) → Rel T D w v → isStored (w .pending p) ≡ false ⊎ (how ≡ copied) → Rel T D (givePage S t how s p w) (givePage S′ t how s p v)
+    rel-page : (how : Giving) (p : ℕ) (w : Work S) (v : Work S′) → Rel T D w v → (how ≡ handed → isStored (w .pending p) ≡ false) → Rel T D (givePage S t how s p w) (givePage S′ t how s p v)
     unfolding givePage
-    rel-page copied p w v r o = rel-some p (t .children s) (λ c m. m) w v r
+    rel-page copied p w v r o = rel-some true p (t .children s) (λ c m. m) w v r
+    rel-page extra p w v r o = rel-some false p (t .children s) (λ c m. m) w v r
     rel-page handed p w v r o =
         test? (isStored (w .files s .map p))
-        (λ e. rw (rel-own M r p, e) (rel-handed p (t .children s) (λ c m. m) once w v r e (⊎-elim (λ o. o) (λ q. absurd (not-copied q)) o)))
-        (λ e. rw (rel-own M r p, e) (rel-some p (t .children s) (λ c m. m) w v r))
+        (λ e. rw (rel-own M r p, e) (rel-handed p (t .children s) (λ c m. m) once w v r e (o refl)))
+        (λ e. rw (rel-own M r p, e) (rel-some true p (t .children s) (λ c m. m) w v r))
 
-    rel-gives : (how : Giving) (ps : List ℕ) (w : Work S) (v : Work S′) → Rel T D w v → ((p : ℕ) → List·Memᴰ p ps → isStored (w .pending p) ≡ false ⊎ (how ≡ copied)) → Rel T D (giveAll S t how s ps w) (giveAll S′ t how s ps v)
+    rel-gives : (how : Giving) (ps : List ℕ) (w : Work S) (v : Work S′) → Rel T D w v → ((p : ℕ) → List·Memᴰ p ps → how ≡ handed → isStored (w .pending p) ≡ false) → Rel T D (giveAll S t how s ps w) (giveAll S′ t how s ps v)
     unfolding giveAll each
     rel-gives how [] w v r o = r
     rel-gives how (p ∷ ps) w v r o =
         rel-gives how ps (givePage S t how s p w) (givePage S′ t how s p v) (rel-page how p w v r (o p (List·Memᴰ·head refl)))
-        (λ q m. ⊎-elim (λ z. inl (ap (λ (g : ℕ → Entry (S .Block)). isStored (g q)) (page-pending S t s how p w) ∙ z)) inr (o q (List·Memᴰ·tail m)))
+        (λ q m e. ap (λ (g : ℕ → Entry (S .Block)). isStored (g q)) (page-pending S t s how p w) ∙ o q (List·Memᴰ·tail m) e)
 
     -- ANY CHANGE
-    rel-change : (ps rs ds : List ℕ) → NoDup rs → ((p : ℕ) → List·Memᴰ p rs → p < 64) → ((p : ℕ) → List·Memᴰ p ds → List·Memᴰ p rs → ⊥) →
+    rel-change : (ps rs ds es : List ℕ) → NoDup rs → ((p : ℕ) → List·Memᴰ p rs → p < 64) → ((p : ℕ) → List·Memᴰ p ds → List·Memᴰ p rs → ⊥) →
         (lay : ℕ → S .Page → S .Page) (lay′ : ℕ → S′ .Page → S′ .Page) → ((p : ℕ) (x : S .Page) → lay′ p (T .page x) ≡ T .page (lay p x)) → ((p : ℕ) (x : S .Page) → D .Whole x → D .Whole (lay p x)) →
         (sz : ℕ → ℕ) (w : Work S) (v : Work S′) → Rel T D w v → ((p : ℕ) → isStored (w .pending p) ≡ false) → ownNeed S s rs (w .files) ≤ S .free (w .memory) →
-        Rel T D (change S t s ps rs ds lay sz w) (change S′ t s ps rs ds lay′ sz v)
+        Rel T D (change S t s ps rs ds es lay sz w) (change S′ t s ps rs ds es lay′ sz v)
     unfolding change
-    rel-change ps rs ds once low away lay lay′ h o sz w v r empty l =
+    rel-change ps rs ds es once low away lay lay′ h o sz w v r empty l =
         let w₁ : Work S = each (settle S t) (s ∷ t .children s) w in
         let w₂ : Work S = each (reserve S t s) rs w₁ in
-        let w₃ : Work S = giveAll S t handed s ds (giveAll S t copied s ps w₂) in
+        let wₕ : Work S = giveAll S t handed s ds (giveAll S t copied s ps w₂) in
+        let w₃ : Work S = giveAll S t extra s es wₕ in
         let none₁ : (p : ℕ) → isStored (w₁ .pending p) ≡ false = λ p. ap (λ (g : ℕ → Entry (S .Block)). isStored (g p)) (settle-pending S t s (s ∷ t .children s) w) ∙ empty p in
         let r₁ = rel-settles (s ∷ t .children s) w v r in
         let r₂ = rel-reserves rs once _ _ r₁ (λ p m. none₁ p) (settle-need rs w l) in
         let none₂ : (p : ℕ) → List·Memᴰ p ds → isStored (w₂ .pending p) ≡ false = λ p m. ap isStored (reserves-other S t s rs w₁ p (away p m)) ∙ none₁ p in
         let none₃ : (p : ℕ) → List·Memᴰ p ds → isStored (giveAll S t copied s ps w₂ .pending p) ≡ false = λ p m. ap (λ (g : ℕ → Entry (S .Block)). isStored (g p)) (give-pending S t s copied ps w₂) ∙ none₂ p m in
-        let r₃ = rel-gives handed ds _ _ (rel-gives copied ps _ _ r₂ (λ p m. inr refl)) (λ p m. inl (none₃ p m)) in
+        let rₕ = rel-gives handed ds _ _ (rel-gives copied ps _ _ r₂ (λ p m e. absurd (copied-handed e))) (λ p m e. none₃ p m) in
+        let r₃ = rel-gives extra es _ _ rₕ (λ p m e. absurd (extra-handed e)) in
         let r₄ = rel-each (enter S t s lay) (enter S′ t s lay′) rs (λ p w v m r. rel-enter M r lay lay′ h o p (low p m)) _ _ r₃ in
         let r₅ = rel-drops ds _ _ r₄ (λ p m.
-        ap (λ (g : ℕ → Entry (S .Block)). isStored (g p)) (enter-pending S t s lay rs w₃ ∙ give-pending S t s handed ds (giveAll S t copied s ps w₂)) ∙ none₃ p m) in
+        ap (λ (g : ℕ → Entry (S .Block)). isStored (g p)) (enter-pending S t s lay rs w₃ ∙ give-pending S t s extra es wₕ ∙ give-pending S t s handed ds (giveAll S t copied s ps w₂)) ∙ none₃ p m) in
         rel-resize M r₅ _ _ (ap sz (ap (λ (y : Files (S′ .Block)). y s .size) (r₅ .files)))
 
     module _ (w : Work S) (v : Work S′) (r : Rel T D w v) (empty : (p : ℕ) → isStored (w .pending p) ≡ false) where
       -- WRITE
-      pub rel-write : (off : ℕ) (bs : List ℕ) → off + length bs ≤ 32768 → ownNeed S s (touched off (length bs)) (w .files) ≤ S .free (w .memory) →
-          Rel T D (writeFile S t s off bs w) (writeFile S′ t s off bs v)
+      pub rel-write : (g off : ℕ) (bs : List ℕ) → off + length bs ≤ 32768 → ownNeed S s (touched off (length bs)) (w .files) ≤ S .free (w .memory) →
+          Rel T D (writeFile S t g s off bs w) (writeFile S′ t g s off bs v)
       unfolding writeFile
-      rel-write off bs low l =
-          rel-change (touched off (length bs)) (touched off (length bs)) [] (touched-once off (length bs)) (touched-low off (length bs) low) (λ p m k. elim m [ ])
+      rel-write g off bs low l =
+          rel-change (touched off (length bs)) (touched off (length bs)) [] (extraPages g off (length bs)) (touched-once off (length bs)) (touched-low off (length bs) low) (λ p m k. elim m [ ])
           (S .over off bs) (S′ .over off bs) (M .over off bs) (M .whole-over off bs) (λ n. max n (off + length bs)) w v r empty l
 
       -- TRUNCATE
@@ -184,11 +189,11 @@ module _ {S S′ : Storage} {T : Translation S S′} {D : Demands S} {t : Tree} 
       unfolding truncateAs
       rel-cut n z true y low l = r
       rel-cut n z false true low l =
-          rel-change [] [] [] tt (λ p m. elim m [ ]) (λ p m k. elim m [ ]) (λ p x. x) (λ p x. x) (λ p x. refl) (λ p x o. o) (λ m. n) w v r empty (none-needed S s (w .files) (S .free (w .memory)))
+          rel-change [] [] [] [] tt (λ p m. elim m [ ]) (λ p m k. elim m [ ]) (λ p x. x) (λ p x. x) (λ p x. refl) (λ p x o. o) (λ m. n) w v r empty (none-needed S s (w .files) (S .free (w .memory)))
       rel-cut n z false false low l =
           let e = resolve t (w .files) s (n / 512) in
           rw (kept-same n (resolve t (v .files) s (n / 512)) e (ap isStored (rel-res M r s (n / 512)) ∙ map-stored (T .block (w .memory)) e))
-          (rel-change (partPages n) (keptPages n e) (droppedPages n z) (kept-once n e) (kept-low n e low) (apart n z e)
+          (rel-change (partPages n) (keptPages n e) (droppedPages n z) [] (kept-once n e) (kept-low n e low) (apart n z e)
           (λ p. S .cut (n % 512)) (λ p. S′ .cut (n % 512)) (λ p x. M .cut (n % 512) x) (λ p x. M .whole-cut (n % 512) x) (λ m. n) w v r empty (l refl refl))
 
       pub rel-truncate : (n : ℕ) → n ≤ 32768 → truncateNeed S t s n (w .files) ≤ S .free (w .memory) → Rel T D (truncateFile S t s n w) (truncateFile S′ t s n v)
@@ -209,7 +214,7 @@ module _ {S S′ : Storage} {T : Translation S S′} {D : Demands S} {t : Tree} 
           go : (b : Bool) → Rel T D (deleteAs S t b s w) (deleteAs S′ t b s v)
           go true =
               let r₁ = rel-settles (t .children s) w v r in
-              let r₂ = rel-gives handed (from 0 64) _ _ r₁ (λ p m. inl (ap (λ (g : ℕ → Entry (S .Block)). isStored (g p)) (settle-pending S t s (t .children s) w) ∙ empty p)) in
+              let r₂ = rel-gives handed (from 0 64) _ _ r₁ (λ p m e. ap (λ (g : ℕ → Entry (S .Block)). isStored (g p)) (settle-pending S t s (t .children s) w) ∙ empty p) in
               rel-erase _ _ r₂ (λ p.
               ap (λ (g : ℕ → Entry (S .Block)). isStored (g p)) (give-pending S t s handed (from 0 64) (each (settle S t) (t .children s) w) ∙ settle-pending S t s (t .children s) w) ∙ empty p)
           go false = rel-erase w v r empty

@@ -135,11 +135,11 @@ module _ {S S′ : Storage} {T : Translation S S′} {fresh : S .Memory} {fresh�
     erased-rel = moved _ (λ t. eraseFile S′ t s (begin S′ m f)) (rel-erase (M .sim r f s) (begin S r f) (begin S′ m f) begin-rel (λ p. refl))
 
     module _ (proper : ProperTree (treeIn S r)) where
-      write-rel : (off : ℕ) (bs : List ℕ) → off + length bs ≤ 32768 → ownNeed S s (touched off (length bs)) (r .files f) ≤ S .free (r .memory) →
-          Rel T (M .demands r f s) (writeFile S (treeIn S r) s off bs (begin S r f)) (writeFile S′ (treeIn S′ m) s off bs (begin S′ m f))
-      write-rel off bs low l =
-          moved _ (λ t. writeFile S′ t s off bs (begin S′ m f))
-          (rel-write (M .sim r f s) (proper .ok) (proper .once s) (M .kid r f s proper) (begin S r f) (begin S′ m f) begin-rel (λ p. refl) off bs low l)
+      write-rel : (g off : ℕ) (bs : List ℕ) → off + length bs ≤ 32768 → ownNeed S s (touched off (length bs)) (r .files f) ≤ S .free (r .memory) →
+          Rel T (M .demands r f s) (writeFile S (treeIn S r) g s off bs (begin S r f)) (writeFile S′ (treeIn S′ m) g s off bs (begin S′ m f))
+      write-rel g off bs low l =
+          moved _ (λ t. writeFile S′ t g s off bs (begin S′ m f))
+          (rel-write (M .sim r f s) (proper .ok) (proper .once s) (M .kid r f s proper) (begin S r f) (begin S′ m f) begin-rel (λ p. refl) g off bs low l)
 
       truncate-rel : (n : ℕ) → n ≤ 32768 → truncateNeed S (treeIn S r) s n (r .files f) ≤ S .free (r .memory) →
           Rel T (M .demands r f s) (truncateFile S (treeIn S r) s n (begin S r f)) (truncateFile S′ (treeIn S′ m) s n (begin S′ m f))
@@ -204,11 +204,11 @@ module _ {S S′ : Storage} {T : Translation S S′} {fresh : S .Memory} {fresh�
       accepted-same (create s f) z =
           let a = passed-create (viewOf S true true r) s f z in
           record { answer = refl; stands = create-stands s f; kept = M .kept-create r s f k (a .set .used) (a .gone) }
-      accepted-same (write s f off []) z = record { answer = refl; stands = h; kept = k }
-      accepted-same (write s f off (x ∷ bs)) z =
-          let a = passed-write (viewOf S true true r) s f off (x ∷ bs) z in
+      accepted-same (write g s f off []) z = record { answer = refl; stands = h; kept = k }
+      accepted-same (write g s f off (x ∷ bs)) z =
+          let a = passed-write (viewOf S true true r) g s f off (x ∷ bs) z in
           worked-same r m h k f s _ _ (a .file) (a .set .used)
-          (λ _. write-finished S (treeIn S r) s (begin S r f) (λ p. refl) off (x ∷ bs)) (write-rel r m h k f s proper off (x ∷ bs) (a .end-in) (a .room))
+          (λ _. write-finished S (treeIn S r) s (begin S r f) (λ p. refl) g off (x ∷ bs)) (write-rel r m h k f s proper g off (x ∷ bs) (a .end-in) (a .room))
       accepted-same (read s f off buffer) z =
           let n : ℕ = readCount (length buffer) off (sizeByReading (treeIn S r) (r .files f) s) in
           record {

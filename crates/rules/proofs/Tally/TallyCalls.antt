@@ -13,21 +13,22 @@ use Rattle.base.specs.Logic.{and-left, and-right, pick, test?}
 use Rattle.base.specs.Update.{upd, upd-self}
 use Rattle.rules.proofs.Storages.Model.{counting}
 use Rattle.rules.proofs.Tally.TallyChange.{change-leaves, changeLeaves, newKinds}
+use Rattle.rules.proofs.Tally.TallyGroups.{extra-pages}
 use Rattle.rules.proofs.Tally.TallyLoops.{PagesOf, all-pages, byte-pages, count-pages, cut-pages, dropped-pages, kept-pages, no-pages, page-inv, pages-once, pages-passed, put-pages, sum-loop, sum-pages}
 use Rattle.rules.proofs.Tally.TallyNumbers.{Tallies, TallyOrderly, kept-need, same-numbers, tallies-is, tallies-of, tallyOf, write-need}
 use Rattle.rules.proofs.Whole.Accepted.{passed-write}
 use Rattle.rules.proofs.Tally.TallyReach.{NoVirginRoot, kind-resolve, looks-reading, no-virgin-root, size-reading}
-use Rattle.rules.proofs.Tally.TallySteps.{give-all, settle-all, withTurn}
+use Rattle.rules.proofs.Tally.TallySteps.{extra-all, give-all, settle-all, withTurn}
 use Rattle.rules.proofs.Tally.TallyWriter.{free-map}
 use Rattle.rules.proofs.Tree.SetsOk.{root-alone-tree}
 use Rattle.rules.specs.Calls.{Result, Store, accepted, begin, created, formatted, made, readCount, readLooks, readOf, removed, resultOf, step, treeIn, viewOf, worked}
 use Rattle.rules.specs.Numbers.{Call, create, delete, format, make, numberOf, read, refusal, remove, tellFree, tellSize, truncate, write}
 use Rattle.rules.specs.Plain.{Plain}
 use Rattle.rules.specs.Reading.{looks, resolve, shownSize, sizeByReading, walk}
-use Rattle.rules.specs.Rules.{Work, change, copied, countIn, cutPages, deleteAs, deleteFile, droppedPages, each, eraseFile, freeMap, from, giveAll, handed, holes, keptPages, ownNeed, partPages, touched, truncateAs, truncateFile, withFiles, writeFile}
+use Rattle.rules.specs.Rules.{Giving, Work, change, copied, countIn, cutPages, deleteAs, deleteFile, droppedPages, each, eraseFile, extra, extraPages, freeMap, from, giveAll, handed, holes, keptPages, ownNeed, partPages, touched, truncateAs, truncateFile, withFiles, writeFile}
 use Rattle.rules.specs.Sets.{appendSet, childFile, childState, unlinkSet}
 use Rattle.rules.specs.State.{State, Tree, absent, absentFile, fileCount, hole, isStored, largestSize, live, marked, own, pageBytes, pageCount, setCount, stored, treeOf, unmapped, virgin}
-use Rattle.rules.specs.Tally.{Both, Kind, Tally, TallyFile, TallyFiles, TallyResult, Turn, bothAs, bothStep, cutKinds, eachChild, holdsByte, kindAt, partPage, storedPages, tallyCall, tallyChild, tallyCut, tallyDelete, tallyFormat, tallyGive, tallyGrow, tallyLeaves, tallyLooks, tallyRead, tallySettle, tallySize, tallyTold, tallyTruncate, tallyTruncateNeed, tallyTurns, tallyWrite, truncateTouches}
+use Rattle.rules.specs.Tally.{Both, Kind, Tally, TallyFile, TallyFiles, TallyResult, Turn, bothAs, bothStep, cutKinds, eachChild, holdsByte, isExtra, kindAt, partPage, storedPages, tallyCall, tallyChild, tallyCut, tallyDelete, tallyExtra, tallyFormat, tallyGive, tallyGrow, tallyLeaves, tallyLooks, tallyRead, tallySettle, tallySize, tallyTold, tallyTruncate, tallyTruncateNeed, tallyTurns, tallyWrite, truncateTouches}
 use Rattle.rules.specs.Trees.{addChild, takeAway}
 use mathlib.Core.Logic.{⊎-elim}
 
@@ -44,9 +45,9 @@ module _ (k : Store counting) (f s : ℕ) where
     tally = record { tree = treeIn counting k; files = upd (k .files) f (upd (x .files) s y); free = x .free + m };
   }
 
-give-nothing : (t : Tree) (s : ℕ) (w : Work counting) → w ≡ giveAll counting t copied s [] w
+give-nothing : (how : Giving) (t : Tree) (s : ℕ) (w : Work counting) → giveAll counting t how s [] w ≡ w
 unfolding giveAll each
-give-nothing t s w = refl
+give-nothing how t s w = refl
 
 -- the part page and those dropped are the touched pages, in order
 part-dropped : (n z : ℕ) → n < z → partPages n ++ droppedPages n z ≡ cutPages n z
@@ -114,31 +115,32 @@ module _ (k : Store counting) (o : TallyOrderly k) where
   size-is f s = size-reading sets (k .files f) (o .proper .ok) (above f) s
 
   -- WRITE
-  write-same : (s f off n : ℕ) → off + n ≤ largestSize → (lay : ℕ → Unit {0} → Unit {0}) →
-      resultOfTally (worked counting k f (change counting sets s (touched off n) (touched off n) [] lay (λ m. max m (off + n)) (begin counting k f))) ≡ tallyWrite s f off n (tallyOf k)
+  write-same : (g s f off n : ℕ) → off + n ≤ largestSize → (lay : ℕ → Unit {0} → Unit {0}) →
+      resultOfTally (worked counting k f (change counting sets s (touched off n) (touched off n) [] (extraPages g off n) lay (λ m. max m (off + n)) (begin counting k f))) ≡ tallyWrite g s f off n (tallyOf k)
   unfolding tallyWrite tallyTurns countIn each
-  write-same s f off n l lay =
+  write-same g s f off n l lay =
       let r : PagesOf (touched off n) (holdsByte off n) = byte-pages off n (λ z. l) in
       let need : ℕ = ownNeed counting s (touched off n) (k .files f) in
-      let turns : ℕ → Turn = λ m. tallyTurns (tallyOf k) f s (s ∷ sets .children s) m (holdsByte off n) (λ p. false) in
+      let turns : ℕ → Turn = λ m. tallyExtra sets s (isExtra g off n) (tallyTurns (tallyOf k) f s (s ∷ sets .children s) m (holdsByte off n) (λ p. false)) in
       let own-file : Turn → (ℕ → Kind) → TallyFile = λ x m. record { state = own; size = max (x .files s .size) (off + n); map = m } in
       ap (λ (w : Work counting). resultOfTally (worked counting k f w))
-      (change-leaves sets (o .proper) levels s (touched off n) (touched off n) [] (holdsByte off n) (λ p. false) (subst (λ l. PagesOf l (holdsByte off n)) (sym (append-nil (touched off n))) r) (λ p m. refl) (λ p m. elim m [ ]) tt (λ p m. elim m [ ]) lay (λ m. max m (off + n)) (begin counting k f) (above f))
+      (change-leaves sets (o .proper) levels s (touched off n) (touched off n) [] (extraPages g off n) (holdsByte off n) (λ p. false) (subst (λ l. PagesOf l (holdsByte off n)) (sym (append-nil (touched off n))) r) (λ p m. refl) (λ p m. elim m [ ]) tt (λ p m. elim m [ ]) lay (λ m. max m (off + n))
+      (tallyExtra sets s (isExtra g off n)) (extra-all sets (o .proper) levels s (extraPages g off n) (isExtra g off n) (extra-pages g off n l)) (begin counting k f) (above f))
       ∙ worked-leaves k f s (turns need) need (own-file (turns need) (each (λ p g. upd g p (stored tt)) (touched off n) (turns need .files s .map))) 0 _
       ∙ ap (λ m. tallyLeaves (tallyOf k) f s need (turns need) (own-file (turns need) m) 0) (fun-ext (put-pages (stored tt) r (turns need .files s .map)))
       ∙ ap (λ m. tallyLeaves (tallyOf k) f s m (turns m) (own-file (turns m) (λ p. cond (ltb p pageCount && holdsByte off n p) (stored tt) (turns m .files s .map p))) 0)
       (sym (write-need (k .files f) s off n l))
 
   -- TRUNCATE
-  grow-same : (s f n : ℕ) → resultOfTally (worked counting k f (change counting sets s [] [] [] (λ p v. v) (λ m. n) (begin counting k f))) ≡ tallyGrow s f n (tallyOf k)
+  grow-same : (s f n : ℕ) → resultOfTally (worked counting k f (change counting sets s [] [] [] [] (λ p v. v) (λ m. n) (begin counting k f))) ≡ tallyGrow s f n (tallyOf k)
   unfolding tallyGrow tallyTurns countIn each ownNeed
   grow-same s f n =
       ap (λ (w : Work counting). resultOfTally (worked counting k f w))
-      (change-leaves sets (o .proper) levels s [] [] [] (λ p. false) (λ p. false) no-pages (λ p m. elim m [ ]) (λ p m. elim m [ ]) tt (λ p m. elim m [ ]) (λ p v. v) (λ m. n) (begin counting k f) (above f))
+      (change-leaves sets (o .proper) levels s [] [] [] [] (λ p. false) (λ p. false) no-pages (λ p m. elim m [ ]) (λ p m. elim m [ ]) tt (λ p m. elim m [ ]) (λ p v. v) (λ m. n) (λ x. x) (give-nothing extra sets s) (begin counting k f) (above f))
       ∙ worked-leaves k f s (tallyTurns (tallyOf k) f s (s ∷ sets .children s) 0 (λ p. false) (λ p. false)) 0 _ 0 _
 
   cut-same : (s f n z : ℕ) → tallySize sets (k .files f) s ≡ z → n < z → z ≤ largestSize → (lay : ℕ → Unit {0} → Unit {0}) →
-      resultOfTally (worked counting k f (change counting sets s (partPages n) (keptPages n (resolve sets (k .files f) s (n / pageBytes))) (droppedPages n z) lay (λ m. n) (begin counting k f)))
+      resultOfTally (worked counting k f (change counting sets s (partPages n) (keptPages n (resolve sets (k .files f) s (n / pageBytes))) (droppedPages n z) [] lay (λ m. n) (begin counting k f)))
       ≡ tallyCut s f n z (tallyOf k)
   unfolding tallyCut tallyTurns
   cut-same s f n z e l h lay =
@@ -149,10 +151,10 @@ module _ (k : Store counting) (o : TallyOrderly k) where
       let own-file : (ℕ → Kind) → TallyFile = λ m. record { state = own; size = n; map = m } in
       let q : tallyTruncateNeed sets fs s n ≡ need = kept-need sets fs s n (ap (ltb n) e ∙ lt-ltb n z l) in
       ap (λ (w : Work counting). resultOfTally (worked counting k f w))
-      (change-leaves sets (o .proper) levels s (partPages n) (keptPages n kind) (droppedPages n z) (truncateTouches n z) (λ p. not (partPage n p))
+      (change-leaves sets (o .proper) levels s (partPages n) (keptPages n kind) (droppedPages n z) [] (truncateTouches n z) (λ p. not (partPage n p))
       (subst (λ l. PagesOf l (truncateTouches n z)) (sym (part-dropped n z l)) (cut-pages n z l h)) (part-not n)
       (λ p m. and-right (truncateTouches n z p) _ (pages-passed (dropped-pages n z l h) p m .1))
-      (pages-once (dropped-pages n z l h)) (cut-apart n z l h kind) lay (λ m. n) (begin counting k f) (above f))
+      (pages-once (dropped-pages n z l h)) (cut-apart n z l h kind) lay (λ m. n) (λ x. x) (give-nothing extra sets s) (begin counting k f) (above f))
       ∙ worked-leaves k f s (turns need) need (own-file (newKinds (keptPages n kind) (droppedPages n z) (turns need .files s .map))) (countIn (droppedPages n z) (λ p. isStored (turns need .files s .map p))) _
       ∙ (λ i. tallyLeaves (tallyOf k) f s need (turns need)
       (own-file (λ p. (cut-kinds n z l h kind (turns need .files s .map) p ∙ ap (λ e. cutKinds n z e (turns need .files s .map) p) (sym (kind-resolve sets fs s (n / pageBytes)))) i))
@@ -236,7 +238,7 @@ module _ (k : Store counting) (o : TallyOrderly k) where
           ∙ ap (λ n. leaves (tallyGive sets s (λ p. true) (λ p. true) (start settled n))) (sym none)
         where
           none-first : (w : Work counting) → giveAll counting sets handed s (from 0 pageCount) w ≡ giveAll counting sets handed s (from 0 pageCount) (giveAll counting sets copied s [] w)
-          none-first w = ap (giveAll counting sets handed s (from 0 pageCount)) (give-nothing sets s w)
+          none-first w = ap (giveAll counting sets handed s (from 0 pageCount)) (sym (give-nothing copied sets s w))
       go false =
           erase-same s f (k .files f) (start (k .files f) (k .memory))
           ∙ ap (λ n. leaves (start (k .files f) n)) (sym none)
@@ -280,7 +282,7 @@ remove-same k blocks s e =
 abbrev pub SetsAfter : Store counting → Call → Type 0
 SetsAfter k format = Unit {0}
 SetsAfter k (create s f) = Unit {0}
-SetsAfter k (write s f off bs) = Unit {0}
+SetsAfter k (write g s f off bs) = Unit {0}
 SetsAfter k (read s f off buffer) = Unit {0}
 SetsAfter k (truncate s f n) = Unit {0}
 SetsAfter k (delete s f) = Unit {0}
@@ -295,8 +297,8 @@ call-same : (k : Store counting) → TallyOrderly k → (blocks : ℕ) (c : Call
 unfolding accepted tallyCall tallyTold writeFile
 call-same k o blocks format h e = format-same k blocks
 call-same k o blocks (create s f) h e = create-same k blocks s f
-call-same k o blocks (write s f off []) h e = refl
-call-same k o blocks (write s f off (x ∷ bs)) h e = write-same k o s f off (length (x ∷ bs)) (passed-write (viewOf counting true true k) s f off (x ∷ bs) h .end-in) (counting .over off (x ∷ bs))
+call-same k o blocks (write g s f off []) h e = refl
+call-same k o blocks (write g s f off (x ∷ bs)) h e = write-same k o g s f off (length (x ∷ bs)) (passed-write (viewOf counting true true k) g s f off (x ∷ bs) h .end-in) (counting .over off (x ∷ bs))
 call-same k o blocks (read s f off buffer) h e = read-same k o s f off (length buffer)
 call-same k o blocks (truncate s f n) h e = truncate-same k o s f n
 call-same k o blocks (delete s f) h e = delete-same k o s f

@@ -8,10 +8,10 @@ use Rattle.rules.proofs.Storages.Model.{counting}
 use Rattle.rules.proofs.Steps.Handing.{ProperTree}
 use Rattle.rules.proofs.Tally.TallyLoops.{PagesOf, count-same-in, put-inside, put-outside}
 use Rattle.rules.proofs.Tally.TallyReach.{NoVirginRoot}
-use Rattle.rules.proofs.Tally.TallySteps.{give-all, pendingAfter, reserve-all, settle-all, settle-maps, withReserved, withTurn}
+use Rattle.rules.proofs.Tally.TallySteps.{give-all, pendingAfter, reserve-all, settle-all, settle-maps, turnOf, withReserved, withTurn}
 use Rattle.rules.proofs.Tally.TallyWriter.{drop-all, enter-stored, put-all, withReleased}
 use Rattle.rules.proofs.Steps.WriterSteps.{NoDup}
-use Rattle.rules.specs.Rules.{Work, change, copied, countIn, dropPage, each, enter, giveAll, handed, ownNeed, putEntry, reserve, resize, settle, withFiles}
+use Rattle.rules.specs.Rules.{Work, change, copied, countIn, dropPage, each, enter, extra, giveAll, handed, ownNeed, putEntry, reserve, resize, settle, withFiles}
 use Rattle.rules.specs.State.{Tree, hole, isStored, own, setCount, stored}
 use Rattle.rules.specs.Tally.{Kind, TallyFile, TallyFiles, Turn, eachChild, tallyGive, tallySettle}
 
@@ -35,8 +35,9 @@ resize-file : (s : ℕ) (fs : TallyFiles) (y : TallyFile) (g : ℕ → ℕ) →
     upd (upd fs s y) s (record { state = own; size = g (upd fs s y s .size); map = upd fs s y s .map }) ≡ upd fs s (record { state = own; size = g (y .size); map = y .map })
 resize-file s fs y g = rw (upd-same fs s y) (upd-upd fs s _ _)
 
-module _ (t : Tree) (proper : ProperTree t) (shallow : (x : ℕ) → t .level x ≤ setCount) (s : ℕ) (ps rs ds : List ℕ) (touches handing : ℕ → Bool) (r : PagesOf (ps ++ ds) touches) (off : (p : ℕ) → List·Memᴰ p ps → handing p ≡ false) (on : (p : ℕ) → List·Memᴰ p ds → handing p ≡ true)
+module _ (t : Tree) (proper : ProperTree t) (shallow : (x : ℕ) → t .level x ≤ setCount) (s : ℕ) (ps rs ds es : List ℕ) (touches handing : ℕ → Bool) (r : PagesOf (ps ++ ds) touches) (off : (p : ℕ) → List·Memᴰ p ps → handing p ≡ false) (on : (p : ℕ) → List·Memᴰ p ds → handing p ≡ true)
     (nd : NoDup ds) (disjoint : (p : ℕ) → List·Memᴰ p ds → List·Memᴰ p rs → ⊥) (lay : ℕ → Unit {0} → Unit {0}) (resized : ℕ → ℕ)
+    (after : Turn → Turn) (extras : (w : Work counting) → giveAll counting t extra s es w ≡ withTurn w (after (turnOf w)))
     (w : Work counting) (nv : NoVirginRoot t (w .files)) where
   abbrev need : ℕ
   need = ownNeed counting s rs (w .files)
@@ -45,7 +46,7 @@ module _ (t : Tree) (proper : ProperTree t) (shallow : (x : ℕ) → t .level x 
   settledFiles = eachChild (tallySettle t) (s ∷ t .children s) (w .files)
 
   abbrev turns : Turn
-  turns = tallyGive t s touches handing (record { files = settledFiles; free = w .memory - need; copies = w .copies; marks = w .marks })
+  turns = after (tallyGive t s touches handing (record { files = settledFiles; free = w .memory - need; copies = w .copies; marks = w .marks }))
 
   need-same : ownNeed counting s rs settledFiles ≡ need
   unfolding ownNeed
@@ -56,14 +57,14 @@ module _ (t : Tree) (proper : ProperTree t) (shallow : (x : ℕ) → t .level x 
       (ap (λ (g : TallyFiles). g s .map p) (put-all s (stored tt) rs (turns .files)) ∙ ap (λ (x : TallyFile). x .map p) (upd-same (turns .files) s _)
       ∙ put-outside (stored tt) rs (turns .files s .map) p (disjoint p m)))
 
-  pub change-leaves : change counting t s ps rs ds lay resized w ≡
+  pub change-leaves : change counting t s ps rs ds es lay resized w ≡
       changeLeaves w s turns need (record { state = own; size = resized (turns .files s .size); map = newKinds rs ds (turns .files s .map) })
       (countIn ds (λ p. isStored (turns .files s .map p))) (pendingAfter rs (w .pending))
   unfolding change resize
   change-leaves =
       let w₁ : Work counting = each (settle counting t) (s ∷ t .children s) w in
       let w₂ : Work counting = each (reserve counting t s) rs w₁ in
-      let w₃ : Work counting = giveAll counting t handed s ds (giveAll counting t copied s ps w₂) in
+      let w₃ : Work counting = giveAll counting t extra s es (giveAll counting t handed s ds (giveAll counting t copied s ps w₂)) in
       let w₄ : Work counting = each (enter counting t s lay) rs w₃ in
       let w₅ : Work counting = each (dropPage counting t s) ds w₄ in
       let h : ℕ → Kind = pendingAfter rs (w .pending) in
@@ -75,7 +76,9 @@ module _ (t : Tree) (proper : ProperTree t) (shallow : (x : ℕ) → t .level x 
       let v₅ : Work counting = withReleased v₃ (countIn ds (λ p. isStored (turns .files s .map p))) (upd (turns .files) s y) in
       let e₁ : w₁ ≡ v₁ = settle-all t (proper .ok) (s ∷ t .children s) w nv in
       let e₂ : w₂ ≡ v₂ = ap (each (reserve counting t s) rs) e₁ ∙ reserve-all t (proper .ok) s rs v₁ ∙ ap (λ n. withReserved v₁ n h) need-same in
-      let e₃ : w₃ ≡ v₃ = ap (λ w. giveAll counting t handed s ds (giveAll counting t copied s ps w)) e₂ ∙ give-all t proper shallow s ps ds touches handing r off on v₂ in
+      let e₃ : w₃ ≡ v₃ =
+      ap (giveAll counting t extra s es) (ap (λ w. giveAll counting t handed s ds (giveAll counting t copied s ps w)) e₂ ∙ give-all t proper shallow s ps ds touches handing r off on v₂)
+      ∙ extras (withTurn v₂ _) in
       let e₄ : w₄ ≡ v₄ = ap (each (enter counting t s lay) rs) e₃ ∙ enter-stored t s lay rs v₃ (put-inside (stored tt) rs (w .pending)) in
       let e₅ : w₅ ≡ v₅ =
       ap (each (dropPage counting t s) ds) e₄ ∙ drop-all t s ds nd v₄ ∙ (λ i. withReleased v₃ (freed-same i) (put-both s rs ds (turns .files) i)) in

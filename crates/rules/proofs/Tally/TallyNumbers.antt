@@ -81,7 +81,7 @@ module _ (tr : Tree) (st : ℕ → ℕ → State) (fr : ℕ) where
   unfolding numberOf conditions lowest
   same-number wn wn′ tn tn′ h k format = refl
   same-number wn wn′ tn tn′ h k (create s f) = refl
-  same-number wn wn′ tn tn′ h k (write s f off bs) =
+  same-number wn wn′ tn tn′ h k (write g s f off bs) =
       test? (ltb largestSize (off + length bs)) (λ e. rw e) (λ e. rw (e, h s f off (length bs) (ltb-false largestSize (off + length bs) e)))
   same-number wn wn′ tn tn′ h k (read s f off buffer) = refl
   same-number wn wn′ tn tn′ h k (truncate s f n) = rw (k s f n)

@@ -1,5 +1,5 @@
 -- The steps of a changing call over `counting`, the storage without blocks and bytes, are those of the tally. Assumes nothing.
-use mathlib.Core.Bool.{Bool, cond, false, not, true}
+use mathlib.Core.Bool.{_&&_, Bool, cond, false, not, true}
 use mathlib.Core.List.{List, List·Memᴰ, List·Memᴰ·head, List·Memᴰ·tail, [], _++_, _∷_}
 use mathlib.Core.Path.{ap, refl, sym, _∙_, _≡_}
 use Prim.Native.Nat.{_+_, _-_, suc, ℕ, _≤_}
@@ -14,14 +14,15 @@ use Rattle.rules.proofs.Storages.Model.{counting}
 use Rattle.rules.proofs.Steps.Handing.{ProperTree, some-self}
 use Rattle.rules.proofs.Steps.OneStep.{TreeOk}
 use Rattle.rules.proofs.Steps.States.{stored-is}
-use Rattle.rules.proofs.Steps.StepFour.{each-inv}
+use Rattle.rules.proofs.Steps.StepFour.{each-append, each-inv}
+use Rattle.rules.proofs.Tally.TallyGroups.{PagesOfTwo, each-two}
 use Rattle.rules.proofs.Tally.TallyHanding.{hand-late, handLate}
 use Rattle.rules.proofs.Tally.TallyLoops.{PagesOf, each-child, each-page, each-part}
 use Rattle.rules.proofs.Tally.TallyReach.{NoVirginRoot, kind-resolve, mark-count, mark-down, size-reading}
 use Rattle.rules.specs.Reading.{needs, resolve, sizeByReading}
-use Rattle.rules.specs.Rules.{Giving, Work, copied, copy, countIn, each, give, giveAll, givePage, hand, handOver, handed, mark, ownNeed, putEntry, reserve, reserveAs, settle, settleAs, settleFile, supply, takeOwn, withFiles}
+use Rattle.rules.specs.Rules.{Giving, Work, copied, copy, countIn, each, extra, give, giveAll, givePage, hand, handOver, handed, mark, ownNeed, putEntry, reserve, reserveAs, settle, settleAs, settleFile, supply, takeOwn, withFiles}
 use Rattle.rules.specs.State.{State, Tree, absent, hole, isStored, isVirgin, marked, own, setCount, stored, unmapped, virgin}
-use Rattle.rules.specs.Tally.{Kind, TallyFile, TallyFiles, Turn, childPage, childTurn, eachChild, neededCopy, pageTurns, takenOver, tallyGive, tallyKind, tallyNeeds, tallySettle}
+use Rattle.rules.specs.Tally.{Kind, TallyFile, TallyFiles, Turn, childPage, childTurn, eachChild, extraTurn, neededCopy, pageTurns, takenOver, tallyExtra, tallyGive, tallyKind, tallyNeeds, tallySettle}
 
 -- what the tally's turns see of a Work, and a Work with that put in its place
 abbrev pub turnOf : Work counting → Turn
@@ -48,12 +49,6 @@ reserved-none w h =
 -- the pages of a list pending
 abbrev pub pendingAfter : List ℕ → (ℕ → Kind) → ℕ → Kind
 pendingAfter rs h = each (λ p g. upd g p (stored tt)) rs h
-
--- one list after another
-pub each-append : {A W : Type 0} (f : A → W → W) (xs ys : List A) (w : W) → each f (xs ++ ys) w ≡ each f ys (each f xs w)
-unfolding each
-each-append f [] ys w = refl
-each-append f (x ∷ xs) ys w = each-append f xs ys (f x w)
 
 module _ (t : Tree) (ok : TreeOk t) where
   -- STEP 2
@@ -120,7 +115,7 @@ module _ (t : Tree) (ok : TreeOk t) where
 
 -- STEP 4
 module _ (t : Tree) (proper : ProperTree t) (shallow : (x : ℕ) → t .level x ≤ setCount) where
-  supply-page : (e : Kind) (c p : ℕ) (w : Work counting) → supply counting t e c p w ≡ withTurn w (childPage t e p c (turnOf w))
+  supply-page : (e : Kind) (c p : ℕ) (w : Work counting) → supply counting t true e c p w ≡ withTurn w (childPage t e p c (turnOf w))
   unfolding supply childPage neededCopy mark copy putEntry tallyKind
   supply-page unmapped c p w = refl
   supply-page hole c p w = refl
@@ -143,15 +138,15 @@ module _ (t : Tree) (proper : ProperTree t) (shallow : (x : ℕ) → t .level x 
         marks = w .marks;
       }))
 
-  give-one : (s p c : ℕ) (w : Work counting) → give counting t s p c w ≡ withTurn w (childTurn t s p c (turnOf w))
+  give-one : (s p c : ℕ) (w : Work counting) → give counting t true s p c w ≡ withTurn w (childTurn t s p c (turnOf w))
   unfolding give childTurn needs
   give-one s p c w =
       rw (kind-resolve t (w .files) s p)
       (test? (tallyNeeds (w .files) c p) (λ e. rw e (supply-page (resolve t (w .files) s p) c p w)) (λ e. rw e))
 
-  give-some : (s p : ℕ) (cs : List ℕ) (w : Work counting) → each (give counting t s p) cs w ≡ withTurn w (eachChild (childTurn t s p) cs (turnOf w))
+  give-some : (s p : ℕ) (cs : List ℕ) (w : Work counting) → each (give counting t true s p) cs w ≡ withTurn w (eachChild (childTurn t s p) cs (turnOf w))
   give-some s p cs w =
-      each-part turnOf withTurn (λ w. refl) (λ w x y. refl) (λ w x. refl) (give counting t s p) (childTurn t s p) (give-one s p) cs w
+      each-part turnOf withTurn (λ w. refl) (λ w x y. refl) (λ w x. refl) (give counting t true s p) (childTurn t s p) (give-one s p) cs w
       ∙ ap (withTurn w) (sym (each-child (childTurn t s p) cs (turnOf w)))
 
   -- a page taken over
@@ -167,34 +162,71 @@ module _ (t : Tree) (proper : ProperTree t) (shallow : (x : ℕ) → t .level x 
   hand-all s p (c ∷ cs) kids w h =
       let inside : (d : ℕ) → List·Memᴰ d cs → List·Memᴰ d (t .children s) = λ d m. kids d (List·Memᴰ·tail m) in
       test? (tallyNeeds (w .files) c p)
-      (λ e. rw e (over-one s p c (each (give counting t s p) cs w) (ap (λ (x : TallyFile). x .map p) (some-self counting t (proper .ok) s p cs inside w) ∙ h)
+      (λ e. rw e (over-one s p c (each (give counting t true s p) cs w) (ap (λ (x : TallyFile). x .map p) (some-self counting t (proper .ok) true s p cs inside w) ∙ h)
       ∙ ap (λ (v : Work counting). withTurn v (takenOver t s p c (turnOf v))) (give-some s p cs w)))
       (λ e. rw e (hand-all s p cs inside w h))
 
-  abbrev hands : Giving → Bool
-  hands copied = false
-  hands handed = true
+  abbrev handsOr : Bool → Giving
+  handsOr false = copied
+  handsOr true = handed
 
-  page-all : (how : Giving) (s p : ℕ) (w : Work counting) → givePage counting t how s p w ≡ withTurn w (pageTurns t s (hands how) p (turnOf w))
+  page-all : (hands : Bool) (s p : ℕ) (w : Work counting) → givePage counting t (handsOr hands) s p w ≡ withTurn w (pageTurns t s hands p (turnOf w))
   unfolding givePage pageTurns
-  page-all copied s p w = give-some s p (t .children s) w
-  page-all handed s p w =
+  page-all false s p w = give-some s p (t .children s) w
+  page-all true s p w =
       test? (isStored (w .files s .map p))
       (λ e. rw (e, hand-late t proper s p (turnOf w) e) (hand-all s p (t .children s) (λ d m. m) w (stored-is (w .files s .map p) e .1)))
       (λ e. rw e (give-some s p (t .children s) w))
 
-  give-list : (how : Giving) (s : ℕ) (ps : List ℕ) (handing : ℕ → Bool) → ((p : ℕ) → List·Memᴰ p ps → handing p ≡ hands how) → (w : Work counting) →
-      giveAll counting t how s ps w ≡ withTurn w (each (λ p. pageTurns t s (handing p) p) ps (turnOf w))
+  give-list : (hands : Bool) (s : ℕ) (ps : List ℕ) (handing : ℕ → Bool) → ((p : ℕ) → List·Memᴰ p ps → handing p ≡ hands) → (w : Work counting) →
+      giveAll counting t (handsOr hands) s ps w ≡ withTurn w (each (λ p. pageTurns t s (handing p) p) ps (turnOf w))
   unfolding giveAll each
-  give-list how s [] handing h w = refl
-  give-list how s (p ∷ ps) handing h w =
-      ap (each (givePage counting t how s) ps) (page-all how s p w ∙ ap (λ b. withTurn w (pageTurns t s b p (turnOf w))) (sym (h p (List·Memᴰ·head refl))))
-      ∙ give-list how s ps handing (λ q m. h q (List·Memᴰ·tail m)) (withTurn w _)
+  give-list hands s [] handing h w = refl
+  give-list hands s (p ∷ ps) handing h w =
+      ap (each (givePage counting t (handsOr hands) s) ps) (page-all hands s p w ∙ ap (λ b. withTurn w (pageTurns t s b p (turnOf w))) (sym (h p (List·Memᴰ·head refl))))
+      ∙ give-list hands s ps handing (λ q m. h q (List·Memᴰ·tail m)) (withTurn w _)
 
   pub give-all : (s : ℕ) (ps ds : List ℕ) (touches handing : ℕ → Bool) → PagesOf (ps ++ ds) touches → ((p : ℕ) → List·Memᴰ p ps → handing p ≡ false) → ((p : ℕ) → List·Memᴰ p ds → handing p ≡ true) →
       (w : Work counting) → giveAll counting t handed s ds (giveAll counting t copied s ps w) ≡ withTurn w (tallyGive t s touches handing (turnOf w))
   unfolding tallyGive
   give-all s ps ds touches handing r off on w =
-      ap (giveAll counting t handed s ds) (give-list copied s ps handing off w) ∙ give-list handed s ds handing on (withTurn w _)
+      ap (giveAll counting t handed s ds) (give-list false s ps handing off w) ∙ give-list true s ds handing on (withTurn w _)
       ∙ ap (withTurn w) (sym (each-append (λ p. pageTurns t s (handing p) p) ps ds (turnOf w))
       ∙ sym (each-page r (λ p. pageTurns t s (handing p) p) _ (λ p x l e. rw e) (λ p x l e. rw e) (turnOf w)))
+
+  -- THE EXTRA PAGES: a turn at one is a turn of step 4, unless it finds no free block
+  extra-page : (e : Kind) (c p : ℕ) (w : Work counting) → supply counting t false e c p w ≡ withTurn w (cond (isStored e && eqb (w .memory) 0) (turnOf w) (childPage t e p c (turnOf w)))
+  unfolding supply childPage neededCopy copy putEntry tallyKind
+  extra-page unmapped c p w = refl
+  extra-page hole c p w = refl
+  extra-page (stored b) c p w =
+      test? (eqb (w .memory) 0)
+      (λ e. rw e)
+      (λ e. rw e (λ i. record {
+        memory = w .memory - 1;
+        files = putEntry (w .files) c p (stored tt);
+        pending = w .pending;
+        taken = w .taken;
+        copies = sym (add-one (w .copies)) i;
+        marks = w .marks;
+      }))
+
+  extra-one : (s p c : ℕ) (w : Work counting) → give counting t false s p c w ≡ withTurn w (extraTurn t s p c (turnOf w))
+  unfolding give extraTurn childTurn needs
+  extra-one s p c w =
+      rw (kind-resolve t (w .files) s p)
+      (test? (tallyNeeds (w .files) c p)
+      (λ e. rw e (extra-page (resolve t (w .files) s p) c p w))
+      (λ e. rw e (test? (isStored (resolve t (w .files) s p) && eqb (w .memory) 0) (λ d. rw d) (λ d. rw d))))
+
+  extra-some : (s p : ℕ) (w : Work counting) → givePage counting t extra s p w ≡ withTurn w (eachChild (extraTurn t s p) (t .children s) (turnOf w))
+  unfolding givePage
+  extra-some s p w =
+      each-part turnOf withTurn (λ w. refl) (λ w x y. refl) (λ w x. refl) (give counting t false s p) (extraTurn t s p) (extra-one s p) (t .children s) w
+      ∙ ap (withTurn w) (sym (each-child (extraTurn t s p) (t .children s) (turnOf w)))
+
+  pub extra-all : (s : ℕ) (es : List ℕ) (extras : ℕ → Bool) → PagesOfTwo es extras → (w : Work counting) → giveAll counting t extra s es w ≡ withTurn w (tallyExtra t s extras (turnOf w))
+  unfolding tallyExtra giveAll
+  extra-all s es extras r w =
+      each-part turnOf withTurn (λ w. refl) (λ w x y. refl) (λ w x. refl) (givePage counting t extra s) (λ p. eachChild (extraTurn t s p) (t .children s)) (extra-some s) es w
+      ∙ ap (withTurn w) (sym (each-two r (λ p. eachChild (extraTurn t s p) (t .children s)) _ (λ p x l e. rw e) (λ p x l e. rw e) (turnOf w)))

@@ -1,10 +1,11 @@
--- What all of step 4 keeps; and the writer's own file over `counting`: step 4 leaves its state as it is, step 5 makes pages stored, pages dropped become holes and their blocks are free again. Assumes nothing.
-use mathlib.Core.Bool.{Bool, _&&_, cond}
+-- What all of step 4 keeps; and the writer's own file over `counting`: step 4 leaves its state as it is, turns at extra pages change no state and mark nothing, step 5 makes pages stored, pages dropped become holes and their blocks are free again. Assumes nothing.
+use mathlib.Core.Bool.{Bool, _&&_, cond, false}
 use mathlib.Core.List.{List, List·Memᴰ, List·Memᴰ·head, List·Memᴰ·tail, [], _∷_}
 use mathlib.Core.Path.{ap, refl, subst, sym, _∙_, _≡_}
 use Prim.Native.Nat.{_+_, ℕ}
 use native.Mathlib.Nat.{add-zero}
 use native.Mathlib.Omega.{arith}
+use lib.Dec.{eqb}
 use Rattle.base.specs.Logic.{and-right, test?}
 use Rattle.base.specs.Update.{upd, upd-keeps, upd-same, upd-self, upd-upd}
 use Rattle.rules.proofs.Storages.Model.{counting}
@@ -16,7 +17,7 @@ use Rattle.rules.proofs.Tally.TallyHanding.{hand-late, handLate, turn-s
 use Rattle.rules.proofs.Steps.WriterSteps.{NoDup}
 use Rattle.rules.specs.Rules.{Work, countIn, dropPage, each, enter, enterAs, freeEntry, freeMap, from, putEntry, withFiles}
 use Rattle.rules.specs.State.{Tree, hole, isStored, pageCount, stored, unmapped}
-use Rattle.rules.specs.Tally.{Kind, TallyFile, TallyFiles, Turn, childTurn, eachChild, pageTurns, storedPages, takenOver, tallyGive, tallyKind, tallyNeeds}
+use Rattle.rules.specs.Tally.{Kind, TallyFile, TallyFiles, Turn, childPage, childTurn, eachChild, extraTurn, kindAt, neededCopy, pageTurns, storedPages, takenOver, tallyExtra, tallyGive, tallyKind, tallyNeeds}
 
 -- WHAT EVERY TURN OF STEP 4 KEEPS, and every taking over, all of step 4 keeps
 module _ (t : Tree) (proper : ProperTree t) (s : ℕ) (I : Turn → Type 0)
@@ -57,6 +58,45 @@ pub turns-state : (t : Tree) → ProperTree t → (s : ℕ) (touches hands : ℕ
 turns-state t proper s touches hands x =
     turns-inv t proper s (λ y. y .files s .state ≡ x .files s .state)
     (λ p c y m i. ap (λ (z : TallyFile). z .state) (turn-self t (proper .ok) s p c y m) ∙ i) (λ p c y m i. over-state t s p c y s ∙ i) touches hands x refl
+
+-- what changes no state of a file and marks nothing
+pub record Quiet (g : Turn → Turn) : Type 0 where
+  pub state : (x : Turn) (y : ℕ) → g x .files y .state ≡ x .files y .state
+  pub marks : (x : Turn) → g x .marks ≡ x .marks
+
+pub nothing-quiet : Quiet (λ x. x)
+nothing-quiet = record { state = λ x y. refl; marks = λ x. refl }
+
+-- THE TURNS AT EXTRA PAGES are such
+module _ (t : Tree) (s : ℕ) where
+  abbrev SameStates : Turn → Turn → Type 0
+  SameStates x z = ((y : ℕ) → z .files y .state ≡ x .files y .state) × (z .marks ≡ x .marks)
+
+  -- with a block free, or at a hole
+  turn-quiet : (k : Kind) (p c : ℕ) (x : Turn) → (isStored k && eqb (x .free) 0) ≡ false → SameStates x (childPage t k p c x)
+  unfolding childPage neededCopy tallyKind
+  turn-quiet unmapped p c x h = (λ y. refl, refl)
+  turn-quiet hole p c x h = (λ y. upd-keeps (λ (z : TallyFile). z .state) (x .files) c _ refl y, refl)
+  turn-quiet (stored b) p c x h = rw h (λ y. upd-keeps (λ (z : TallyFile). z .state) (x .files) c _ refl y, refl)
+
+  extra-turn : (p c : ℕ) (x : Turn) → SameStates x (extraTurn t s p c x)
+  unfolding extraTurn childTurn
+  extra-turn p c x =
+      test? (isStored (kindAt t (x .files) s p) && eqb (x .free) 0)
+      (λ e. rw e (λ y. refl, refl))
+      (λ e. rw e (test? (tallyNeeds (x .files) c p) (λ d. rw d (turn-quiet (kindAt t (x .files) s p) p c x e)) (λ d. rw d (λ y. refl, refl))))
+
+  extra-turns : (extras : ℕ → Bool) (x : Turn) → SameStates x (tallyExtra t s extras x)
+  unfolding tallyExtra
+  extra-turns extras x =
+      page-inv _ (SameStates x) _
+      (λ p y l j. test? (extras p)
+      (λ e. rw (e, each-child (extraTurn t s p) (t .children s) y)
+      (each-inv (extraTurn t s p) (SameStates x) (t .children s) (λ c z m i. let k = extra-turn p c z in (λ y. k .0 y ∙ i .0 y, k .1 ∙ i .1)) y j))
+      (λ e. rw e j)) x (λ y. refl, refl)
+
+  pub extra-quiet : (extras : ℕ → Bool) → Quiet (tallyExtra t s extras)
+  extra-quiet extras = record { state = λ x. extra-turns extras x .0; marks = λ x. extra-turns extras x .1 }
 
 -- n blocks are free again, and the files are fs
 abbrev pub withReleased : Work counting → ℕ → TallyFiles → Work counting

@@ -68,9 +68,9 @@ module _ (v : View) where
         room = ltb-false (v .free) need (p₈ .0);
       }
 
-  pub passed-write : (s f off : ℕ) (bs : List ℕ) → numberOf v (write s f off bs) ≡ 0 → MayWrite s f (off + length bs) (v .writeNeed s f off (length bs))
+  pub passed-write : (g s f off : ℕ) (bs : List ℕ) → numberOf v (write g s f off bs) ≡ 0 → MayWrite s f (off + length bs) (v .writeNeed s f off (length bs))
   unfolding numberOf conditions
-  passed-write s f off bs h = written s f (off + length bs) (v .writeNeed s f off (length bs)) h
+  passed-write g s f off bs h = written s f (off + length bs) (v .writeNeed s f off (length bs)) h
 
   pub passed-truncate : (s f n : ℕ) → numberOf v (truncate s f n) ≡ 0 → MayWrite s f n (v .truncateNeed s f n)
   unfolding numberOf conditions
@@ -164,9 +164,9 @@ module _ (v : View) where
       record { set = used-set v s (p₂ .0); childless = is-nil (v .tree .children s) (not-false _ (p₃ .0)); not-root = eqb-false s 0 (p₄ .0) }
 
   -- no condition applies: the call is accepted
-  pub accepts-write : v .formed ≡ true → (s f off : ℕ) (bs : List ℕ) → MayWrite s f (off + length bs) (v .writeNeed s f off (length bs)) → numberOf v (write s f off bs) ≡ 0
+  pub accepts-write : v .formed ≡ true → (g s f off : ℕ) (bs : List ℕ) → MayWrite s f (off + length bs) (v .writeNeed s f off (length bs)) → numberOf v (write g s f off bs) ≡ 0
   unfolding numberOf conditions lowest
-  accepts-write formed s f off bs w =
+  accepts-write formed g s f off bs w =
       rw (
         formed,
         lt-ltb s 8 (w .set .low),

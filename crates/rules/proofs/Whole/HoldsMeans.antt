@@ -165,8 +165,8 @@ module _ (B : ℕ) (r : Store real) (pl : Plain) (ta : Tally) (v : Holds B r pl 
     looks-accepted : (c : Call) → numberOf (viewOf real true true r) c ≡ 0 → LooksSame c 0
     looks-accepted format h = looks-not format refl (unfold accepted in refl)
     looks-accepted (create s f) h = looks-not (create s f) refl (unfold accepted in refl)
-    looks-accepted (write s f off []) h = looks-not (write s f off []) refl (unfold accepted in refl)
-    looks-accepted (write s f off (x ∷ bs)) h = looks-not (write s f off (x ∷ bs)) refl (unfold accepted worked in refl)
+    looks-accepted (write g s f off []) h = looks-not (write g s f off []) refl (unfold accepted in refl)
+    looks-accepted (write g s f off (x ∷ bs)) h = looks-not (write g s f off (x ∷ bs)) refl (unfold accepted worked in refl)
     looks-accepted (read s f off buffer) h = read-same s f off buffer (passed-read (viewOf real true true r) s f off buffer h .alive)
     looks-accepted (truncate s f n) h = looks-not (truncate s f n) refl (unfold accepted worked in refl)
     looks-accepted (delete s f) h = looks-not (delete s f) refl (unfold accepted worked in refl)

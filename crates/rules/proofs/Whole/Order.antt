@@ -64,7 +64,7 @@ tally-orderly m v = record {
 sets-after : (m : Store model) → ModelFormed m → (c : Call) → numberOf (viewOf counting true true (countOf m)) c ≡ 0 → SetsAfter (countOf m) c
 sets-after m v format h = tt
 sets-after m v (create s f) h = tt
-sets-after m v (write s f off bs) h = tt
+sets-after m v (write g s f off bs) h = tt
 sets-after m v (read s f off buffer) h = tt
 sets-after m v (truncate s f n) h = tt
 sets-after m v (delete s f) h = tt

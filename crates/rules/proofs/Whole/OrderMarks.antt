@@ -39,8 +39,8 @@ tally-number : (blocks : ℕ) (c : Call) (ta : Tally) → tallyCall blocks c ta 
 unfolding tallyCall tallyRead tallyTold tallyWrite tallyDelete tallyLeaves tallyGrow tallyCut
 tally-number blocks format ta = refl
 tally-number blocks (create s f) ta = refl
-tally-number blocks (write s f off []) ta = refl
-tally-number blocks (write s f off (x ∷ bs)) ta = refl
+tally-number blocks (write g s f off []) ta = refl
+tally-number blocks (write g s f off (x ∷ bs)) ta = refl
 tally-number blocks (read s f off buffer) ta = refl
 tally-number blocks (truncate s f n) ta = truncate-cases (λ r. r .answer .number ≡ 0) ta s f n (λ e. refl) (λ e. refl) (λ e. refl)
 tally-number blocks (delete s f) ta = refl

@@ -9,16 +9,16 @@ use Rattle.base.specs.Search.{firstFree, searchFrom}
 use Rattle.base.specs.Tabulate.{tab}
 use Rattle.base.specs.Update.{upd}
 use Rattle.rules.specs.Calls.{Result, Store, accepted, blankMemory, created, formatted, made, resultOf, step, worked}
-use Rattle.rules.specs.Numbers.{Answer, conditions, create, lowest, make, numberOf, write}
+use Rattle.rules.specs.Numbers.{Answer, conditions, create, lowest, make, narrowWrite, numberOf}
 use Rattle.rules.specs.Reading.{dependent, dependsOn, needs, reaches, resolve, sizeByReading, someUnmapped, walk}
-use Rattle.rules.specs.Rules.{change, copy, countIn, each, enter, enterAs, from, give, giveAll, givePage, holes, mark, markDown, markFile, ownNeed, pageOf, putEntry, reserve, reserveAs, resize, settle, settleAs, settleFile, supply, takeOwn, touched, writeFile}
+use Rattle.rules.specs.Rules.{change, copy, countIn, each, enter, enterAs, extraPages, from, give, giveAll, givePage, holes, mark, markDown, markFile, ownNeed, pageOf, putEntry, reserve, reserveAs, resize, settle, settleAs, settleFile, supply, takeOwn, touched, writeFile}
 use Rattle.rules.specs.Sets.{appendSet, linkBehind, linkLast, rootAlone}
 use Rattle.rules.specs.State.{Entry, chain, childrenOf, hole, own, pageCount, stored, unmapped, virgin}
 use Rattle.rules.specs.Storage.{Memory, freeBlocks, overlay, real, takeBlock}
 
 -- the definitions that are computed
 unfoldable computed : Unit {0}
-unfolding step resultOf accepted numberOf lowest conditions formatted created made worked writeFile change settle settleFile settleAs each reserve reserveAs takeOwn takeBlock firstFree searchFrom freeBlocks count countIn giveAll givePage give supply mark copy enter enterAs resize pageOf ownNeed touched from resolve sizeByReading walk needs dependent someUnmapped dependsOn reaches markDown markFile holes putEntry overlay upd appendSet linkLast linkBehind rootAlone childrenOf chain tab
+unfolding step resultOf accepted numberOf lowest conditions formatted created made worked writeFile change settle settleFile settleAs each reserve reserveAs takeOwn takeBlock firstFree searchFrom freeBlocks count countIn giveAll givePage extraPages give supply mark copy enter enterAs resize pageOf ownNeed touched from resolve sizeByReading walk needs dependent someUnmapped dependsOn reaches markDown markFile holes putEntry overlay upd appendSet linkLast linkBehind rootAlone childrenOf chain tab
 computed = tt
 
 -- "It formats 64 blocks": the four calls 1000000000000000 2000000004004100 5001000000000000 20000258000A4200
@@ -29,13 +29,13 @@ abbrev first : Result real
 first = step real fresh (create 0 0) (formatted real fresh)
 
 abbrev second : Result real
-second = step real fresh (write 0 0 0 (replicate 1024 65)) (first .store)
+second = step real fresh (narrowWrite 0 0 0 (replicate 1024 65)) (first .store)
 
 abbrev third : Result real
 third = step real fresh (make 0 1 false) (second .store)
 
 abbrev fourth : Result real
-fourth = step real fresh (write 0 0 600 (replicate 10 66)) (third .store)
+fourth = step real fresh (narrowWrite 0 0 600 (replicate 10 66)) (third .store)
 
 abbrev answer : ℕ → ℕ → ℕ → Answer
 answer a b c = record { number = 0; first = a; second = b; third = c }
