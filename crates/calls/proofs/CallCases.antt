@@ -16,7 +16,7 @@ use Rattle.calls.specs.declared.answer.Answer as declared
 abbrev pub onStore : Call → Bool
 onStore format = false
 onStore (create s f) = true
-onStore (write s f off bs) = true
+onStore (write g s f off bs) = true
 onStore (read s f off buffer) = true
 onStore (truncate s f n) = true
 onStore (delete s f) = true
@@ -34,7 +34,7 @@ unformed-number : (v : View) (c : Call) → onStore c ≡ true → v .formed ≡
 unfolding numberOf conditions lowest
 unformed-number v format o h = absurd (true≢false (sym o))
 unformed-number v (create s f) o h = rw h refl
-unformed-number v (write s f off bs) o h = rw h refl
+unformed-number v (write g s f off bs) o h = rw h refl
 unformed-number v (read s f off buffer) o h = rw h refl
 unformed-number v (truncate s f n) o h = rw h refl
 unformed-number v (delete s f) o h = rw h refl
@@ -48,7 +48,7 @@ formed-number : (a b : Bool) (st : Store real) (c : Call) → onStore c ≡ true
 unfolding numberOf conditions
 formed-number a b st format o h = absurd (true≢false (sym o))
 formed-number a b st (create s f) o h = rw h refl
-formed-number a b st (write s f off bs) o h = rw h refl
+formed-number a b st (write g s f off bs) o h = rw h refl
 formed-number a b st (read s f off buffer) o h = rw h refl
 formed-number a b st (truncate s f n) o h = rw h refl
 formed-number a b st (delete s f) o h = rw h refl

@@ -77,20 +77,20 @@ module _ (r : declared.Answer) (t p t′ p′ : List ℕ) (f : ℕ) (k : Totals)
   truncated-as s m n ch = worked-as (truncate s f m) (truncateFile real (treeOf (unpack t .sets)) s m) refl n ch refl
 
   -- WRITE of one byte or more
-  pub written-as : (s off : ℕ) (bytes : List ℕ) → 0 < length bytes → 0 ≡ numberIn t p (write s f off bytes)
-      → Changed t p t′ p′ f startCounts k (writeFile real (treeOf (unpack t .sets)) s off bytes) → outcome r t′ p′ [] ≡ callOn (write s f off bytes) t p
+  pub written-as : (g s off : ℕ) (bytes : List ℕ) → 0 < length bytes → 0 ≡ numberIn t p (write g s f off bytes)
+      → Changed t p t′ p′ f startCounts k (writeFile real (treeOf (unpack t .sets)) g s off bytes) → outcome r t′ p′ [] ≡ callOn (write g s f off bytes) t p
   unfolding acceptedOn accepted
-  written-as s off [] q n ch = absurd (omega (arith, q))
-  written-as s off (x ∷ xs) q n ch = worked-as (write s f off (x ∷ xs)) (writeFile real (treeOf (unpack t .sets)) s off (x ∷ xs)) refl n ch refl
+  written-as g s off [] q n ch = absurd (omega (arith, q))
+  written-as g s off (x ∷ xs) q n ch = worked-as (write g s f off (x ∷ xs)) (writeFile real (treeOf (unpack t .sets)) g s off (x ∷ xs)) refl n ch refl
 
 -- WRITE of no byte: nothing changes
-pub nothing-written : (r : declared.Answer) (t p : List ℕ) → wellFormed t (length p) ≡ true → answerMeant r ≡ refusal 0 → Bytes t → (s f off : ℕ) (bytes : List ℕ)
-    → length bytes ≡ 0 → 0 ≡ numberIn t p (write s f off bytes) → outcome r t p [] ≡ callOn (write s f off bytes) t p
+pub nothing-written : (r : declared.Answer) (t p : List ℕ) → wellFormed t (length p) ≡ true → answerMeant r ≡ refusal 0 → Bytes t → (g s f off : ℕ) (bytes : List ℕ)
+    → length bytes ≡ 0 → 0 ≡ numberIn t p (write g s f off bytes) → outcome r t p [] ≡ callOn (write g s f off bytes) t p
 unfolding acceptedOn accepted
-nothing-written r t p formed a bs s f off [] l n =
+nothing-written r t p formed a bs g s f off [] l n =
     let fs = formed-store t p formed in
-    finished r t p t formed a bs (write s f off []) refl n (done-as t p t (unpack t) (storeOf t p) fs refl refl (sym (pack-unpack t (fs .packed) bs)))
-nothing-written r t p formed a bs s f off (x ∷ xs) l n = absurd (omega (arith, l))
+    finished r t p t formed a bs (write g s f off []) refl n (done-as t p t (unpack t) (storeOf t p) fs refl refl (sym (pack-unpack t (fs .packed) bs)))
+nothing-written r t p formed a bs g s f off (x ∷ xs) l n = absurd (omega (arith, l))
 
 -- WHAT THE WORK ASKS FOR, of a call with number 0
 module _ (t p : List ℕ) where
@@ -103,9 +103,9 @@ module _ (t p : List ℕ) where
   unfolding freeBlocks
   truncate-requires s f m z = let x = passed-truncate (viewOf real true true (storeOf t p)) s f m (sym z) in (x .file, x .set .low, x .set .used, x .end-in, x .room)
 
-  pub write-requires : (s f off : ℕ) (bytes : List ℕ) → 0 ≡ numberIn t p (write s f off bytes)
+  pub write-requires : (g s f off : ℕ) (bytes : List ℕ) → 0 ≡ numberIn t p (write g s f off bytes)
       → (f < 16) × (s < 8) × (unpack t .sets s .used ≡ true) × (off + length bytes ≤ 32768)
       × (ownNeed real s (touched off (length bytes)) (unpack t .files f) ≤ count (unpack t .blocks) (λ b. not (unpack t .bits b)))
   unfolding freeBlocks
-  write-requires s f off bytes z =
-      let x = passed-write (viewOf real true true (storeOf t p)) s f off bytes (sym z) in (x .file, x .set .low, x .set .used, x .end-in, x .room)
+  write-requires g s f off bytes z =
+      let x = passed-write (viewOf real true true (storeOf t p)) g s f off bytes (sym z) in (x .file, x .set .low, x .set .used, x .end-in, x .room)

@@ -1,6 +1,7 @@
 // The calls that change a file: write, truncate, delete.
 ghost use mathlib.Core.List.{[]};
 ghost use mathlib.Core.Path.{_≡_};
+ghost use Prim.Native.Nat.{_<_, _≤_};
 ghost use Rattle.rules.specs.Numbers;
 ghost use Rattle.tables.specs.Calls.{callOn};
 ghost use Rattle.calls.specs.Outcomes.{outcome};
@@ -54,9 +55,18 @@ pub fn truncate(t: &mut [u8], p: &mut [u8], set: u32, file: u32, size: u32) -> A
     }
 }
 
-// "Write": steps 1 to 5; no byte changes nothing.
-pub fn write(t: &mut [u8], p: &mut [u8], set: u32, file: u32, offset: u32, data: &[u8]) -> Answer
-    ensures { λ r. ⌜ outcome r (now (t .exit)) (now (p .exit)) [] ≡ callOn (Numbers.write set file offset (now («data» .entry))) (now (t .entry)) (now (p .entry)) ⌝ }
+// "Write": steps 1 to 5, by groups of so many pages; no byte changes nothing.
+pub fn write(
+    t: &mut [u8],
+    p: &mut [u8],
+    group: usize,
+    set: u32,
+    file: u32,
+    offset: u32,
+    data: &[u8],
+) -> Answer
+    requires { ⌜ (0 < group) × (group ≤ 64) ⌝ }
+    ensures { λ r. ⌜ outcome r (now (t .exit)) (now (p .exit)) [] ≡ callOn (Numbers.write group set file offset (now («data» .entry))) (now (t .entry)) (now (p .entry)) ⌝ }
 {
     if !well_formed(&*t, p.len()) {
         return counts_0(1);
@@ -68,7 +78,15 @@ pub fn write(t: &mut [u8], p: &mut [u8], set: u32, file: u32, offset: u32, data:
     if data.len() == 0 {
         return counts_0(0);
     }
-    let k = write_file(t, p, file as usize, set as usize, offset as usize, data);
+    let k = write_file(
+        t,
+        p,
+        group,
+        file as usize,
+        set as usize,
+        offset as usize,
+        data,
+    );
     Answer {
         number: 0,
         first: k.taken,

@@ -1,5 +1,5 @@
 -- A child's turn for a page is its rule: what the page resolved to is supplied; it does not change what the pages of the set resolve to. Assumes nothing.
-use mathlib.Core.Bool.{false, true}
+use mathlib.Core.Bool.{Bool, cond, false, true}
 use mathlib.Core.List.{List, List·Memᴰ, List·Memᴰ·head, List·Memᴰ·tail, _∷_, []}
 use mathlib.Core.Path.{ap, refl, subst, sym, _∙_, _≡_}
 use Prim.Native.Nat.{_<_, suc, zero, ℕ, _≤_}
@@ -15,7 +15,7 @@ use Rattle.rules.proofs.Blocks.GoodWork.{not-stored}
 use Rattle.rules.proofs.Steps.OneStep.{TreeOk, putEntry-other}
 use Rattle.rules.proofs.Blocks.Tidy.{resolve-named}
 use Rattle.rules.specs.Reading.{needs, reaches, resolve, shownEntry, walk}
-use Rattle.rules.specs.Rules.{Giving, Work, copied, copy, each, give, giveAll, givePage, hand, handed, mark, markDown, markFile, supply}
+use Rattle.rules.specs.Rules.{Giving, Work, copied, copy, each, extra, give, giveAll, givePage, hand, handed, mark, markDown, markFile, supply}
 use Rattle.rules.specs.State.{Entry, File, Files, SetRecord, Tree, chain, childrenOf, hole, isStored, live, stored, treeOf, unmapped}
 use Rattle.rules.specs.Storage.{freeBlocks, real}
 use Rattle.tables.specs.Calls.{pagesOf}
@@ -43,60 +43,69 @@ module _ {t p : List ℕ} {f : ℕ} {k : Counts} (c q b : ℕ) (re : Ready t p f
   unfolding freeBlocks
   free-is h = sym (re .sound .left-is)
 
-  pub supply-mark : {t′ p′ : List ℕ} {k′ : Counts} → k .left ≡ 0 → Step t p t′ p′ f k k′ (mark real (treeOf (unpack t .sets)) c)
-      → Step t p t′ p′ f k k′ (supply real (treeOf (unpack t .sets)) (stored b) c q)
+  -- no block is free: the child's file is marked, or the page stays unmapped
+  supply-full : {t′ p′ : List ℕ} {k′ : Counts} (must : Bool) → k .left ≡ 0 → Step t p t′ p′ f k k′ (λ w. cond must (mark real (treeOf (unpack t .sets)) c w) w)
+      → Step t p t′ p′ f k k′ (supply real (treeOf (unpack t .sets)) must (stored b) c q)
   unfolding supply
-  supply-mark z s =
-      step-as (supply real (treeOf (unpack t .sets)) (stored b) c q)
+  supply-full must z s =
+      step-as (supply real (treeOf (unpack t .sets)) must (stored b) c q)
       (λ h. rw (eq-eqb (real .free (work (unpack t) (pagesOf p) f h k .memory)) 0 (free-is h ∙ z))) s
 
-  pub supply-copy : {t′ p′ : List ℕ} {k′ : Counts} → (k .left ≡ 0 → ⊥) → Step t p t′ p′ f k k′ (copy real (treeOf (unpack t .sets)) b c q)
-      → Step t p t′ p′ f k k′ (supply real (treeOf (unpack t .sets)) (stored b) c q)
+  pub supply-mark : {t′ p′ : List ℕ} {k′ : Counts} (must : Bool) → must ≡ true → k .left ≡ 0 → Step t p t′ p′ f k k′ (mark real (treeOf (unpack t .sets)) c)
+      → Step t p t′ p′ f k k′ (supply real (treeOf (unpack t .sets)) must (stored b) c q)
+  supply-mark must e z s = supply-full must z (step-as (λ w. cond must (mark real (treeOf (unpack t .sets)) c w) w) (λ h. rw e) s)
+
+  pub supply-leave : (must : Bool) → must ≡ false → k .left ≡ 0 → Step t p t p f k k (supply real (treeOf (unpack t .sets)) must (stored b) c q)
+  supply-leave must e z = supply-full must z (step-as (λ w. cond must (mark real (treeOf (unpack t .sets)) c w) w) (λ h. rw e) (step-none re))
+
+  pub supply-copy : {t′ p′ : List ℕ} {k′ : Counts} (must : Bool) → (k .left ≡ 0 → ⊥) → Step t p t′ p′ f k k′ (copy real (treeOf (unpack t .sets)) b c q)
+      → Step t p t′ p′ f k k′ (supply real (treeOf (unpack t .sets)) must (stored b) c q)
   unfolding supply
-  supply-copy z s =
-      step-as (supply real (treeOf (unpack t .sets)) (stored b) c q)
+  supply-copy must z s =
+      step-as (supply real (treeOf (unpack t .sets)) must (stored b) c q)
       (λ h. rw (ne-eqb (real .free (work (unpack t) (pagesOf p) f h k .memory)) 0 (λ e. z (sym (free-is h) ∙ e)))) s
 
-pub supply-none : {t p : List ℕ} {f : ℕ} {k : Counts} (c q : ℕ) → Ready t p f k → Step t p t p f k k (supply real (treeOf (unpack t .sets)) unmapped c q)
+pub supply-none : {t p : List ℕ} {f : ℕ} {k : Counts} (must : Bool) (c q : ℕ) → Ready t p f k → Step t p t p f k k (supply real (treeOf (unpack t .sets)) must unmapped c q)
 unfolding supply
-supply-none c q re = step-none re
+supply-none must c q re = step-none re
 
-pub supply-hole : {t p t′ : List ℕ} {f : ℕ} {k : Counts} (c q : ℕ) → Ready t p f k → Turns t t′ (putEntryIn f c q hole) → Step t p t′ p f k k (supply real (treeOf (unpack t .sets)) hole c q)
+pub supply-hole : {t p t′ : List ℕ} {f : ℕ} {k : Counts} (must : Bool) (c q : ℕ) → Ready t p f k → Turns t t′ (putEntryIn f c q hole)
+    → Step t p t′ p f k k (supply real (treeOf (unpack t .sets)) must hole c q)
 unfolding supply
-supply-hole {f} c q re u = entered f c q hole u re (λ b e. absurd (not-stored hole b refl e))
+supply-hole {f} must c q re u = entered f c q hole u re (λ b e. absurd (not-stored hole b refl e))
 
-pub supply-as : {t p t′ p′ : List ℕ} {f : ℕ} {k k′ : Counts} (c q : ℕ) (e e′ : Entry ℕ) → e′ ≡ e → Step t p t′ p′ f k k′ (supply real (treeOf (unpack t .sets)) e c q)
-    → Step t p t′ p′ f k k′ (supply real (treeOf (unpack t .sets)) e′ c q)
-supply-as {t} {p} {t′} {p′} {f} {k} {k′} c q e e′ h s = subst (λ (x : Entry ℕ). Step t p t′ p′ f k k′ (supply real (treeOf (unpack t .sets)) x c q)) (sym h) s
+pub supply-as : {t p t′ p′ : List ℕ} {f : ℕ} {k k′ : Counts} (must : Bool) (c q : ℕ) (e e′ : Entry ℕ) → e′ ≡ e → Step t p t′ p′ f k k′ (supply real (treeOf (unpack t .sets)) must e c q)
+    → Step t p t′ p′ f k k′ (supply real (treeOf (unpack t .sets)) must e′ c q)
+supply-as {t} {p} {t′} {p′} {f} {k} {k′} must c q e e′ h s = subst (λ (x : Entry ℕ). Step t p t′ p′ f k k′ (supply real (treeOf (unpack t .sets)) must x c q)) (sym h) s
 
 -- ---- a turn
 
-module _ {t p : List ℕ} {f : ℕ} {k : Counts} (e : Entry ℕ) (q c : ℕ) where
-  pub give-not : Ready t p f k → needs (unpack t .files f) c q ≡ false → Step t p t p f k k (giveAs (treeOf (unpack t .sets)) e q c)
-  give-not re n = step-as (giveAs (treeOf (unpack t .sets)) e q c) (λ h. rw n) (step-none re)
+module _ {t p : List ℕ} {f : ℕ} {k : Counts} (must : Bool) (e : Entry ℕ) (q c : ℕ) where
+  pub give-not : Ready t p f k → needs (unpack t .files f) c q ≡ false → Step t p t p f k k (giveAs (treeOf (unpack t .sets)) must e q c)
+  give-not re n = step-as (giveAs (treeOf (unpack t .sets)) must e q c) (λ h. rw n) (step-none re)
 
-  pub give-so : {t′ p′ : List ℕ} {k′ : Counts} → needs (unpack t .files f) c q ≡ true → Step t p t′ p′ f k k′ (supply real (treeOf (unpack t .sets)) e c q)
-      → Step t p t′ p′ f k k′ (giveAs (treeOf (unpack t .sets)) e q c)
-  give-so nd x = step-as (giveAs (treeOf (unpack t .sets)) e q c) (λ h. rw nd) x
+  pub give-so : {t′ p′ : List ℕ} {k′ : Counts} → needs (unpack t .files f) c q ≡ true → Step t p t′ p′ f k k′ (supply real (treeOf (unpack t .sets)) must e c q)
+      → Step t p t′ p′ f k k′ (giveAs (treeOf (unpack t .sets)) must e q c)
+  give-so nd x = step-as (giveAs (treeOf (unpack t .sets)) must e q c) (λ h. rw nd) x
 
 -- ---- a turn does not change what the pages of set s resolve to
 
-module _ (tr : Tree) (c : ℕ) where
+module _ (tr : Tree) (must : Bool) (c : ℕ) where
   mark-map : (files : Files ℕ) (x : ℕ) → markDown tr files c x .map ≡ files x .map
   unfolding markDown markFile
   mark-map files x = test? (reaches tr files c x) (λ e. rw e) (λ e. rw e)
 
-  supply-others : (e : Entry ℕ) (q : ℕ) (w : Work real) (x : ℕ) → (c ≡ x → ⊥) → supply real tr e c q w .files x .map ≡ w .files x .map
+  supply-others : (e : Entry ℕ) (q : ℕ) (w : Work real) (x : ℕ) → (c ≡ x → ⊥) → supply real tr must e c q w .files x .map ≡ w .files x .map
   unfolding supply mark copy
   supply-others unmapped q w x n = refl
   supply-others hole q w x n = ap (λ (y : File ℕ). y .map) (putEntry-other (w .files) c q hole x n)
   supply-others (stored b) q w x n =
       test? (eqb (real .free (w .memory)) 0)
-      (λ e. rw e (mark-map (w .files) x))
+      (λ e. rw e (test? must (λ d. rw d (mark-map (w .files) x)) (λ d. rw d)))
       (λ e. rw e (ap (λ (y : File ℕ). y .map) (putEntry-other (w .files) c q _ x n)))
 
   -- no other file's map changes
-  give-others : (s q : ℕ) (w : Work real) (x : ℕ) → (c ≡ x → ⊥) → give real tr s q c w .files x .map ≡ w .files x .map
+  give-others : (s q : ℕ) (w : Work real) (x : ℕ) → (c ≡ x → ⊥) → give real tr must s q c w .files x .map ≡ w .files x .map
   unfolding give
   give-others s q w x n = test? (needs (w .files) c q) (λ e. rw e (supply-others (resolve tr (w .files) s q) q w x n)) (λ e. rw e)
 
@@ -110,24 +119,24 @@ module _ (tr : Tree) (c : ℕ) where
         rw (same x (λ d. let z : tr .level c ≡ tr .level x = ap (tr .level) d in omega arith), walk-same n (tr .parent x) (ok .lower x n e) (omega arith))
 
   -- LAW: a child's turn
-  pub give-shown : TreeOk tr → (s q : ℕ) → List·Memᴰ c (tr .children s) → (w : Work real) (x : ℕ) → resolve tr (give real tr s q c w .files) s x ≡ resolve tr (w .files) s x
+  pub give-shown : TreeOk tr → (s q : ℕ) → List·Memᴰ c (tr .children s) → (w : Work real) (x : ℕ) → resolve tr (give real tr must s q c w .files) s x ≡ resolve tr (w .files) s x
   unfolding resolve
   give-shown ok s q m w x =
       let l = ok .kid-lvl s c m in
-      walk-same ok (w .files) (give real tr s q c w .files) (λ y n. give-others s q w y n) x (tr .level s) s refl (omega arith)
+      walk-same ok (w .files) (give real tr must s q c w .files) (λ y n. give-others s q w y n) x (tr .level s) s refl (omega arith)
 
 -- LAW: turns for what page q of set s resolves to, of some of its children, are the rule's
-pub given-as : (tr : Tree) → TreeOk tr → (s q : ℕ) (e : Entry ℕ) (cs : List ℕ) → ((x : ℕ) → List·Memᴰ x cs → List·Memᴰ x (tr .children s)) → (w : Work real) → resolve tr (w .files) s q ≡ e
-    → each (giveAs tr e q) cs w ≡ each (give real tr s q) cs w
+pub given-as : (tr : Tree) (must : Bool) → TreeOk tr → (s q : ℕ) (e : Entry ℕ) (cs : List ℕ) → ((x : ℕ) → List·Memᴰ x cs → List·Memᴰ x (tr .children s)) → (w : Work real) → resolve tr (w .files) s q ≡ e
+    → each (giveAs tr must e q) cs w ≡ each (give real tr must s q) cs w
 unfolding each give
-given-as tr ok s q e [] within w h = refl
-given-as tr ok s q e (c ∷ cs) within w h =
-    ap (λ (y : Entry ℕ). each (giveAs tr e q) cs (giveAs tr y q c w)) (sym h)
-    ∙ given-as tr ok s q e cs (λ x m. within x (List·Memᴰ·tail m)) (give real tr s q c w) (give-shown tr c ok s q (within c (List·Memᴰ·head refl)) w q ∙ h)
+given-as tr must ok s q e [] within w h = refl
+given-as tr must ok s q e (c ∷ cs) within w h =
+    ap (λ (y : Entry ℕ). each (giveAs tr must e q) cs (giveAs tr must y q c w)) (sym h)
+    ∙ given-as tr must ok s q e cs (λ x m. within x (List·Memᴰ·tail m)) (give real tr must s q c w) (give-shown tr must c ok s q (within c (List·Memᴰ·head refl)) w q ∙ h)
 
 -- a set's turn for page q, which resolves to e
-abbrev pub givingAs : Entry ℕ → ℕ → (ℕ → SetRecord) → ℕ → Work real → Work real
-givingAs e q sets = giveAs (treeOf sets) e q
+abbrev pub givingAs : Bool → Entry ℕ → ℕ → (ℕ → SetRecord) → ℕ → Work real → Work real
+givingAs must e q sets = giveAs (treeOf sets) must e q
 
 -- LAW: the block of a page is one of the store, whatever has been done
 pub below-same : {t₀ p₀ t p : List ℕ} {f : ℕ} {k₀ k : Counts} {op todo : Work real → Work real} {e : Entry ℕ} → Going t₀ p₀ t p f k₀ k op todo → ((b : ℕ) → e ≡ stored b → b < unpack t₀ .blocks)
@@ -148,6 +157,7 @@ no-children sets s c h l = children-are sets s c h ∙ rw (le-ltb c 8 l)
 page-none : (tr : Tree) (how : Giving) (s : ℕ) → tr .children s ≡ [] → (q : ℕ) (w : Work real) → givePage real tr how s q w ≡ w
 unfolding givePage hand each
 page-none tr copied s e q w = rw e
+page-none tr extra s e q w = rw e
 page-none tr handed s e q w = test? (isStored (w .files s .map q)) (λ d. rw (d, e)) (λ d. rw (d, e))
 
 -- LAW: set s has no child

@@ -9,7 +9,7 @@ use Rattle.base.specs.Count.{count}
 use Rattle.base.specs.Update.{upd}
 use Rattle.rules.proofs.Steps.OneStep.{TreeOk}
 use Rattle.rules.specs.Reading.{needs, resolve}
-use Rattle.rules.specs.Rules.{Giving, Work, copied, each, giveAll, handOver, handed, settle, supply}
+use Rattle.rules.specs.Rules.{Giving, Work, copied, each, extra, giveAll, handOver, handed, settle, supply}
 use Rattle.rules.specs.State.{Entry, Files, SetRecord, Tables, Tree, absentFile, chain, live, stored, treeOf}
 use Rattle.rules.specs.Storage.{Memory, PageData, real}
 use Rattle.tables.specs.Calls.{pagesOf}
@@ -17,6 +17,8 @@ use Rattle.tables.specs.Packed.{unpack}
 use Rattle.tables.specs.Views.{HeaderIn, PackedTables, entriesOf, memoryOf}
 use Rattle.tables.specs.declared.entries.Kept.{Kept}
 use Rattle.copying.specs.declared.giving.Counts.{Counts}
+use Rattle.copying.specs.declared.giving.How.{How}
+use Rattle.copying.specs.declared.giving.How.the-variants.{Copied, Extra, Handed}
 
 -- the work on files x of one number, with the blocks pending h
 abbrev pub workOf : Memory → Files ℕ → (ℕ → Entry ℕ) → Counts → Work real
@@ -83,13 +85,13 @@ onFiles g w = record { memory = w .memory; files = g (w .files); pending = w .pe
 abbrev pub settleChildren : (ℕ → SetRecord) → ℕ → Work real → Work real
 settleChildren sets s = each (settle real (treeOf sets)) (treeOf sets .children s)
 
--- child c's turn for page q, which resolves to e
-abbrev pub giveAs : Tree → Entry ℕ → ℕ → ℕ → Work real → Work real
-giveAs t e q c w = cond (needs (w .files) c q) (supply real t e c q w) w
+-- child c's turn for page q, which resolves to e; must: it is a needed copy
+abbrev pub giveAs : Tree → Bool → Entry ℕ → ℕ → ℕ → Work real → Work real
+giveAs t must e q c w = cond (needs (w .files) c q) (supply real t must e c q w) w
 
 -- the turns of set c and the sets behind it in its chain, n at most
-abbrev pub giveChain : (ℕ → SetRecord) → Entry ℕ → ℕ → ℕ → ℕ → Work real → Work real
-giveChain sets e q n c = each (giveAs (treeOf sets) e q) (chain sets n c)
+abbrev pub giveChain : (ℕ → SetRecord) → Bool → Entry ℕ → ℕ → ℕ → ℕ → Work real → Work real
+giveChain sets must e q n c = each (giveAs (treeOf sets) must e q) (chain sets n c)
 
 -- set s is in use, and c is its first child, or none
 pub record FirstChild (sets : ℕ → SetRecord) (s c : ℕ) : Type 0 where
@@ -100,14 +102,31 @@ pub record FirstChild (sets : ℕ → SetRecord) (s c : ℕ) : Type 0 where
 abbrev pub handIf : Tree → ℕ → ℕ → ℕ → Work real → Work real
 handIf t s q c w = cond (ltb c 8) (handOver real t s q c w) w
 
--- how pages are given: handed over, or copied
-abbrev pub givingOf : Bool → Giving
-givingOf true = handed
-givingOf false = copied
+-- how the code gives pages
+abbrev pub givingOf : How → Giving
+givingOf Copied = copied
+givingOf Handed = handed
+givingOf Extra = extra
+
+-- is a page so given dropped whole, and so handed over where the file's own map stores it
+abbrev pub handedBy : How → Bool
+handedBy Copied = false
+handedBy Handed = true
+handedBy Extra = false
+
+-- is it a touched one
+abbrev pub touchedBy : How → Bool
+touchedBy Copied = true
+touchedBy Handed = true
+touchedBy Extra = false
 
 -- step 4: the pages ps of set s are copied, then the pages ds handed over
 abbrev pub giveBoth : (ℕ → SetRecord) → ℕ → List ℕ → List ℕ → Work real → Work real
 giveBoth sets s ps ds w = giveAll real (treeOf sets) handed s ds (giveAll real (treeOf sets) copied s ps w)
+
+-- step 4 of a write, and after it: the pages ps of set s are copied, then the extra pages es, each copy only if a block is free
+abbrev pub giveGroups : (ℕ → SetRecord) → ℕ → List ℕ → List ℕ → Work real → Work real
+giveGroups sets s ps es w = giveAll real (treeOf sets) extra s es (giveAll real (treeOf sets) copied s ps w)
 
 -- what page q of file f resolves to in set s
 abbrev pub shown : List ℕ → ℕ → ℕ → ℕ → Entry ℕ

@@ -1,8 +1,10 @@
 // Step 4: "For each touched page ascending, for each child in order of making that needs it"; and of pages dropped whole: "the
-// first child that needs it takes over the block itself. Other children needing it still get copies."
-ghost use mathlib.Core.Path.{_≡_};
+// first child that needs it takes over the block itself. Other children needing it still get copies." After it the extra pages of
+// a write, "ascending, children in order of making, with the same copying".
 ghost use mathlib.Core.Bool.{_&&_, true};
-ghost use Prim.Native.Nat.{ℕ, _+_, _<_, _≤_};
+ghost use mathlib.Core.List.{_++_};
+ghost use mathlib.Core.Path.{_≡_};
+ghost use Prim.Native.Nat.{ℕ, _+_, _-_, _<_, _≤_};
 ghost use lib.ListN.{length};
 ghost use Rattle.rules.specs.Rules as Rules;
 ghost use Rattle.rules.specs.State.{isStored, live, stored, treeOf};
@@ -11,7 +13,7 @@ ghost use Rattle.tables.specs.Layout.{tableBytes};
 ghost use Rattle.tables.specs.Packed.{unpack};
 ghost use Rattle.tables.specs.Meaning.{entryMeant};
 ghost use Rattle.tables.specs.Views.{PackedTables};
-ghost use Rattle.copying.specs.Work.{Alone, FirstChild, Ready, ShownKept, Step, giveAs, giveBoth, giveChain, givingOf, handIf, shown};
+ghost use Rattle.copying.specs.Work.{Alone, FirstChild, Ready, ShownKept, Step, giveAs, giveBoth, giveChain, giveGroups, givingOf, handIf, handedBy, shown, touchedBy};
 ghost use Rattle.copying.specs.Heirs.{TurnsFound};
 use crate::marking;
 use maps::resolving;
@@ -54,7 +56,16 @@ fn copy_to(
     }
 }
 
-// A stored page for set c: copied, or "with none free, the child's file is marked".
+// How pages are given to the children that need them: copied; handed over, to the first of them, where the file's own map stores
+// the page, and copied for the others; or, as extra pages, copied where a block is free and else left.
+enum How {
+    Copied,
+    Handed,
+    Extra,
+}
+
+// A stored page for set c: copied; or "with none free, the child's file is marked", where it must be copied. An extra page "stays
+// unmapped".
 fn give_block(
     t: &mut [u8],
     p: &mut [u8],
@@ -62,12 +73,16 @@ fn give_block(
     c: usize,
     page: Page,
     b: Block,
+    must: bool,
     k: Counts,
 ) -> Counts
     requires { ⌜ Ready (now t) (now p) f k × (c < 8) × (page .0 < 64) × (b .0 < unpack (now t) .blocks) × (live (unpack (now t) .files f c .state) ≡ true) ⌝ }
-    ensures { λ r. ⌜ Step (now (t .entry)) (now (p .entry)) (now (t .exit)) (now (p .exit)) f k r (Rules.supply real (treeOf (unpack (now (t .entry)) .sets)) (stored (b .0)) c (page .0)) ⌝ }
+    ensures { λ r. ⌜ Step (now (t .entry)) (now (p .entry)) (now (t .exit)) (now (p .exit)) f k r (Rules.supply real (treeOf (unpack (now (t .entry)) .sets)) must (stored (b .0)) c (page .0)) ⌝ }
 {
     if k.left == 0 {
+        if !must {
+            return k;
+        }
         let n = marking::mark_down(t, f, c);
         return Counts {
             taken: k.taken,
@@ -80,9 +95,18 @@ fn give_block(
 }
 
 // What a page resolved to, for set c.
-fn supply(t: &mut [u8], p: &mut [u8], f: usize, c: usize, page: Page, e: Entry, k: Counts) -> Counts
+fn supply(
+    t: &mut [u8],
+    p: &mut [u8],
+    f: usize,
+    c: usize,
+    page: Page,
+    e: Entry,
+    must: bool,
+    k: Counts,
+) -> Counts
     requires { ⌜ Ready (now t) (now p) f k × (c < 8) × (page .0 < 64) × ((b : ℕ) → entryMeant e ≡ stored b → b < unpack (now t) .blocks) × (live (unpack (now t) .files f c .state) ≡ true) ⌝ }
-    ensures { λ r. ⌜ Step (now (t .entry)) (now (p .entry)) (now (t .exit)) (now (p .exit)) f k r (Rules.supply real (treeOf (unpack (now (t .entry)) .sets)) (entryMeant e) c (page .0)) ⌝ }
+    ensures { λ r. ⌜ Step (now (t .entry)) (now (p .entry)) (now (t .exit)) (now (p .exit)) f k r (Rules.supply real (treeOf (unpack (now (t .entry)) .sets)) must (entryMeant e) c (page .0)) ⌝ }
 {
     match e {
         Entry::Unmapped => k,
@@ -90,19 +114,28 @@ fn supply(t: &mut [u8], p: &mut [u8], f: usize, c: usize, page: Page, e: Entry, 
             entries::put_entry(t, f, c, page, Entry::Hole);
             k
         }
-        Entry::Stored(b) => give_block(t, p, f, c, page, b, k),
+        Entry::Stored(b) => give_block(t, p, f, c, page, b, must, k),
     }
 }
 
 // Child c's turn for a page that resolves to e.
-fn give(t: &mut [u8], p: &mut [u8], f: usize, page: Page, e: Entry, c: usize, k: Counts) -> Counts
+fn give(
+    t: &mut [u8],
+    p: &mut [u8],
+    f: usize,
+    page: Page,
+    e: Entry,
+    c: usize,
+    must: bool,
+    k: Counts,
+) -> Counts
     requires { ⌜ Ready (now t) (now p) f k × (page .0 < 64) × ((b : ℕ) → entryMeant e ≡ stored b → b < unpack (now t) .blocks) × (c < 8) ⌝ }
-    ensures { λ r. ⌜ Step (now (t .entry)) (now (p .entry)) (now (t .exit)) (now (p .exit)) f k r (giveAs (treeOf (unpack (now (t .entry)) .sets)) (entryMeant e) (page .0) c) ⌝ }
+    ensures { λ r. ⌜ Step (now (t .entry)) (now (p .entry)) (now (t .exit)) (now (p .exit)) f k r (giveAs (treeOf (unpack (now (t .entry)) .sets)) must (entryMeant e) (page .0) c) ⌝ }
 {
     if !maps::marking::needs(&*t, f, c, page) {
         return k;
     }
-    supply(t, p, f, c, page, e, k)
+    supply(t, p, f, c, page, e, must, k)
 }
 
 // The turns of set `first` and the sets behind it in its chain, `most` at most, for a page that resolves to e.
@@ -114,10 +147,11 @@ fn give_chain(
     e: Entry,
     first: usize,
     most: usize,
+    must: bool,
     k: Counts,
 ) -> Counts
     requires { ⌜ Ready (now t) (now p) f k × (page .0 < 64) × ((b : ℕ) → entryMeant e ≡ stored b → b < unpack (now t) .blocks) × (most ≤ 8) ⌝ }
-    ensures { λ r. ⌜ Step (now (t .entry)) (now (p .entry)) (now (t .exit)) (now (p .exit)) f k r (giveChain (unpack (now (t .entry)) .sets) (entryMeant e) (page .0) most first) ⌝ }
+    ensures { λ r. ⌜ Step (now (t .entry)) (now (p .entry)) (now (t .exit)) (now (p .exit)) f k r (giveChain (unpack (now (t .entry)) .sets) must (entryMeant e) (page .0) most first) ⌝ }
 {
     let mut w = k;
     let mut c = first;
@@ -126,7 +160,7 @@ fn give_chain(
         if 8 <= c {
             return w;
         }
-        w = give(t, p, f, page, e, c, w);
+        w = give(t, p, f, page, e, c, must, w);
         c = sets::next_sibling_of(&*t, c);
         n -= 1;
     }
@@ -141,15 +175,27 @@ struct InTurn {
     most: usize,
 }
 
-// Is a page of set s handed over, where pages are: is it "stored in the file's own map"?
-fn is_handed(t: &[u8], f: usize, s: usize, page: Page, hands: bool) -> bool
-    requires { ⌜ (length (now t) ≡ tableBytes) × (f < 16) × (s < 8) × (page .0 < 64) ⌝ }
-    ensures { λ r. ⌜ r ≡ (hands && isStored (unpack (now (t .entry)) .files f s .map (page .0))) ⌝ }
+// Is a page so given a touched one, and so a copy of it a needed copy?
+fn is_touched(how: How) -> bool
+    ensures { λ r. ⌜ r ≡ touchedBy how ⌝ }
 {
-    if !hands {
-        return false;
+    match how {
+        How::Copied => true,
+        How::Handed => true,
+        How::Extra => false,
     }
-    entries::is_stored(entries::entry_at(t, f, s, page))
+}
+
+// Is a page of set s handed over, where pages are: is it "stored in the file's own map"?
+fn is_handed(t: &[u8], f: usize, s: usize, page: Page, how: How) -> bool
+    requires { ⌜ (length (now t) ≡ tableBytes) × (f < 16) × (s < 8) × (page .0 < 64) ⌝ }
+    ensures { λ r. ⌜ r ≡ (handedBy how && isStored (unpack (now (t .entry)) .files f s .map (page .0))) ⌝ }
+{
+    match how {
+        How::Copied => false,
+        How::Handed => entries::is_stored(entries::entry_at(t, f, s, page)),
+        How::Extra => false,
+    }
 }
 
 // The heir is the first of set `child` and the sets behind it in its chain that needs the page; those behind the heir have turns.
@@ -222,15 +268,15 @@ fn give_page(
     page: Page,
     e: Entry,
     child: usize,
-    hands: bool,
+    how: How,
     k: Counts,
 ) -> Counts
     requires { ⌜ Ready (now t) (now p) f k × (s < 8) × (page .0 < 64) × FirstChild (unpack (now t) .sets) s child × (entryMeant e ≡ shown (now t) f s (page .0)) ⌝ }
-    ensures { λ r. ⌜ Step (now (t .entry)) (now (p .entry)) (now (t .exit)) (now (p .exit)) f k r (Rules.givePage real (treeOf (unpack (now (t .entry)) .sets)) (givingOf hands) s (page .0)) ⌝ }
+    ensures { λ r. ⌜ Step (now (t .entry)) (now (p .entry)) (now (t .exit)) (now (p .exit)) f k r (Rules.givePage real (treeOf (unpack (now (t .entry)) .sets)) (givingOf how) s (page .0)) ⌝ }
 {
-    let over = is_handed(&*t, f, s, page, hands);
+    let over = is_handed(&*t, f, s, page, how);
     let r = in_turn(&*t, f, page, child, over);
-    let w = give_chain(t, p, f, page, e, r.next, r.most, k);
+    let w = give_chain(t, p, f, page, e, r.next, r.most, is_touched(how), k);
     hand_over(t, f, s, page, e, r.heir);
     w
 }
@@ -245,18 +291,18 @@ fn give_pages(
     first: usize,
     m: usize,
     child: usize,
-    hands: bool,
+    how: How,
     k: Counts,
 ) -> Counts
     requires { ⌜ Ready (now t) (now p) f k × (s < 8) × (first + m ≤ 64) × FirstChild (unpack (now t) .sets) s child × (length kept ≡ 64) × ShownKept kept (now t) f s first m ⌝ }
-    ensures { λ r. ⌜ Step (now (t .entry)) (now (p .entry)) (now (t .exit)) (now (p .exit)) f k r (Rules.giveAll real (treeOf (unpack (now (t .entry)) .sets)) (givingOf hands) s (Rules.from first m)) ⌝ }
+    ensures { λ r. ⌜ Step (now (t .entry)) (now (p .entry)) (now (t .exit)) (now (p .exit)) f k r (Rules.giveAll real (treeOf (unpack (now (t .entry)) .sets)) (givingOf how) s (Rules.from first m)) ⌝ }
 {
     let mut w = k;
     let mut q = first;
     let mut n = m;
     while 0 < n {
         let x = kept[q];
-        w = give_page(t, p, f, s, Page::new(q), x.entry(), child, hands, w);
+        w = give_page(t, p, f, s, Page::new(q), x.entry(), child, how, w);
         q += 1;
         n -= 1;
     }
@@ -284,6 +330,44 @@ pub fn give_all(
     }
     let r = resolving::resolve_range(&*t, f, s, first, m + d);
     let kept = r.kept;
-    let a = give_pages(t, p, kept, f, s, first, m, child, false, k);
-    give_pages(t, p, kept, f, s, first + m, d, child, true, a)
+    let a = give_pages(t, p, kept, f, s, first, m, child, How::Copied, k);
+    give_pages(t, p, kept, f, s, first + m, d, child, How::Handed, a)
+}
+
+// The whole step of a write, and then the extra pages: m pages of set s from page number `first` on are copied; then those from `lo` up to
+// them and those behind them up to `hi`, each copy only if a block is free.
+pub fn give_groups(
+    t: &mut [u8],
+    p: &mut [u8],
+    f: usize,
+    s: usize,
+    lo: usize,
+    first: usize,
+    m: usize,
+    hi: usize,
+    k: Counts,
+) -> Counts
+    requires { ⌜ Ready (now t) (now p) f k × (s < 8) × (lo ≤ first) × (first + m ≤ hi) × (hi ≤ 64) × (unpack (now t) .sets s .used ≡ true) ⌝ }
+    ensures { λ r. ⌜ Step (now (t .entry)) (now (p .entry)) (now (t .exit)) (now (p .exit)) f k r (giveGroups (unpack (now (t .entry)) .sets) s (Rules.from first m) (Rules.from lo (first - lo) ++ Rules.from (first + m) (hi - (first + m)))) ⌝ }
+{
+    let child = sets::first_child_of(&*t, s);
+    if 7 < child {
+        return k;
+    }
+    let r = resolving::resolve_range(&*t, f, s, lo, hi - lo);
+    let kept = r.kept;
+    let a = give_pages(t, p, kept, f, s, first, m, child, How::Copied, k);
+    let b = give_pages(t, p, kept, f, s, lo, first - lo, child, How::Extra, a);
+    give_pages(
+        t,
+        p,
+        kept,
+        f,
+        s,
+        first + m,
+        hi - (first + m),
+        child,
+        How::Extra,
+        b,
+    )
 }

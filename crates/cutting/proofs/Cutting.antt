@@ -35,7 +35,7 @@ use Rattle.tables.specs.declared.entries.Pending.{Pending}
 module _ {t t₁ t₂ t₃ : List ℕ} {f : ℕ} (s n : ℕ) (a : Turns t t₁ (settled f s)) (b : Alone t₁ t₂ f (settleChildren (unpack t₁ .sets) s))
     (g : OnTables t₂ t₃ f (resize real (treeOf (unpack t₂ .sets)) s n)) where
   -- LAW
-  pub grown : ChangedAlone t t₃ f (change real (treeOf (unpack t .sets)) s [] [] [] (λ q v. v) (λ m. n))
+  pub grown : ChangedAlone t t₃ f (change real (treeOf (unpack t .sets)) s [] [] [] [] (λ q v. v) (λ m. n))
   unfolding change each giveAll
   grown p k re =
       let h : ℕ → Entry ℕ = λ q. unmapped in
@@ -56,12 +56,12 @@ module _ {t p t₁ t₂ t₃ p₃ t₄ t₅ : List ℕ} {f : ℕ} {k k₁ : Coun
       (did-then (λ S. giveBoth S s (from q m) (from (q + m) d)) (both-did s re a b h) (did-step h c)) (did-tables p₃ h k₁ e)) (did-tables p₃ h k₁ g)
 
   is-away : (tree : Tree) (w : Work real)
-      → resize real tree s n (each (dropPage real tree s) (from (q + m) d) (giveAll real tree handed s (from (q + m) d) (giveAll real tree copied s (from q m) (each (settle real tree) (tree .children s) (settle real tree s w))))) ≡ change real tree s (from q m) [] (from (q + m) d) (λ i. zeroFrom (n % 512)) (λ i. n) w
-  unfolding change each
+      → resize real tree s n (each (dropPage real tree s) (from (q + m) d) (giveAll real tree handed s (from (q + m) d) (giveAll real tree copied s (from q m) (each (settle real tree) (tree .children s) (settle real tree s w))))) ≡ change real tree s (from q m) [] (from (q + m) d) [] (λ i. zeroFrom (n % 512)) (λ i. n) w
+  unfolding change each giveAll
   is-away tree w = refl
 
   -- LAW
-  pub cut-away : Changed t p t₅ p₃ f k (totalsOf k₁) (change real (treeOf (unpack t .sets)) s (from q m) [] (from (q + m) d) (λ i. zeroFrom (n % 512)) (λ i. n))
+  pub cut-away : Changed t p t₅ p₃ f k (totalsOf k₁) (change real (treeOf (unpack t .sets)) s (from q m) [] (from (q + m) d) [] (λ i. zeroFrom (n % 512)) (λ i. n))
   cut-away = record {
     pending = λ q. unmapped;
     same = away .same;
@@ -88,12 +88,12 @@ module _ {t p t₁ t₂ t₃ t₄ p₄ t₅ p₅ t₆ t₇ : List ℕ} {l₀ l :
 
   is-kept : (tree : Tree) (w : Work real)
       → resize real tree s n (each (dropPage real tree s) (from (q + 1) d) (enter real tree s lay q (giveAll real tree handed s (from (q + 1) d) (giveAll real tree copied s (from q 1) (each (reserve real tree s) (from q 1) (each (settle real tree) (tree .children s) (settle real tree s w)))))))
-      ≡ change real tree s (from q 1) (from q 1) (from (q + 1) d) lay (λ i. n) w
-  unfolding change each from
+      ≡ change real tree s (from q 1) (from q 1) (from (q + 1) d) [] lay (λ i. n) w
+  unfolding change each from giveAll
   is-kept tree w = refl
 
   -- LAW
-  pub cut-kept : Changed t p t₇ p₅ f k (totalsOf k₂) (change real (treeOf (unpack t .sets)) s (from q 1) (from q 1) (from (q + 1) d) lay (λ i. n))
+  pub cut-kept : Changed t p t₇ p₅ f k (totalsOf k₂) (change real (treeOf (unpack t .sets)) s (from q 1) (from q 1) (from (q + 1) d) [] lay (λ i. n))
   cut-kept =
       let tree = treeOf (unpack t .sets) in
       record {
@@ -104,7 +104,7 @@ module _ {t p t₁ t₂ t₃ t₄ p₄ t₅ p₅ t₆ t₇ : List ℕ} {l₀ l :
             ∙ ap (λ y. resize real tree s n (each (dropPage real tree s) (from (q + 1) d) (enter real tree s lay y
             (giveBoth (unpack t .sets) s (from q 1) (from (q + 1) d) (each (reserve real tree s) (from q 1) (settleBoth s (unpack t .sets) (work (unpack t) (pagesOf p) f (pendingOf l₀) k))))))) ex
             ∙ is-kept tree (work (unpack t) (pagesOf p) f (pendingOf l₀) k)
-            ∙ ap (λ (h : ℕ → Entry ℕ). change real tree s (from q 1) (from q 1) (from (q + 1) d) lay (λ i. n) (work (unpack t) (pagesOf p) f h k)) (ap pendingOf el ∙ none-pending);
+            ∙ ap (λ (h : ℕ → Entry ℕ). change real tree s (from q 1) (from q 1) (from (q + 1) d) [] lay (λ i. n) (work (unpack t) (pagesOf p) f h k)) (ap pendingOf el ∙ none-pending);
         packed = z .packed;
       }
 
@@ -145,7 +145,7 @@ module _ (n z : ℕ) where
 
 -- other lists of pages, the same
 pub changed-pages : {t p t′ p′ : List ℕ} {f : ℕ} {k : Counts} {r : Totals} (s n : ℕ) (lay : ℕ → PageData → PageData) (ps ps′ rs rs′ ds ds′ : List ℕ) → ps′ ≡ ps → rs′ ≡ rs → ds′ ≡ ds
-    → Changed t p t′ p′ f k r (change real (treeOf (unpack t .sets)) s ps rs ds lay (λ i. n)) → Changed t p t′ p′ f k r (change real (treeOf (unpack t .sets)) s ps′ rs′ ds′ lay (λ i. n))
+    → Changed t p t′ p′ f k r (change real (treeOf (unpack t .sets)) s ps rs ds [] lay (λ i. n)) → Changed t p t′ p′ f k r (change real (treeOf (unpack t .sets)) s ps′ rs′ ds′ [] lay (λ i. n))
 changed-pages {t} {p} {t′} {p′} {f} {k} s n lay ps ps′ rs rs′ ds ds′ e₁ e₂ e₃ c =
     let tree = treeOf (unpack t .sets) in
     let w = work (unpack t) (pagesOf p) f (λ q. unmapped) k in
@@ -153,8 +153,8 @@ changed-pages {t} {p} {t′} {p′} {f} {k} s n lay ps ps′ rs rs′ ds ds′ e
       pending = c .pending;
       same = c .same;
       does =
-          c .does ∙ ap (λ (y : List ℕ). change real tree s y rs ds lay (λ i. n) w) (sym e₁) ∙ ap (λ (y : List ℕ). change real tree s ps′ y ds lay (λ i. n) w) (sym e₂)
-          ∙ ap (λ (y : List ℕ). change real tree s ps′ rs′ y lay (λ i. n) w) (sym e₃);
+          c .does ∙ ap (λ (y : List ℕ). change real tree s y rs ds [] lay (λ i. n) w) (sym e₁) ∙ ap (λ (y : List ℕ). change real tree s ps′ y ds [] lay (λ i. n) w) (sym e₂)
+          ∙ ap (λ (y : List ℕ). change real tree s ps′ rs′ y [] lay (λ i. n) w) (sym e₃);
       packed = c .packed;
     }
 
@@ -169,16 +169,16 @@ laterPages n z = from (n / 512 + 1) ((z - 1) / 512 - n / 512 + 1 - 1)
 
 module _ {t p t′ p′ : List ℕ} {f : ℕ} {k : Counts} {r : Totals} (s n z : ℕ) (e : Entry ℕ) where
   -- LAWS: the three ways
-  pub cut-even : n % 512 ≡ 0 → Changed t p t′ p′ f k r (change real (treeOf (unpack t .sets)) s (from (n / 512) 0) [] (allPages n z) (cutLay n) (λ i. n))
-      → Changed t p t′ p′ f k r (change real (treeOf (unpack t .sets)) s (partPages n) (keptPages n e) (droppedPages n z) (cutLay n) (λ i. n))
+  pub cut-even : n % 512 ≡ 0 → Changed t p t′ p′ f k r (change real (treeOf (unpack t .sets)) s (from (n / 512) 0) [] (allPages n z) [] (cutLay n) (λ i. n))
+      → Changed t p t′ p′ f k r (change real (treeOf (unpack t .sets)) s (partPages n) (keptPages n e) (droppedPages n z) [] (cutLay n) (λ i. n))
   cut-even h c = changed-pages s n (cutLay n) _ _ _ _ _ _ (part-even n z h) (kept-even n z e h) (dropped-even n z h) c
 
-  pub cut-hole : (n % 512 ≡ 0 → ⊥) → isStored e ≡ false → Changed t p t′ p′ f k r (change real (treeOf (unpack t .sets)) s (from (n / 512) 1) [] (laterPages n z) (cutLay n) (λ i. n))
-      → Changed t p t′ p′ f k r (change real (treeOf (unpack t .sets)) s (partPages n) (keptPages n e) (droppedPages n z) (cutLay n) (λ i. n))
+  pub cut-hole : (n % 512 ≡ 0 → ⊥) → isStored e ≡ false → Changed t p t′ p′ f k r (change real (treeOf (unpack t .sets)) s (from (n / 512) 1) [] (laterPages n z) [] (cutLay n) (λ i. n))
+      → Changed t p t′ p′ f k r (change real (treeOf (unpack t .sets)) s (partPages n) (keptPages n e) (droppedPages n z) [] (cutLay n) (λ i. n))
   cut-hole h u c = changed-pages s n (cutLay n) _ _ _ _ _ _ (part-odd n z h) (kept-hole n z e h u) (dropped-odd n z h) c
 
-  pub cut-stored : (n % 512 ≡ 0 → ⊥) → isStored e ≡ true → Changed t p t′ p′ f k r (change real (treeOf (unpack t .sets)) s (from (n / 512) 1) (from (n / 512) 1) (laterPages n z) (cutLay n) (λ i. n))
-      → Changed t p t′ p′ f k r (change real (treeOf (unpack t .sets)) s (partPages n) (keptPages n e) (droppedPages n z) (cutLay n) (λ i. n))
+  pub cut-stored : (n % 512 ≡ 0 → ⊥) → isStored e ≡ true → Changed t p t′ p′ f k r (change real (treeOf (unpack t .sets)) s (from (n / 512) 1) (from (n / 512) 1) (laterPages n z) [] (cutLay n) (λ i. n))
+      → Changed t p t′ p′ f k r (change real (treeOf (unpack t .sets)) s (partPages n) (keptPages n e) (droppedPages n z) [] (cutLay n) (λ i. n))
   cut-stored h u c = changed-pages s n (cutLay n) _ _ _ _ _ _ (part-odd n z h) (kept-stored n z e h u) (dropped-odd n z h) c
 
 -- ---- the rule of truncate
@@ -201,13 +201,13 @@ module _ (t p : List ℕ) (f s n z : ℕ) (ez : z ≡ sizeByReading (treeOf (unp
   truncate-same pk h = record { pending = λ q. unmapped; same = refl; does = (rw (eq-eqb n z h)) ∙ as-size; packed = pk }
 
   -- LAW: above it
-  pub truncate-above : {t′ : List ℕ} → (n ≡ z → ⊥) → z < n → Changed t p t′ p f startCounts (totalsOf startCounts) (change real (treeOf (unpack t .sets)) s [] [] [] (λ q v. v) (λ m. n)) → Changed t p t′ p f startCounts (totalsOf startCounts) (truncateFile real (treeOf (unpack t .sets)) s n)
+  pub truncate-above : {t′ : List ℕ} → (n ≡ z → ⊥) → z < n → Changed t p t′ p f startCounts (totalsOf startCounts) (change real (treeOf (unpack t .sets)) s [] [] [] [] (λ q v. v) (λ m. n)) → Changed t p t′ p f startCounts (totalsOf startCounts) (truncateFile real (treeOf (unpack t .sets)) s n)
   unfolding truncateAs
   truncate-above h l c = record { pending = c .pending; same = c .same; does = c .does ∙ (rw (ne-eqb n z h, lt-ltb z n l)) ∙ as-size; packed = c .packed }
 
   -- LAW: below it
   pub truncate-below : {t′ p′ : List ℕ} {r : Totals} (left : ℕ) → (n ≡ z → ⊥) → n ≤ z
-      → Changed t p t′ p′ f (begun left) r (change real (treeOf (unpack t .sets)) s (partPages n) (keptPages n (resolve (treeOf (unpack t .sets)) (unpack t .files f) s (n / 512))) (droppedPages n z) (λ q. zeroFrom (n % 512)) (λ i. n))
+      → Changed t p t′ p′ f (begun left) r (change real (treeOf (unpack t .sets)) s (partPages n) (keptPages n (resolve (treeOf (unpack t .sets)) (unpack t .files f) s (n / 512))) (droppedPages n z) [] (λ q. zeroFrom (n % 512)) (λ i. n))
       → Changed t p t′ p′ f startCounts r (truncateFile real (treeOf (unpack t .sets)) s n)
   unfolding truncateAs
   truncate-below left h l c = record { pending = c .pending; same = c .same; does = c .does ∙ (rw (ne-eqb n z h, le-ltb z n l)) ∙ as-size; packed = c .packed }

@@ -28,7 +28,7 @@ use tables::header;
 // "Above it, step 2 and the new size only."
 fn grow(t: &mut [u8], f: usize, s: usize, n: usize)
     requires { ⌜ PackedTables (now t) × (f < 16) × (s < 8) × (unpack (now t) .sets s .used ≡ true) × (n < 65536) ⌝ }
-    ensures { λ _. ⌜ ChangedAlone (now (t .entry)) (now (t .exit)) f (Rules.change real (treeOf (unpack (now (t .entry)) .sets)) s [] [] [] (λ q v. v) (λ m. n)) ⌝ }
+    ensures { λ _. ⌜ ChangedAlone (now (t .entry)) (now (t .exit)) f (Rules.change real (treeOf (unpack (now (t .entry)) .sets)) s [] [] [] [] (λ q v. v) (λ m. n)) ⌝ }
 {
     settling::settle_set(t, f, s);
     settling::settle_children(t, f, s);
@@ -49,7 +49,7 @@ fn cut_away(
     k: Counts,
 ) -> Totals
     requires { ⌜ Ready (now t) (now p) f k × (s < 8) × (unpack (now t) .sets s .used ≡ true) × (first + m + d ≤ 64) × (n < 65536) ⌝ }
-    ensures { λ r. ⌜ Changed (now (t .entry)) (now (p .entry)) (now (t .exit)) (now (p .exit)) f k r (Rules.change real (treeOf (unpack (now (t .entry)) .sets)) s (Rules.from first m) [] (Rules.from (first + m) d) (λ q. zeroFrom (n % 512)) (λ i. n)) ⌝ }
+    ensures { λ r. ⌜ Changed (now (t .entry)) (now (p .entry)) (now (t .exit)) (now (p .exit)) f k r (Rules.change real (treeOf (unpack (now (t .entry)) .sets)) s (Rules.from first m) [] (Rules.from (first + m) d) [] (λ q. zeroFrom (n % 512)) (λ i. n)) ⌝ }
 {
     settling::settle_set(t, f, s);
     settling::settle_children(t, f, s);
@@ -76,7 +76,7 @@ fn cut_kept(
     k: Counts,
 ) -> Totals
     requires { ⌜ Ready (now t) (now p) f k × (s < 8) × (unpack (now t) .sets s .used ≡ true) × (0 < m) × (first + m ≤ 64) × (n < 65536) × (Rules.ownNeed real s (Rules.from first 1) (unpack (now t) .files f) ≤ k .left) ⌝ }
-    ensures { λ r. ⌜ Changed (now (t .entry)) (now (p .entry)) (now (t .exit)) (now (p .exit)) f k r (Rules.change real (treeOf (unpack (now (t .entry)) .sets)) s (Rules.from first 1) (Rules.from first 1) (Rules.from (first + 1) (m - 1)) (λ q. zeroFrom (n % 512)) (λ i. n)) ⌝ }
+    ensures { λ r. ⌜ Changed (now (t .entry)) (now (p .entry)) (now (t .exit)) (now (p .exit)) f k r (Rules.change real (treeOf (unpack (now (t .entry)) .sets)) s (Rules.from first 1) (Rules.from first 1) (Rules.from (first + 1) (m - 1)) [] (λ q. zeroFrom (n % 512)) (λ i. n)) ⌝ }
 {
     settling::settle_set(t, f, s);
     settling::settle_children(t, f, s);
@@ -98,7 +98,7 @@ fn cut_kept(
 // Below it: the size becomes n, which was z.
 fn cut(t: &mut [u8], p: &mut [u8], f: usize, s: usize, n: usize, z: usize, k: Counts) -> Totals
     requires { ⌜ Ready (now t) (now p) f k × (s < 8) × (unpack (now t) .sets s .used ≡ true) × (n < z) × (z ≤ 32768) × (Rules.ownNeed real s (Rules.keptPages n (resolve (treeOf (unpack (now t) .sets)) (unpack (now t) .files f) s (n / 512))) (unpack (now t) .files f) ≤ k .left) ⌝ }
-    ensures { λ r. ⌜ Changed (now (t .entry)) (now (p .entry)) (now (t .exit)) (now (p .exit)) f k r (Rules.change real (treeOf (unpack (now (t .entry)) .sets)) s (Rules.partPages n) (Rules.keptPages n (resolve (treeOf (unpack (now (t .entry)) .sets)) (unpack (now (t .entry)) .files f) s (n / 512))) (Rules.droppedPages n z) (λ q. zeroFrom (n % 512)) (λ i. n)) ⌝ }
+    ensures { λ r. ⌜ Changed (now (t .entry)) (now (p .entry)) (now (t .exit)) (now (p .exit)) f k r (Rules.change real (treeOf (unpack (now (t .entry)) .sets)) s (Rules.partPages n) (Rules.keptPages n (resolve (treeOf (unpack (now (t .entry)) .sets)) (unpack (now (t .entry)) .files f) s (n / 512))) (Rules.droppedPages n z) [] (λ q. zeroFrom (n % 512)) (λ i. n)) ⌝ }
 {
     let first = n / 512;
     let m = (z - 1) / 512 - first + 1;

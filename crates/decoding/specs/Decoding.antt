@@ -6,7 +6,7 @@ use lib.Dec.{eqb, ltb}
 use lib.ListN.{length, replicate}
 use Rattle.packing.specs.Fields.{getField}
 use Rattle.packing.specs.Words.{getWord}
-use Rattle.rules.specs.Numbers.{Call, create, delete, make, remove, truncate, write}
+use Rattle.rules.specs.Numbers.{Call, create, delete, make, narrowWrite, remove, truncate}
 use Rattle.decoding.specs.declared.decoding.Asked as declared
 use Rattle.decoding.specs.declared.decoding.Asked.the-variants as asked
 use Rattle.decoding.specs.declared.decoding.Decoded.{Decoded}
@@ -58,7 +58,7 @@ unfoldable pub requestOf : CallFields → Request
 requestOf x =
     cond (ltb 4096 (x .len)) bad
     (cond (eqb (x .op) 1) (unless (x .other ∷ x .offset ∷ x .len ∷ x .fill ∷ x .zero ∷ []) 1 (create (x .set) (x .file)))
-    (cond (eqb (x .op) 2) (unless (x .other ∷ x .zero ∷ []) 2 (write (x .set) (x .file) (x .offset) (replicate (x .len) (x .fill))))
+    (cond (eqb (x .op) 2) (unless (x .other ∷ x .zero ∷ []) 2 (narrowWrite (x .set) (x .file) (x .offset) (replicate (x .len) (x .fill))))
     (cond (eqb (x .op) 3) (unless (x .other ∷ x .len ∷ x .fill ∷ x .zero ∷ []) 3 (truncate (x .set) (x .file) (x .offset)))
     (cond (eqb (x .op) 4) (unless (x .other ∷ x .offset ∷ x .len ∷ x .fill ∷ x .zero ∷ []) 4 (delete (x .set) (x .file)))
     (cond (eqb (x .op) 5) (unless (x .file ∷ x .offset ∷ x .len ∷ x .fill ∷ x .zero ∷ []) 5 (make (x .set) (x .other) false))
@@ -73,7 +73,7 @@ request bytes = cond (eqb (length bytes) 8) (requestOf (callFields (getWord 7 by
 -- what the code's enums mean
 abbrev pub callMeant : declared.Asked → Call
 callMeant (asked.Create s f) = create s f
-callMeant (asked.Write s f off n v) = write s f off (replicate n v)
+callMeant (asked.Write s f off n v) = narrowWrite s f off (replicate n v)
 callMeant (asked.Truncate s f n) = truncate s f n
 callMeant (asked.Delete s f) = delete s f
 callMeant (asked.Make s c w) = make s c w

@@ -148,7 +148,7 @@ fn decode_make(x: Fields, writeable: bool) -> Decoded
 // Op 2.
 fn decode_write(x: Fields) -> Decoded
     requires { ⌜ (x .length ≤ 4096) × (x .fill < 256) ⌝ }
-    ensures { λ r. ⌜ (requestMeant r ≡ unless (x .other ∷ x .zero ∷ []) 2 (Numbers.write (x .set) (x .file) (x .offset) (replicate (x .length) (x .fill)))) × requestFits r ⌝ }
+    ensures { λ r. ⌜ (requestMeant r ≡ unless (x .other ∷ x .zero ∷ []) 2 (Numbers.narrowWrite (x .set) (x .file) (x .offset) (replicate (x .length) (x .fill)))) × requestFits r ⌝ }
 {
     let c = Asked::Write {
         set: x.set,

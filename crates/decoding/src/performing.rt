@@ -19,7 +19,7 @@ fn filled(fill: u8) -> [u8; 4096]
     [fill; 4096]
 }
 
-// "write (length copies of fill)"
+// "write (length copies of fill)": "The session program ... now ask for narrow writes."
 fn write_copies(
     t: &mut [u8],
     p: &mut [u8],
@@ -30,10 +30,10 @@ fn write_copies(
     fill: u8,
 ) -> Answer
     requires { ⌜ length ≤ 4096 ⌝ }
-    ensures { λ r. ⌜ outcome r (now (t .exit)) (now (p .exit)) [] ≡ callOn (Numbers.write set file offset (replicate length fill)) (now (t .entry)) (now (p .entry)) ⌝ }
+    ensures { λ r. ⌜ outcome r (now (t .exit)) (now (p .exit)) [] ≡ callOn (Numbers.narrowWrite set file offset (replicate length fill)) (now (t .entry)) (now (p .entry)) ⌝ }
 {
     let data = filled(fill);
-    changes::write(t, p, set, file, offset, &data[..length])
+    changes::write(t, p, 1, set, file, offset, &data[..length])
 }
 
 // A call of a session.

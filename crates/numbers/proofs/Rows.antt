@@ -108,14 +108,14 @@ module _ (st : Store real) (s f n : ℕ) where
     not-changeable-then z m h = after-part (readOnlyPlace seen s f) (notReadable seen s f) n m refl e z h
 
   module _ (e : n ≡ lowest (notChangeable seen s f)) where
-    pub write-first : (off : ℕ) (bs : List ℕ) → (n ≡ 0 → ⊥) → n ≡ numberOf seen (write s f off bs)
+    pub write-first : (off : ℕ) (bs : List ℕ) → (n ≡ 0 → ⊥) → (g : ℕ) → n ≡ numberOf seen (write g s f off bs)
     unfolding numberOf conditions lowest
-    write-first off bs h = in-part (notChangeable seen s f) (endOrNeedOver seen (off + length bs) (seen .writeNeed s f off (length bs))) n e h
+    write-first off bs h g = in-part (notChangeable seen s f) (endOrNeedOver seen (off + length bs) (seen .writeNeed s f off (length bs))) n e h
 
     pub write-then : (off : ℕ) (bs : List ℕ) → n ≡ 0 → (m : ℕ) → m ≡ lowest (endOrNeedOver seen (off + length bs) (seen .writeNeed s f off (length bs)))
-        → m ≡ numberOf seen (write s f off bs)
+        → (g : ℕ) → m ≡ numberOf seen (write g s f off bs)
     unfolding numberOf conditions lowest numbered
-    write-then off bs z m h = after-part (notChangeable seen s f) (endOrNeedOver seen (off + length bs) (seen .writeNeed s f off (length bs))) n m refl e z h
+    write-then off bs z m h g = after-part (notChangeable seen s f) (endOrNeedOver seen (off + length bs) (seen .writeNeed s f off (length bs))) n m refl e z h
 
     pub truncate-first : (size : ℕ) → (n ≡ 0 → ⊥) → n ≡ numberOf seen (truncate s f size)
     unfolding numberOf conditions lowest

@@ -178,9 +178,10 @@ pub fn of_create(t: &[u8], p: &[u8], set: u32, file: u32) -> u32
     0
 }
 
+// Of a write, by groups of any size.
 pub fn of_write(t: &[u8], p: &[u8], set: u32, file: u32, offset: u32, data: &[u8]) -> u32
     requires { ⌜ FormedStore (now t) (now p) ⌝ }
-    ensures { λ r. ⌜ r ≡ numberOf (viewOf real true true (storeOf (now (t .entry)) (now (p .entry)))) (Numbers.write set file offset (now («data» .entry))) ⌝ }
+    ensures { λ r. ⌜ ((group : ℕ) → r ≡ numberOf (viewOf real true true (storeOf (now (t .entry)) (now (p .entry)))) (Numbers.write group set file offset (now («data» .entry)))) ⌝ }
 {
     let n = not_changeable(t, set, file);
     if n != 0 {

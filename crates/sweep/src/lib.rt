@@ -24,6 +24,7 @@ pub extern "C" fn sweep_create(tables: &mut [u8], pages: &mut [u8], set: u32, fi
     calls::records::create(tables, &*pages, set, file)
 }
 
+// By groups of eight pages.
 #[no_mangle]
 pub extern "C" fn sweep_write(
     tables: &mut [u8],
@@ -33,9 +34,24 @@ pub extern "C" fn sweep_write(
     offset: u32,
     data: &[u8],
 ) -> Answer
-    ensures { λ r. ⌜ outcome r (now (tables .exit)) (now (pages .exit)) [] ≡ callOn (Numbers.write set file offset (now («data» .entry))) (now (tables .entry)) (now (pages .entry)) ⌝ }
+    ensures { λ r. ⌜ outcome r (now (tables .exit)) (now (pages .exit)) [] ≡ callOn (Numbers.groupedWrite set file offset (now («data» .entry))) (now (tables .entry)) (now (pages .entry)) ⌝ }
 {
-    calls::changes::write(tables, pages, set, file, offset, data)
+    calls::changes::write(tables, pages, 8, set, file, offset, data)
+}
+
+// By the pages that hold its bytes alone.
+#[no_mangle]
+pub extern "C" fn sweep_write_narrow(
+    tables: &mut [u8],
+    pages: &mut [u8],
+    set: u32,
+    file: u32,
+    offset: u32,
+    data: &[u8],
+) -> Answer
+    ensures { λ r. ⌜ outcome r (now (tables .exit)) (now (pages .exit)) [] ≡ callOn (Numbers.narrowWrite set file offset (now («data» .entry))) (now (tables .entry)) (now (pages .entry)) ⌝ }
+{
+    calls::changes::write(tables, pages, 1, set, file, offset, data)
 }
 
 #[no_mangle]

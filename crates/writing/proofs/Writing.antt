@@ -1,17 +1,18 @@
 -- The steps of a write one after another are its rule. Assumes nothing.
 use mathlib.Core.Bool.{not}
-use mathlib.Core.List.{List, []}
+use mathlib.Core.List.{_++_, List, []}
 use mathlib.Core.Path.{ap, refl, subst, sym, _∙_, _≡_}
-use Prim.Native.Nat.{_+_, max, ℕ, _≤_}
+use Prim.Native.Nat.{_+_, _-_, _/_, _<_, max, suc, zero, ℕ, _≤_}
+use native.Mathlib.Omega.{arith}
 use lib.ListN.{length}
 use Rattle.base.specs.Count.{count}
 use Rattle.changing.proofs.Whole.{Did, begun, both-did, did-step, did-then, settleBoth}
 use Rattle.changing.specs.Tables.{OnTables}
 use Rattle.changing.specs.Whole.{Changed, startCounts, totalsOf}
 use Rattle.copying.specs.Changes.{settled}
-use Rattle.copying.specs.Work.{Alone, Ready, Rest, Step, giveBoth, settleChildren, work}
+use Rattle.copying.specs.Work.{Alone, Ready, Rest, Step, giveGroups, settleChildren, work}
 use Rattle.entering.specs.Pending.{Reserves, StepAt}
-use Rattle.rules.specs.Rules.{Work, change, each, enter, from, giveAll, ownNeed, reserve, resize, touched, writeFile}
+use Rattle.rules.specs.Rules.{Work, change, each, enter, extraPages, from, giveAll, groupEnd, groupFirst, ownNeed, reserve, resize, touched, writeFile}
 use Rattle.rules.specs.State.{Entry, SetRecord, Tree, treeOf, unmapped}
 use Rattle.rules.specs.Storage.{PageData, overlay, real}
 use Rattle.tables.proofs.Pending.{none-pending}
@@ -24,28 +25,28 @@ use Rattle.tables.specs.declared.entries.Pending.{Pending}
 
 -- ---- the whole write
 
-module _ {t p t₁ t₂ t₃ t₄ p₄ t₅ p₅ t₆ : List ℕ} {l₀ l : List Pending} {f : ℕ} {k k₁ k₂ : Counts} (s q n : ℕ) (lay : ℕ → PageData → PageData) (end z y : ℕ) (el : l₀ ≡ nonePending) (ey : y ≡ max z end) (re : Ready t p f k)
+module _ {t p t₁ t₂ t₃ t₄ p₄ t₅ p₅ t₆ : List ℕ} {l₀ l : List Pending} {f : ℕ} {k k₁ k₂ : Counts} (s q n : ℕ) (es : List ℕ) (lay : ℕ → PageData → PageData) (end z y : ℕ) (el : l₀ ≡ nonePending) (ey : y ≡ max z end) (re : Ready t p f k)
     (a : Turns t t₁ (settled f s)) (b : Alone t₁ t₂ f (settleChildren (unpack t₁ .sets) s)) (c : Reserves t₂ t₃ l₀ l f k k₁ (each (reserve real (treeOf (unpack t₂ .sets)) s) (from q n)))
-    (d : Step t₃ p t₄ p₄ f k₁ k₂ (giveBoth (unpack t₃ .sets) s (from q n) (from (q + n) 0)))
+    (d : Step t₃ p t₄ p₄ f k₁ k₂ (giveGroups (unpack t₃ .sets) s (from q n) es))
     (e : StepAt (pendingOf l) t₄ p₄ t₅ p₅ f k₂ (each (enter real (treeOf (unpack t₄ .sets)) s lay) (from q n))) (zz : z ≡ unpack t₅ .files f s .size)
     (g : OnTables t₅ t₆ f (resize real (treeOf (unpack t₅ .sets)) s y)) where
   abbrev parts : (ℕ → SetRecord) → Work real → Work real
-  parts S w = each (enter real (treeOf S) s lay) (from q n) (giveBoth S s (from q n) (from (q + n) 0) (each (reserve real (treeOf S) s) (from q n) (settleBoth s S w)))
+  parts S w = each (enter real (treeOf S) s lay) (from q n) (giveGroups S s (from q n) es (each (reserve real (treeOf S) s) (from q n) (settleBoth s S w)))
 
   five : Did t p (pendingOf l₀) t₅ p₅ (pendingOf l) f k k₂ (parts (unpack t .sets))
   five =
       did-then (λ S. each (enter real (treeOf S) s lay) (from q n))
-      (did-then (λ S. giveBoth S s (from q n) (from (q + n) 0))
+      (did-then (λ S. giveGroups S s (from q n) es)
       (did-then (λ S. each (reserve real (treeOf S) s) (from q n)) (both-did s re a b (pendingOf l₀)) (record { same = c .same; does = c .does (pagesOf p) })) (did-step (pendingOf l) d))
       (record { same = e .same; does = e .does })
 
   is-change : (S : ℕ → SetRecord) (w : Work real) → resize real (treeOf S) s (max (parts S w .files s .size) end) (parts S w)
-      ≡ change real (treeOf S) s (from q n) (from q n) [] lay (λ m. max m end) w
+      ≡ change real (treeOf S) s (from q n) (from q n) [] es lay (λ m. max m end) w
   unfolding change each giveAll from
   is-change S w = refl
 
   -- LAW
-  pub written : Changed t p t₆ p₅ f k (totalsOf k₂) (change real (treeOf (unpack t .sets)) s (from q n) (from q n) [] lay (λ m. max m end))
+  pub written : Changed t p t₆ p₅ f k (totalsOf k₂) (change real (treeOf (unpack t .sets)) s (from q n) (from q n) [] es lay (λ m. max m end))
   written =
       let S = unpack t .sets in
       let ss : unpack t₅ .sets ≡ S = ap (λ (r : Rest). r .sets) (five .same) in
@@ -61,27 +62,39 @@ module _ {t p t₁ t₂ t₃ t₄ p₄ t₅ p₅ t₆ : List ℕ} {l₀ l : List
             ∙ ap (λ m. resize real (treeOf S) s m w₅) (ey ∙ ap (λ x. max x end) zz)
             ∙ ap (λ (v : Work real). resize real (treeOf S) s (max (v .files s .size) end) v) (five .does)
             ∙ is-change S (work (unpack t) (pagesOf p) f (pendingOf l₀) k)
-            ∙ ap (λ (h : ℕ → Entry ℕ). change real (treeOf S) s (from q n) (from q n) [] lay (λ m. max m end) (work (unpack t) (pagesOf p) f h k)) (ap pendingOf el ∙ none-pending);
+            ∙ ap (λ (h : ℕ → Entry ℕ). change real (treeOf S) s (from q n) (from q n) [] es lay (λ m. max m end) (work (unpack t) (pagesOf p) f h k)) (ap pendingOf el ∙ none-pending);
       }
 
 -- ---- the rule of write
 
 -- LAW: the rule of write
-pub is-write : (tree : Tree) (s off first m : ℕ) (bs : List ℕ) → touched off (length bs) ≡ from first m → (w : Work real)
-    → change real tree s (from first m) (from first m) [] (overlay off bs) (λ i. max i (off + length bs)) w ≡ writeFile real tree s off bs w
+pub is-write : (tree : Tree) (g s off first m : ℕ) (es bs : List ℕ) → touched off (length bs) ≡ from first m → extraPages g off (length bs) ≡ es → (w : Work real)
+    → change real tree s (from first m) (from first m) [] es (overlay off bs) (λ i. max i (off + length bs)) w ≡ writeFile real tree g s off bs w
 unfolding writeFile
-is-write tree s off first m bs e w = ap (λ (ps : List ℕ). change real tree s ps ps [] (overlay off bs) (λ i. max i (off + length bs)) w) (sym e)
+is-write tree g s off first m es bs e d w =
+    (λ i. change real tree s (sym e i) (sym e i) [] (sym d i) (overlay off bs) (λ i. max i (off + length bs)) w)
 
 -- LAW: the whole write by its rule
-pub wrote : {t p t′ p′ : List ℕ} {f : ℕ} {r : Totals} (s off first m left : ℕ) (bs : List ℕ) → touched off (length bs) ≡ from first m
-    → Changed t p t′ p′ f (begun left) r (change real (treeOf (unpack t .sets)) s (from first m) (from first m) [] (overlay off bs) (λ i. max i (off + length bs)))
-    → Changed t p t′ p′ f startCounts r (writeFile real (treeOf (unpack t .sets)) s off bs)
-wrote {t} {p} {t′} {p′} {f} s off first m left bs e c = record {
+pub wrote : {t p t′ p′ : List ℕ} {f : ℕ} {r : Totals} (g s off first m left : ℕ) (es bs : List ℕ) → touched off (length bs) ≡ from first m → extraPages g off (length bs) ≡ es
+    → Changed t p t′ p′ f (begun left) r (change real (treeOf (unpack t .sets)) s (from first m) (from first m) [] es (overlay off bs) (λ i. max i (off + length bs)))
+    → Changed t p t′ p′ f startCounts r (writeFile real (treeOf (unpack t .sets)) g s off bs)
+wrote {t} {p} {t′} {p′} {f} g s off first m left es bs e d c = record {
   pending = c .pending;
   same = c .same;
-  does = c .does ∙ is-write (treeOf (unpack t .sets)) s off first m bs e (work (unpack t) (pagesOf p) f (λ q. unmapped) startCounts);
+  does = c .does ∙ is-write (treeOf (unpack t .sets)) g s off first m es bs e d (work (unpack t) (pagesOf p) f (λ q. unmapped) startCounts);
   packed = c .packed;
 }
+
+-- LAW: the extra pages, by the touched pages and the ends of their groups
+pub extra-is : (g off n first m lo hi : ℕ) → 0 < n → first ≡ off / 512 → first + m ≡ (off + n - 1) / 512 + 1 → lo ≡ groupFirst g first → hi ≡ groupEnd g ((off + n - 1) / 512)
+    → extraPages g off n ≡ from lo (first - lo) ++ from (first + m) (hi - (first + m))
+unfolding extraPages
+extra-is g off zero first m lo hi pos ef em el eh = absurd (omega arith)
+extra-is g off (suc n) first m lo hi pos ef em el eh =
+    let d : off + suc n - 1 ≡ off + n = omega arith in
+    let em′ : first + m ≡ suc ((off + n) / 512) = em ∙ ap (λ x. x / 512 + 1) d ∙ omega arith in
+    let eh′ : hi ≡ groupEnd g ((off + n) / 512) = eh ∙ ap (λ x. groupEnd g (x / 512)) d in
+    rw (em′, eh′, el, ef)
 
 -- the own need, by the pages and the free blocks counted
 pub need-begin : (t : List ℕ) (f s off n first m left : ℕ) → touched off n ≡ from first m → left ≡ count (unpack t .blocks) (λ b. not (unpack t .bits b))

@@ -1,6 +1,7 @@
 -- `writing::write_pages` meets its contract. Assumes nothing.
+use mathlib.Core.List.{_++_}
 use mathlib.Core.Path.{refl, subst, sym, _∙_}
-use Prim.Native.Nat.{_+_, _≤_, ℕ}
+use Prim.Native.Nat.{_+_, _-_, _≤_, ℕ}
 use native.Mathlib.Omega.{arith}
 use lib.ListN.{length}
 use borrow.Author.Needs.{needs}
@@ -29,12 +30,12 @@ reserve-all-requires c κs =
       re .sound,
       re .file,
       s .pre .1,
-      s .pre .3,
-      subst (λ (x : ℕ). x ≤ a .k .left) (sym (both-need (a .s) (s .pre .0) (ss .settle-set .ensures) (sk .settle-children .ensures .1) (from (a .first) (a .m)))) (s .pre .5),
+      omega (arith, s .pre .4, s .pre .5),
+      subst (λ (x : ℕ). x ≤ a .k .left) (sym (both-need (a .s) (s .pre .0) (ss .settle-set .ensures) (sk .settle-children .ensures .1) (from (a .first) (a .m)))) (s .pre .7),
     )
 
-give-all-requires : tie.Need-give-all-requires
-give-all-requires c κs =
+give-groups-requires : tie.Need-give-groups-requires
+give-groups-requires c κs =
     let r = c .before .before .before .before .before .before in
     let sk = r .before .before .before .before in
     let ss = sk .before .before .before .before in
@@ -43,7 +44,9 @@ give-all-requires c κs =
     let re = both-ready (a .s) (s .pre .0) (ss .settle-set .ensures) (sk .settle-children .ensures .1) in (
       reserves-ready re (r .reserve-all .ensures),
       s .pre .1,
-      omega (arith, s .pre .3),
+      s .pre .3,
+      s .pre .4,
+      s .pre .5,
       same-used _ _ (a .f) (a .s) (r .reserve-all .ensures .same) (both-used (a .s) (s .pre .0) (ss .settle-set .ensures) (sk .settle-children .ensures .1) (s .pre .2)),
     )
 
@@ -52,7 +55,7 @@ enter-all-requires c κs =
     let g = c .before .before .before .before .before .before in
     let r = g .before .before .before .before .before .before .before in
     let s = r .before .before .before .before .before .before .before .before .before .before .before .before .before in
-    (g .give-all .ensures .ready, pending-kept (r .reserve-all .ensures) (g .give-all .ensures), s .pre .1, s .pre .3, s .pre .4)
+    (g .give-groups .ensures .ready, pending-kept (r .reserve-all .ensures) (g .give-groups .ensures), s .pre .1, omega (arith, s .pre .4, s .pre .5), s .pre .6)
 
 size-at-requires : tie.Need-size-at-requires
 size-at-requires c κs =
@@ -63,7 +66,7 @@ size-at-requires c κs =
 add-larger : tie.Need-add-larger
 add-larger c =
     let s = c .before .before .before .before .before .before .before .before .before .before .before .before .before .before .before .before .before .before .before .before .before .before .before .before .before .before .before .before .before .before .before .before .before in
-    omega (arith, s .pre .4)
+    omega (arith, s .pre .6)
 
 resize-requires : tie.Need-resize-requires
 resize-requires c κs =
@@ -71,7 +74,7 @@ resize-requires c κs =
     let z = l .before in
     let e = z .before .before .before .before .before .before in
     let s = e .before .before .before .before .before .before .before .before .before .before .before .before .before .before .before .before .before .before .before .before .before .before .before .before .before .before .before in
-    (e .enter-all .ensures .ready .packed, e .enter-all .ensures .ready .file, s .pre .1, omega (arith, l .larger .ensures, z .size-at .ensures .1, s .pre .4))
+    (e .enter-all .ensures .ready .packed, e .enter-all .ensures .ready .file, s .pre .1, omega (arith, l .larger .ensures, z .size-at .ensures .1, s .pre .6))
 
 same-length : tie.Need-same-length
 same-length c =
@@ -91,11 +94,11 @@ returns c =
     let ss = sk .before .before .before .before in
     let s = ss .before .before .before .before .before in
     let a = s .args in
-    written (a .s) (a .first) (a .m) (overlay (a .off) (a .«data» .now)) (a .off + length (a .«data» .now)) (z .size-at .result) (l .larger .result) refl (l .larger .ensures)
-    (s .pre .0) (ss .settle-set .ensures) (sk .settle-children .ensures .1) (r .reserve-all .ensures) (g .give-all .ensures) (e .enter-all .ensures) (z .size-at .ensures .0) (h .resize .ensures)
+    written (a .s) (a .first) (a .m) (from (a .lo) (a .first - a .lo) ++ from (a .first + a .m) (a .hi - (a .first + a .m))) (overlay (a .off) (a .«data» .now)) (a .off + length (a .«data» .now)) (z .size-at .result) (l .larger .result) refl (l .larger .ensures)
+    (s .pre .0) (ss .settle-set .ensures) (sk .settle-children .ensures .1) (r .reserve-all .ensures) (g .give-groups .ensures) (e .enter-all .ensures) (z .size-at .ensures .0) (h .resize .ensures)
 
 pub write-pages-spec : {M : Type 1} → statement M
 write-pages-spec =
     tie.close
     (tie.spec
-    (λ c κs. search needs) settle-children-requires reserve-all-requires give-all-requires enter-all-requires size-at-requires add-larger (λ c κs. search needs) resize-requires same-length (λ c. search needs) returns)
+    (λ c κs. search needs) settle-children-requires reserve-all-requires give-groups-requires enter-all-requires size-at-requires add-larger (λ c κs. search needs) resize-requires same-length (λ c. search needs) returns)

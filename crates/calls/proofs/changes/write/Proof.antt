@@ -13,7 +13,7 @@ use Rattle.calls.proofs.changes.write.Tie as tie
 returns : tie.Need-returns
 returns c =
     let i = c .before in
-    unformed-as _ _ _ (write _ _ _ _) refl _ (c .counts-0 .ensures) (i .before .well-formed .ensures) (i .if1 .taken)
+    unformed-as _ _ _ (write _ _ _ _ _) refl _ (c .counts-0 .ensures) (i .before .well-formed .ensures) (i .if1 .taken)
 
 of-write-requires : tie.Need-of-write-requires
 of-write-requires c κs =
@@ -24,21 +24,21 @@ returns-2 : tie.Need-returns-2
 returns-2 c =
     let n = c .before .before in
     let i = n .before .before .before in
-    refused-as _ _ _ (write _ _ _ _) refl _ (is-formed _ _ _ (i .before .well-formed .ensures) (i .if1 .left)) (c .counts-02 .ensures) (n .of-write .ensures) (omega arith)
+    refused-as _ _ _ (write _ _ _ _ _) refl _ (is-formed _ _ _ (i .before .well-formed .ensures) (i .if1 .left)) (c .counts-02 .ensures) (n .of-write .ensures _) (omega arith)
 
 returns-3 : tie.Need-returns-3
 returns-3 c =
     let n = c .before .before .before in
     let i = n .before .before .before in
     nothing-written _ _ _ (is-formed _ _ _ (i .before .well-formed .ensures) (i .if1 .left)) (c .counts-03 .ensures) (λ (j : ℕ). i .before .before .before .before .before .slice-known .given j .fits)
-    _ _ _ _ (omega arith) (zero-is (n .of-write .ensures) (omega arith))
+    _ _ _ _ _ (omega arith) (zero-is (n .of-write .ensures _) (omega arith))
 
 write-file-requires : tie.Need-write-file-requires
 write-file-requires c κs =
     let n = c .before .before .before .before in
     let i = n .before .before .before in
-    let k = write-requires _ _ _ _ _ _ (zero-is (n .of-write .ensures) (omega arith)) in
-    ((is-formed _ _ _ (i .before .well-formed .ensures) (i .if1 .left)), k .0, k .1, k .2, omega arith, k .3, k .4)
+    let k = write-requires _ _ _ _ _ _ _ (zero-is (n .of-write .ensures 1) (omega arith)) in
+    (search needs, search needs, (is-formed _ _ _ (i .before .well-formed .ensures) (i .if1 .left)), k .0, k .1, k .2, omega arith, k .3, k .4)
 
 returns-4 : tie.Need-returns-4
 returns-4 c =
@@ -46,7 +46,7 @@ returns-4 c =
     let n = a .before .before .before .before .before in
     let i = n .before .before .before in
     written-as _ _ _ _ _ _ _ (is-formed _ _ _ (i .before .well-formed .ensures) (i .if1 .left)) refl (λ (j : ℕ). c .before .before .slice-known3 .given j .fits) (search needs)
-    _ _ _ (omega arith) (zero-is (n .of-write .ensures) (omega arith)) (a .write-file .ensures)
+    _ _ _ _ (omega arith) (zero-is (n .of-write .ensures _) (omega arith)) (a .write-file .ensures)
 
 pub write-spec : {M : Type 1} → statement M
 write-spec =

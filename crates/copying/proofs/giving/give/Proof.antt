@@ -15,7 +15,7 @@ returns c =
     let d = c .before in
     let s = d .before .before .before .before in
     let a = s .args in
-    give-not (entryMeant (a .e)) (a .page .0) (a .c) (s .pre .0) (sym (d .needs .ensures) ∙ not-true (d .needs .result) (c .if1 .taken))
+    give-not (a .must) (entryMeant (a .e)) (a .page .0) (a .c) (s .pre .0) (sym (d .needs .ensures) ∙ not-true (d .needs .result) (c .if1 .taken))
 
 -- the child needs the page
 needed : (c : tie.Else1) → let a = c .before .before .before .before .before .args in Reading.needs (unpack (a .t .now) .files (a .f)) (a .c) (a .page .0) ≡ true
@@ -33,7 +33,7 @@ returns-2 c =
     let u = c .before .before .before .before in
     let i = u .before .before .before in
     let a = i .before .before .before .before .before .args in
-    give-so (entryMeant (a .e)) (a .page .0) (a .c) (needed i) (u .supply .ensures)
+    give-so (a .must) (entryMeant (a .e)) (a .page .0) (a .c) (needed i) (u .supply .ensures)
 
 pub give-spec : {M : Type 1} → statement M
 give-spec =

@@ -1,11 +1,12 @@
 -- `copying::giving::give_all` meets its contract. Assumes nothing.
+use mathlib.Core.Logic.{inr}
 use Prim.Native.Nat.{_+_}
 use native.Mathlib.Omega.{arith}
 use borrow.Author.Needs.{needs}
 use Rattle.rules.specs.Rules.{copied, from}
 use Rattle.tables.specs.Packed.{unpack}
 use Rattle.copying.specs.Work.{FirstChild}
-use Rattle.copying.proofs.Handed.{both-given, both-none, kept-behind}
+use Rattle.copying.proofs.Handed.{both-given, both-none, kept-apart}
 use Rattle.copying.proofs.Steps.{step-first}
 use Rattle.copying.proofs.giving.give_all.Statement.{statement}
 use Rattle.copying.proofs.giving.give_all.Tie as tie
@@ -36,8 +37,15 @@ give-pages-requires-2 c κs =
     let s = r .before .before .before .before .before .before .before in
     let a = s .args in
     let x = g .give-pages .ensures in
-    let e = r .resolve-range .ensures in
-    (x .ready, s .pre .1, s .pre .2, step-first (a .s) _ x (first-child (r .before .before .before)), e .len, kept-behind (r .resolve-range .result .kept) copied (a .s) (a .first) (a .m) (a .d) (s .pre .0) (e .found) x)
+    let e = r .resolve-range .ensures in (
+      x .ready,
+      s .pre .1,
+      s .pre .2,
+      step-first (a .s) _ x (first-child (r .before .before .before)),
+      e .len,
+      kept-apart (r .resolve-range .result .kept) copied (a .s) (a .first) (a .m) (a .first + a .m) (a .d) (inr (omega arith)) (s .pre .0)
+          (λ y lo hi. e .found y (omega (arith, lo)) (omega (arith, hi))) x,
+    )
 
 returns-2 : tie.Need-returns-2
 returns-2 c =

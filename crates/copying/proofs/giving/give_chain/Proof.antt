@@ -11,11 +11,11 @@ use Rattle.copying.proofs.giving.give_chain.Statement.{statement}
 use Rattle.copying.proofs.giving.give_chain.Tie as tie
 
 abbrev Inv-loop : tie.InvT-loop
-Inv-loop t₀ p₀ f page e first most w₀ c₀ n₀ t p w c n =
-    (n ≤ 8) × Going t₀ p₀ t p f w₀ w (giveChain (unpack t₀ .sets) (entryMeant e) (page .0) most first) (giveChain (unpack t₀ .sets) (entryMeant e) (page .0) n c)
+Inv-loop t₀ p₀ f page e first most must w₀ c₀ n₀ t p w c n =
+    (n ≤ 8) × Going t₀ p₀ t p f w₀ w (giveChain (unpack t₀ .sets) must (entryMeant e) (page .0) most first) (giveChain (unpack t₀ .sets) must (entryMeant e) (page .0) n c)
 
 abbrev μ-loop : tie.MeasureT-loop
-μ-loop t₀ p₀ f page e first most w₀ c₀ n₀ t p w c n = n
+μ-loop t₀ p₀ f page e first most must w₀ c₀ n₀ t p w c n = n
 
 -- the function's start, from the loop's test
 abbrev start : tie.At-loop Inv-loop μ-loop → tie.Start Inv-loop μ-loop
@@ -25,7 +25,7 @@ loop-holds : tie.Need-loop-holds Inv-loop μ-loop
 loop-holds c =
     let s = c .before .before in
     let a = s .args in
-    (s .pre .3, going-start (giveChain (unpack (a .t .now) .sets) (entryMeant (a .e)) (a .page .0) (a .most) (a .first)) (s .pre .0))
+    (s .pre .3, going-start (giveChain (unpack (a .t .now) .sets) (a .must) (entryMeant (a .e)) (a .page .0) (a .most) (a .first)) (s .pre .0))
 
 same-length : tie.Need-same-length Inv-loop μ-loop
 same-length c = let l = c .before .before in going-tables (l .loop .inv .1) (start l .pre .0)
@@ -37,7 +37,7 @@ returns : tie.Need-returns Inv-loop μ-loop
 returns c =
     let l = c .before .before in
     let a = start l .args in
-    going-done (l .loop .inv .1) (chain-end (givingAs (entryMeant (a .e)) (a .page .0)) (unpack (a .t .now) .sets) (l .loop .n) (l .loop .c) (c .if1 .taken))
+    going-done (l .loop .inv .1) (chain-end (givingAs (a .must) (entryMeant (a .e)) (a .page .0)) (unpack (a .t .now) .sets) (l .loop .n) (l .loop .c) (c .if1 .taken))
 
 give-requires : tie.Need-give-requires Inv-loop μ-loop
 give-requires c κs =
@@ -55,7 +55,7 @@ loop-again c =
     let l = g .before .before .before .before .before in
     let a = start l .args in (
       omega arith,
-      chain-turn (givingAs (entryMeant (a .e)) (a .page .0)) (l .loop .n) (l .loop .c) (c .next-sibling-of .result) (l .loop .inv .1) (omega arith) (omega arith) (g .give .ensures)
+      chain-turn (givingAs (a .must) (entryMeant (a .e)) (a .page .0)) (l .loop .n) (l .loop .c) (c .next-sibling-of .result) (l .loop .inv .1) (omega arith) (omega arith) (g .give .ensures)
           (c .next-sibling-of .ensures .0),
     )
 
@@ -69,7 +69,7 @@ returns-2 : tie.Need-returns-2 Inv-loop μ-loop
 returns-2 c =
     let l = c .before in
     let a = start l .args in
-    going-done (l .loop .inv .1) (chain-out (givingAs (entryMeant (a .e)) (a .page .0)) (unpack (a .t .now) .sets) (l .loop .n) (l .loop .c) (omega arith))
+    going-done (l .loop .inv .1) (chain-out (givingAs (a .must) (entryMeant (a .e)) (a .page .0)) (unpack (a .t .now) .sets) (l .loop .n) (l .loop .c) (omega arith))
 
 pub give-chain-spec : {M : Type 1} → statement M
 give-chain-spec =

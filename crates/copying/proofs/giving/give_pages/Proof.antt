@@ -16,10 +16,10 @@ use Rattle.copying.proofs.giving.give_pages.Statement.{statement}
 use Rattle.copying.proofs.giving.give_pages.Tie as tie
 
 abbrev Inv-loop : tie.InvT-loop
-Inv-loop t₀ p₀ f s first m child hands kept w₀ q₀ n₀ t p w q n = (q + n ≡ first + m) × PagesGoing t₀ p₀ t p kept f w₀ w (givingOf hands) s first m q n
+Inv-loop t₀ p₀ f s first m child how kept w₀ q₀ n₀ t p w q n = (q + n ≡ first + m) × PagesGoing t₀ p₀ t p kept f w₀ w (givingOf how) s first m q n
 
 abbrev μ-loop : tie.MeasureT-loop
-μ-loop t₀ p₀ f s first m child hands kept w₀ q₀ n₀ t p w q n = n
+μ-loop t₀ p₀ f s first m child how kept w₀ q₀ n₀ t p w q n = n
 
 -- the function's start, from the loop's test
 abbrev start : tie.At-loop Inv-loop μ-loop → tie.Start Inv-loop μ-loop
@@ -29,7 +29,7 @@ loop-holds : tie.Need-loop-holds Inv-loop μ-loop
 loop-holds c =
     let s = c .before .before in
     let a = s .args in
-    (omega arith, pages-start (givingOf (a .hands)) (a .s) (a .first) (a .m) (s .pre .0) (s .pre .5))
+    (omega arith, pages-start (givingOf (a .how)) (a .s) (a .first) (a .m) (s .pre .0) (s .pre .5))
 
 -- the entry of the page whose turn it is
 entry-is : (c : tie.After-x Inv-loop μ-loop) → let l = c .before .before in let s = start l in
@@ -59,7 +59,7 @@ loop-again c =
     let y = g .before .before in
     let l = y .before .before .before .before .before in
     let a = start l .args in
-    (omega arith, pages-next (givingOf (a .hands)) (a .s) (a .first) (a .m) (l .loop .q) (l .loop .n) _ (l .loop .inv .1) (omega arith) (y .new .ensures) (g .give-page .ensures))
+    (omega arith, pages-next (givingOf (a .how)) (a .s) (a .first) (a .m) (l .loop .q) (l .loop .n) _ (l .loop .inv .1) (omega arith) (y .new .ensures) (g .give-page .ensures))
 
 same-length : tie.Need-same-length Inv-loop μ-loop
 same-length c = let l = c .before in going-tables (l .loop .inv .1 .going) (start l .pre .0)
@@ -71,7 +71,7 @@ returns : tie.Need-returns Inv-loop μ-loop
 returns c =
     let l = c .before in
     let a = start l .args in
-    going-done (l .loop .inv .1 .going) (pages-out (givingPage (givingOf (a .hands)) (a .s)) (unpack (a .t .now) .sets) (l .loop .n) (l .loop .q) (omega arith))
+    going-done (l .loop .inv .1 .going) (pages-out (givingPage (givingOf (a .how)) (a .s)) (unpack (a .t .now) .sets) (l .loop .n) (l .loop .q) (omega arith))
 
 pub give-pages-spec : {M : Type 1} → statement M
 give-pages-spec =

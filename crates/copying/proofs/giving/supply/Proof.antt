@@ -23,7 +23,7 @@ unfolding entryMeant
 returns c =
     let s = c .before .before .before .before in
     let a = s .args in
-    supply-as (a .c) (a .page .0) _ _ (ap entryMeant (c .enum-told .given .1)) (supply-none (a .c) (a .page .0) (s .pre .0))
+    supply-as (a .must) (a .c) (a .page .0) _ _ (ap entryMeant (c .enum-told .given .1)) (supply-none (a .must) (a .c) (a .page .0) (s .pre .0))
 
 returns-2 : tie.Need-returns-2
 unfolding entryMeant
@@ -32,7 +32,7 @@ returns-2 c =
     let d = u .before .before in
     let s = d .before .before .before .before in
     let a = s .args in
-    supply-as (a .c) (a .page .0) _ _ (ap entryMeant (d .enum-told2 .given .1)) (supply-hole (a .c) (a .page .0) (s .pre .0) (u .put-entry .ensures))
+    supply-as (a .must) (a .c) (a .page .0) _ _ (ap entryMeant (d .enum-told2 .given .1)) (supply-hole (a .must) (a .c) (a .page .0) (s .pre .0) (u .put-entry .ensures))
 
 returns-3 : tie.Need-returns-3
 unfolding entryMeant
@@ -40,7 +40,7 @@ returns-3 c =
     let u = c .before .before .before .before in
     let d = u .before .before .before .before in
     let a = d .before .before .before .before .args in
-    supply-as (a .c) (a .page .0) _ _ (ap entryMeant (d .e .given .1)) (u .give-block .ensures)
+    supply-as (a .must) (a .c) (a .page .0) _ _ (ap entryMeant (d .e .given .1)) (u .give-block .ensures)
 
 pub supply-spec : {M : Type 1} → statement M
 supply-spec =

@@ -21,7 +21,7 @@ returns c =
     let at-filled = at-write .before .before .before .before in
     let start = at-filled .before .before .before in
     let a = start .args in
-    at-write .write .ensures ∙ ap (λ (l : List ℕ). callOn (Numbers.write (a .set) (a .file) (a .offset) l) (a .t .now) (a .p .now)) (ap (take (a .length)) (at-filled .filled .ensures .0) ∙ take-copies (a .length) (a .fill) (start .pre))
+    at-write .write .ensures ∙ ap (λ (l : List ℕ). callOn (Numbers.narrowWrite (a .set) (a .file) (a .offset) l) (a .t .now) (a .p .now)) (ap (take (a .length)) (at-filled .filled .ensures .0) ∙ take-copies (a .length) (a .fill) (start .pre))
 
 pub write-copies-spec : {M : Type 1} → statement M
 write-copies-spec =
