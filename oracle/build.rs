@@ -1,12 +1,13 @@
 //! Tells the build which calls of the library under comparison to link: the
 //! variable SWEEP_LIB names the folder of libsweep.a, SWEEP_CALLS the calls
-//! in it (a comma list; all when it is not set or empty).
+//! in it (a comma list; when it is not set or empty, all that a library can
+//! have).
 
 use std::env;
 
 #[path = "src/names.rs"]
 mod names;
-use names::CALL_NAMES;
+use names::{CALL_NAMES, ORACLE_ALONE};
 
 fn main() {
     println!("cargo:rerun-if-changed=build.rs");
@@ -38,12 +39,17 @@ fn export_name(call: &str) -> String {
 fn wanted_calls() -> Vec<String> {
     let list = env::var("SWEEP_CALLS").unwrap_or_default();
     if list.trim().is_empty() {
-        return CALL_NAMES.iter().map(|call| call.to_string()).collect();
+        let calls = CALL_NAMES.iter().filter(|call| !ORACLE_ALONE.contains(call));
+        return calls.map(|call| call.to_string()).collect();
     }
-    // check_blocks is taken for check-blocks.
+    // check_blocks is taken for check-blocks, write_narrow for write-narrow.
     let calls: Vec<String> = list.split(',').map(|call| call.trim().replace('_', "-")).collect();
     for call in &calls {
         assert!(CALL_NAMES.contains(&call.as_str()), "SWEEP_CALLS: unknown call '{call}'");
+        assert!(
+            !ORACLE_ALONE.contains(&call.as_str()),
+            "SWEEP_CALLS: '{call}' has no function, the oracle does it alone"
+        );
     }
     calls
 }

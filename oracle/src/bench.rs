@@ -9,6 +9,7 @@ use crate::judge::{format_blocks, Beside};
 use crate::lent::{check_unchanged, Buffer::*, Buffers, Guarded};
 use crate::state::{Kind, State};
 use crate::store;
+use crate::writes::{ByKind, Written};
 use std::collections::BTreeMap;
 use std::fmt;
 use std::time::{Duration, Instant};
@@ -91,6 +92,10 @@ pub struct Counts {
     pub reads_linked: Reads,
     /// Reads compared with plain store and tally.
     pub reads_beside: Reads,
+    /// Writes compared with the other implementation.
+    pub writes_linked: ByKind,
+    /// Writes compared with plain store and tally.
+    pub writes_beside: ByKind,
     pub damages: BTreeMap<Rule, u64>,
     pub flips: u64,
 }
@@ -162,6 +167,9 @@ impl Bench {
         check_unchanged(call.row(), &answer, &before, &after)?;
         self.compare_other(call, &answer, &before, &mut after, other)?;
         self.compare_beside(call, &answer, &before, &after)?;
+        if call.as_write().is_some() && answer.number == 0 {
+            self.count_write(call, &answer, [&before, &after], other.has(call.index()));
+        }
         // The buffer of a refused format is not the store's.
         if !matches!(call, Call::Format { .. }) || answer.number == 0 {
             self.keep(call, after);
@@ -171,9 +179,11 @@ impl Bench {
 
     fn buffers_of(&self, call: &Call) -> Buffers {
         let mut buffers = self.buffers.lent_by(call.row());
+        if let Some(write) = call.as_write() {
+            buffers[Bytes] = data_bytes(write.length, write.seed);
+        }
         match *call {
             Call::Format { pages_length } => buffers[Pages].resize(pages_length, OLD_PAGE_FILL),
-            Call::Write { length, seed, .. } => buffers[Bytes] = data_bytes(length, seed),
             Call::Read { length, .. } => buffers[Bytes] = vec![BUFFER_FILL; length],
             _ => {}
         }
@@ -191,7 +201,8 @@ impl Bench {
     fn count(&mut self, call: &Call, answer: &Answer, before: &Buffers, after: &Buffers) {
         self.counts.calls[call.index()] += 1;
         self.counts.numbers[answer.number as usize] += 1;
-        if matches!(call, Call::Write { .. } | Call::Truncate { .. } | Call::Delete { .. }) {
+        let drops = matches!(call, Call::Truncate { .. } | Call::Delete { .. });
+        if drops || call.as_write().is_some() {
             self.counts.copies += u64::from(answer.second);
             self.counts.files_marked += u64::from(answer.third);
         }
@@ -202,6 +213,25 @@ impl Bench {
             let handed = handed_over(&before, &after, *set as usize, *file as usize);
             self.counts.handed_over += handed.len() as u64;
             self.counts.handing_calls += u64::from(!handed.is_empty());
+        }
+    }
+
+    /// Counts an accepted write that was compared with plain store and tally, if
+    /// they are there, and with the other implementation, if it is linked.
+    fn count_write(
+        &mut self,
+        call: &Call,
+        answer: &Answer,
+        buffers: [&Buffers; 2],
+        is_linked: bool,
+    ) {
+        let [before, after] = buffers.map(|buffers| State::unpack(&buffers[Tables]));
+        let cases = Written::of(call, answer, &before, &after).map(|written| written.cases());
+        if self.beside.is_some() {
+            self.counts.writes_beside.entry(call.index()).or_default().count(&cases);
+        }
+        if is_linked {
+            self.counts.writes_linked.entry(call.index()).or_default().count(&cases);
         }
     }
 

@@ -3,7 +3,7 @@
 
 pub use crate::lent::{Buffer, Lent, Numbers, BUFFERS, MOST_NUMBERS};
 use crate::lent::{Lending, Lending::*, Row};
-pub use crate::names::CALL_NAMES;
+pub use crate::names::{CALL_NAMES, ORACLE_ALONE};
 use std::fmt;
 
 /// How many calls there are.
@@ -25,6 +25,11 @@ pub const HIGHEST_LEVEL: usize = 5;
 pub const TABLES_BYTES: usize = 17_436;
 /// "8 means none."
 pub const NONE: usize = 8;
+/// Document 02: "A write now copies by aligned groups of eight unless the caller
+/// asks for a narrow one."
+pub const WRITE_GROUP: usize = 8;
+/// A narrow write is one by groups of one page.
+pub const NARROW_GROUP: usize = 1;
 
 /// What a call gives: "An accepted call gives 0 and three counts."
 #[repr(C)]
@@ -127,7 +132,8 @@ calls! {
     /// Format of a pages buffer of this many bytes.
     Format { pages_length: usize } told [] lends STORE_CHANGED, leaves None;
     Create { set: u32, file: u32 } told [set, file] lends STORE_CHANGED, leaves None;
-    /// A write of `length` bytes that follow from `seed` (see `data_bytes`).
+    /// A write of `length` bytes that follow from `seed` (see `data_bytes`), by
+    /// groups of eight.
     Write { set: u32, file: u32, offset: u32, length: usize, seed: u32 }
         told [set, file, offset] lends lends(Changed, ReadOnly), leaves None;
     Read { set: u32, file: u32, offset: u32, length: usize }
@@ -144,11 +150,81 @@ calls! {
     CheckBlocks {} told [] lends TABLES_READ, leaves None;
     /// The whole well-formed check.
     Check {} told [] lends STORE_READ, leaves None;
+    /// A narrow write.
+    WriteNarrow { set: u32, file: u32, offset: u32, length: usize, seed: u32 }
+        told [set, file, offset] lends lends(Changed, ReadOnly), leaves None;
+    /// A write by groups of any size.
+    WriteGroups { group: Group, set: u32, file: u32, offset: u32, length: usize, seed: u32 }
+        told [group, set, file, offset] lends lends(Changed, ReadOnly), leaves None;
+}
+
+/// How many pages a group has. Document 02: "any group size from 1 to 64".
+#[derive(Clone, Copy, PartialEq, Eq, PartialOrd, Ord, Debug)]
+pub struct Group(u32);
+
+impl Group {
+    /// None for a size that is not 1 to 64.
+    pub fn new(pages: usize) -> Option<Group> {
+        (1..=PAGES).contains(&pages).then_some(Group(pages as u32))
+    }
+
+    pub fn pages(self) -> usize {
+        self.0 as usize
+    }
+}
+
+impl From<Group> for u32 {
+    fn from(group: Group) -> u32 {
+        group.0
+    }
+}
+
+impl fmt::Display for Group {
+    fn fmt(&self, f: &mut fmt::Formatter) -> fmt::Result {
+        self.0.fmt(f)
+    }
+}
+
+impl std::str::FromStr for Group {
+    type Err = String;
+
+    fn from_str(word: &str) -> Result<Group, String> {
+        let group = word.parse().ok().and_then(Group::new);
+        group.ok_or_else(|| format!("'{word}' is not 1 to {PAGES}"))
+    }
+}
+
+/// A write of any of the three kinds.
+#[derive(Clone, Copy, PartialEq, Eq, Debug)]
+pub struct AnyWrite {
+    /// The pages of a group.
+    pub group: usize,
+    pub set: u32,
+    pub file: u32,
+    pub offset: u32,
+    pub length: usize,
+    pub seed: u32,
 }
 
 impl Call {
     pub fn row(&self) -> &'static Row {
         &ROWS[self.index()]
+    }
+
+    /// The call as a write with the size of its groups, if it is a write.
+    pub fn as_write(&self) -> Option<AnyWrite> {
+        Some(match *self {
+            Call::Write { set, file, offset, length, seed } => {
+                AnyWrite { group: WRITE_GROUP, set, file, offset, length, seed }
+            }
+            Call::WriteNarrow { set, file, offset, length, seed } => {
+                AnyWrite { group: NARROW_GROUP, set, file, offset, length, seed }
+            }
+            Call::WriteGroups { group, set, file, offset, length, seed } => {
+                AnyWrite { group: group.pages(), set, file, offset, length, seed }
+            }
+            _ => return None,
+        })
     }
 
     /// Whether the call may change tables or pages at all.

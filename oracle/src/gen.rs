@@ -11,6 +11,16 @@ use crate::store;
 use crate::tally::{Condition, TallyKind};
 use std::collections::BTreeSet;
 
+/// The places of the three kinds of write in `CALL_NAMES`.
+const WRITE: usize = 2;
+const WRITE_NARROW: usize = 12;
+const WRITE_GROUPS: usize = 13;
+const WRITES: [usize; 3] = [WRITE, WRITE_NARROW, WRITE_GROUPS];
+
+/// Group sizes that are used most: some divide 64, with others the last group is
+/// short.
+pub const GROUP_SIZES: [usize; 11] = [1, 2, 3, 5, 7, 8, 13, 31, 33, 63, 64];
+
 /// What a history is fond of.
 #[derive(Clone, Debug)]
 pub struct Style {
@@ -38,8 +48,8 @@ pub struct Style {
 pub struct Start {
     pub style: Style,
     pub calls: Vec<Call>,
-    /// Then calls that drop pages of a family, or reads through a line, if one
-    /// was made.
+    /// Then calls that drop pages of a family or write them by groups, or reads
+    /// through a line, if one was made.
     pub then: Vec<Call>,
 }
 
@@ -56,12 +66,13 @@ fn style(rng: &mut Rng, block_count: usize) -> Style {
     let fond_files = rng.between(1, 3);
     let fond_pages = rng.between(1, 4);
     // format create write read trunc delete make remove size free check-blocks check
+    // write-narrow write-groups
     let weights = rng.pick(&[
-        [1, 30, 220, 60, 80, 30, 110, 40, 15, 10, 5, 5],
-        [1, 40, 160, 40, 120, 50, 90, 40, 10, 10, 5, 5],
-        [2, 30, 150, 60, 60, 30, 200, 60, 20, 10, 5, 5],
-        [0, 60, 250, 20, 60, 70, 80, 20, 5, 5, 3, 3],
-        [0, 70, 140, 10, 100, 100, 120, 20, 5, 5, 3, 3],
+        [1, 30, 80, 60, 80, 30, 110, 40, 15, 10, 5, 5, 70, 70],
+        [1, 40, 60, 40, 120, 50, 90, 40, 10, 10, 5, 5, 60, 40],
+        [2, 30, 50, 60, 60, 30, 200, 60, 20, 10, 5, 5, 50, 50],
+        [0, 60, 90, 20, 60, 70, 80, 20, 5, 5, 3, 3, 80, 80],
+        [0, 70, 50, 10, 100, 100, 120, 20, 5, 5, 3, 3, 50, 40],
     ]);
     Style {
         block_count,
@@ -76,19 +87,32 @@ fn style(rng: &mut Rng, block_count: usize) -> Style {
     }
 }
 
-/// A format, and often calls that make a family (see `family_calls` and
-/// `short_calls`) or a line (see `line_calls`) or, in larger stores, calls that
-/// fill them nearly.
+/// A format, and often calls that make a family (see `family_calls`,
+/// `short_calls` and `group_calls`) or a line (see `line_calls`) or, in larger
+/// stores, calls that fill them nearly.
 pub fn start(rng: &mut Rng, block_count: usize) -> Start {
     let style = style(rng, block_count);
     let (more, then) = match rng.below(100) {
-        0..=42 if block_count <= 64 => family_calls(rng, &style),
-        43..=64 if block_count <= 64 => short_calls(rng, &style),
-        65..=76 if block_count <= 64 => line_calls(rng, &style),
+        0..=36 if block_count <= 64 => family_calls(rng, &style),
+        37..=56 if block_count <= 64 => short_calls(rng, &style),
+        57..=67 if block_count <= 64 => line_calls(rng, &style),
+        68..=88 if block_count <= 64 => group_calls(rng, &style),
         _ if block_count > 12 && rng.percent(75) => (fill_calls(rng, block_count), Vec::new()),
         _ => (Vec::new(), Vec::new()),
     };
-    let mut calls = vec![Call::Format { pages_length: block_count * PAGE_BYTES }];
+    begin(style, more, then)
+}
+
+/// A format, and calls that make a family for writes by groups (see
+/// `group_calls`).
+pub fn group_start(rng: &mut Rng, block_count: usize) -> Start {
+    let style = style(rng, block_count);
+    let (more, then) = group_calls(rng, &style);
+    begin(style, more, then)
+}
+
+fn begin(style: Style, more: Vec<Call>, then: Vec<Call>) -> Start {
+    let mut calls = vec![Call::Format { pages_length: style.block_count * PAGE_BYTES }];
     calls.extend(more);
     Start { style, calls, then }
 }
@@ -139,11 +163,12 @@ impl Scene {
         self.write(rng, set, start);
     }
 
-    /// Writes the page that starts here, mostly whole.
+    /// Writes the page that starts here, mostly whole. The write is narrow, so
+    /// that the children's other pages stay as they are.
     fn write(&mut self, rng: &mut Rng, set: u32, start: u32) {
         let (within, length) = rng.pick(&[(0, 512), (0, 512), (0, 100), (100, 412), (511, 1)]);
-        let seed = data_seed(rng);
-        self.add(Call::Write { set, file: self.file, offset: start + within, length, seed });
+        let target = (set, self.file);
+        self.add(write_call(rng, WRITE_NARROW, target, start + within, length));
     }
 
     fn make(&mut self, parent: u32, writeable: u32) -> Option<u32> {
@@ -161,7 +186,8 @@ impl Scene {
 fn family_calls(rng: &mut Rng, style: &Style) -> (Vec<Call>, Vec<Call>) {
     let mut scene = Scene::new(rng, style);
     let set = make_ancestors(rng, &mut scene);
-    make_children(rng, &mut scene, set);
+    let children = rng.pick(&[2, 2, 3, 3, 4, 5, 6, 7, 7, 7]);
+    make_children(rng, &mut scene, set, children);
     let leave = rng.pick(&[0, 0, 0, 1, 2, 3, 6, 12, 24]);
     fill_up(rng, &mut scene, leave);
     let calls = std::mem::take(&mut scene.calls);
@@ -205,11 +231,12 @@ fn make_ancestors(rng: &mut Rng, scene: &mut Scene) -> u32 {
     set
 }
 
-/// Children of the set: some read-only, some with pages of their own, with a
-/// file deleted or with children; and pages written in the set meanwhile.
-fn make_children(rng: &mut Rng, scene: &mut Scene, set: u32) {
+/// So many children of the set, as far as numbers are left: some read-only, some
+/// with pages of their own, with a file deleted or with children; and pages
+/// written in the set meanwhile.
+fn make_children(rng: &mut Rng, scene: &mut Scene, set: u32, count: usize) {
     let mut made = Vec::new();
-    for _ in 0..rng.pick(&[2, 2, 3, 3, 4, 5, 6, 7, 7, 7]) {
+    for _ in 0..count {
         made.extend(scene.make(set, rng.pick(&[0, 1, 1])));
         if rng.percent(15) {
             scene.write_a_page(rng, set);
@@ -295,9 +322,9 @@ fn line_calls(rng: &mut Rng, style: &Style) -> (Vec<Call>, Vec<Call>) {
     for level in 0..rng.pick(&[2, 3, 4, HIGHEST_LEVEL, HIGHEST_LEVEL, HIGHEST_LEVEL]) {
         let set = scene.make(line[level], rng.pick(&[0, 1, 1, 1])).expect("an unused number");
         line.push(set);
-        match rng.below(5) {
-            0 | 1 => scene.write_a_page(rng, set),
-            2 => cut_and_lengthen(rng, &mut scene, set),
+        match rng.below(6) {
+            0..=2 => scene.write_a_page(rng, set),
+            3 => cut_and_lengthen(rng, &mut scene, set),
             _ => {}
         }
     }
@@ -316,6 +343,90 @@ fn cut_and_lengthen(rng: &mut Rng, scene: &mut Scene, set: u32) {
     let size = scene.start_of_a_page(rng) + rng.pick(&[0, 0, 100]);
     scene.add(Call::Truncate { set, file, size });
     scene.add(Call::Truncate { set, file, size: rng.pick(&[old_size, size + 600, size + 2_000]) });
+}
+
+/// Calls that make a family for writes by groups: a file with stored pages and
+/// holes on both sides of a group's edge or among the last of its 64 pages,
+/// children of its set that need them, changed in different ways, and few blocks
+/// free. Then writes of all kinds, of these pages and of pages beside them.
+fn group_calls(rng: &mut Rng, style: &Style) -> (Vec<Call>, Vec<Call>) {
+    let mut scene = Scene::new(rng, style);
+    scene.pages = group_pages(rng, style.block_count);
+    let mut set = make_ancestors(rng, &mut scene);
+    match rng.below(4) {
+        0 => cut_and_lengthen(rng, &mut scene, set),
+        // A virgin file, which reads all pages through its parent.
+        1 => set = scene.make(set, 1).expect("an unused number"),
+        _ => {}
+    }
+    let children = rng.pick(&[1, 1, 1, 2, 2, 3]);
+    make_children(rng, &mut scene, set, children);
+    let leave = rng.pick(&[0, 1, 2, 3, 4, 5, 6, 8, 12, 20]);
+    fill_up(rng, &mut scene, leave);
+    let calls = std::mem::take(&mut scene.calls);
+    for _ in 0..rng.between(2, 6) {
+        let any = rng.pick(&used_sets(&scene.beside));
+        let written = if rng.percent(80) { set } else { any };
+        write_near(rng, &mut scene, written);
+        // A new child needs all pages.
+        if rng.percent(50) {
+            scene.make(set, rng.pick(&[0, 1]));
+        }
+    }
+    (calls, scene.calls)
+}
+
+/// Two to six of six pages that follow each other, ascending; in a small store
+/// not many.
+fn group_pages(rng: &mut Rng, block_count: usize) -> Vec<usize> {
+    let first = rng.pick(&[0, 0, 1, 4, 5, 6, 12, 29, 30, 54, 57, 58, 58]);
+    let mut pages: Vec<usize> = (first..first + 6).collect();
+    rng.shuffle(&mut pages);
+    pages.truncate(rng.between(2, (block_count / 2).clamp(2, 6)));
+    pages.sort();
+    pages
+}
+
+/// A write of any kind at one of the scene's pages or at a page near it.
+fn write_near(rng: &mut Rng, scene: &mut Scene, set: u32) {
+    let mut page = rng.pick(&scene.pages);
+    if rng.percent(40) {
+        page = near(rng, page);
+    }
+    let offset = (page * PAGE_BYTES + rng.pick(&[0, 0, 100, 511])) as u32;
+    let length = rng.pick(&[1, 1, 100, 512, 513, 1_024, 2_500]);
+    let length = length.min(LARGEST_SIZE - offset as usize);
+    let index = rng.pick(&[WRITE, WRITE, WRITE_NARROW, WRITE_GROUPS, WRITE_GROUPS]);
+    let target = (set, scene.file);
+    scene.add(write_call(rng, index, target, offset, length));
+}
+
+/// A page up to seven pages before or after this one.
+fn near(rng: &mut Rng, page: usize) -> usize {
+    (page + rng.between(0, 14)).saturating_sub(7).min(PAGES - 1)
+}
+
+/// A write of the kind at this place in `CALL_NAMES`.
+fn write_call(
+    rng: &mut Rng,
+    index: usize,
+    (set, file): (u32, u32),
+    offset: u32,
+    length: usize,
+) -> Call {
+    let seed = data_seed(rng);
+    match index {
+        WRITE => Call::Write { set, file, offset, length, seed },
+        WRITE_NARROW => Call::WriteNarrow { set, file, offset, length, seed },
+        _ => Call::WriteGroups { group: group_size(rng), set, file, offset, length, seed },
+    }
+}
+
+/// Mostly one of `GROUP_SIZES`.
+fn group_size(rng: &mut Rng) -> Group {
+    let any = rng.between(1, PAGES);
+    let pages = if rng.percent(85) { rng.pick(&GROUP_SIZES) } else { any };
+    Group::new(pages).expect("1 to 64 pages")
 }
 
 /// Calls that leave few blocks free: full files, in set 0 and in sets made
@@ -401,20 +512,35 @@ fn stored_pages(beside: &Beside, set: u32, file: u32) -> Vec<usize> {
     (0..PAGES).filter(|page| kinds[*page] == TallyKind::Stored).collect()
 }
 
-/// Those of them that a child needs: changing them takes copies, or marks, and
-/// dropping them hands them over.
-fn needed_pages(beside: &Beside, set: u32, file: u32) -> Vec<usize> {
-    let tally = &beside.tally;
-    let children = &tally.set(set as usize).children;
-    let needs = |child: usize, page: usize| {
-        let record = tally.file(child, file as usize);
+/// Whether the file of a child set needs a page.
+fn is_needed(beside: &Beside, set: u32, file: u32, page: usize) -> bool {
+    let needs = |child: &usize| {
+        let record = beside.tally.file(*child, file as usize);
         matches!(record.condition, Condition::Own | Condition::Virgin)
             && record.kinds[page] == TallyKind::Unmapped
     };
-    stored_pages(beside, set, file)
-        .into_iter()
-        .filter(|page| children.iter().any(|child| needs(*child, *page)))
-        .collect()
+    beside.tally.set(set as usize).children.iter().any(needs)
+}
+
+/// Those of the stored pages that a child needs: dropping them hands them over.
+fn needed_pages(beside: &Beside, set: u32, file: u32) -> Vec<usize> {
+    let stored = stored_pages(beside, set, file);
+    stored.into_iter().filter(|page| is_needed(beside, set, file, *page)).collect()
+}
+
+/// The pages that a child needs and that are stored in the file's own map or in
+/// that of a set above: writing them takes copies, or marks.
+fn pages_to_copy(beside: &Beside, set: u32, file: u32) -> Vec<usize> {
+    let is_stored = |page: &usize| {
+        let kind = |at: usize| beside.tally.file(at, file as usize).kinds[*page];
+        let mut at = Some(set as usize);
+        while let Some(set) = at.filter(|at| kind(*at) == TallyKind::Unmapped) {
+            at = beside.tally.set(set).parent;
+        }
+        at.map(kind) == Some(TallyKind::Stored)
+    };
+    let needed = (0..PAGES).filter(|page| is_needed(beside, set, file, *page));
+    needed.filter(is_stored).collect()
 }
 
 /// A set and a file of it: mostly one that the call can work on, often one
@@ -424,8 +550,10 @@ fn target(rng: &mut Rng, style: &Style, beside: &Beside, drops: bool) -> (u32, u
     let mut list = if rng.percent(85) { changeable_files(beside) } else { present_files(beside) };
     if drops && rng.percent(15) {
         prefer(&mut list, |(set, file)| is_stored_but_absent_in_parent(beside, set, file));
-    } else if rng.percent(if drops { 65 } else { 50 }) {
+    } else if drops && rng.percent(65) {
         prefer(&mut list, |(set, file)| !needed_pages(beside, set, file).is_empty());
+    } else if !drops && rng.percent(60) {
+        prefer(&mut list, |(set, file)| !pages_to_copy(beside, set, file).is_empty());
     }
     if rng.percent(85) {
         prefer(&mut list, |(_, file)| style.files.contains(&file));
@@ -509,7 +637,8 @@ pub fn call(rng: &mut Rng, style: &Style, beside: &Beside) -> Call {
         index += 1;
     }
     // Without files most calls say little, so create one.
-    if (2..=5).contains(&index) && changeable_files(beside).is_empty() && rng.percent(80) {
+    let of_a_file = (2..=5).contains(&index) || WRITES.contains(&index);
+    if of_a_file && changeable_files(beside).is_empty() && rng.percent(80) {
         index = 1;
     }
     // With every set used, make room for making more.
@@ -536,8 +665,9 @@ pub fn call_of(rng: &mut Rng, style: &Style, beside: &Beside, index: usize) -> C
         9 => Call::Free {},
         10 => Call::CheckBlocks {},
         11 => Call::Check {},
-        2 if rng.percent(style.filling) => {
-            filling_write(rng, beside).unwrap_or_else(|| call_of_file(rng, style, beside, index))
+        _ if WRITES.contains(&index) && rng.percent(style.filling) => {
+            let filling = filling_write(rng, beside, index);
+            filling.unwrap_or_else(|| call_of_file(rng, style, beside, index))
         }
         _ => call_of_file(rng, style, beside, index),
     }
@@ -549,7 +679,11 @@ fn call_of_file(rng: &mut Rng, style: &Style, beside: &Beside, index: usize) -> 
     let (set, file) = target(rng, style, beside, drops);
     let size = size_of(beside, set, file);
     let mut offset = place(rng, style, size);
-    if let Some(page) = stored_page(rng, beside, set, file, drops) {
+    let page = match drops {
+        true => dropped_page(rng, beside, set, file),
+        false => written_page(rng, beside, set, file),
+    };
+    if let Some(page) = page {
         offset = (page * PAGE_BYTES + rng.pick(&[0, 0, 1, 300, 511])) as u32;
     }
     file_call(rng, style, index, (set, file), offset, size)
@@ -611,13 +745,14 @@ fn page_stored_in_a_set(rng: &mut Rng, beside: &Beside, file: u32) -> Option<usi
 
 /// A write of whole pages not stored in the file's map that takes all free
 /// blocks, or all but one or two.
-fn filling_write(rng: &mut Rng, beside: &Beside) -> Option<Call> {
+fn filling_write(rng: &mut Rng, beside: &Beside, index: usize) -> Option<Call> {
     let free = beside.tally.free;
     let pages = free.saturating_sub(rng.pick(&[0, 0, 0, 1, 2]));
     if pages == 0 || pages > PAGES {
         return None;
     }
-    let (set, file) = rng.pick_any(&changeable_files(beside))?;
+    let target = rng.pick_any(&changeable_files(beside))?;
+    let (set, file) = target;
     let kinds = &beside.tally.file(set as usize, file as usize).kinds;
     let places: Vec<usize> = (0..=PAGES - pages)
         .filter(|first| !kinds[*first..first + pages].contains(&TallyKind::Stored))
@@ -625,18 +760,28 @@ fn filling_write(rng: &mut Rng, beside: &Beside) -> Option<Call> {
     // Mostly near the front, so that later writes meet these pages.
     let place = if rng.percent(70) { *places.first()? } else { rng.pick_any(&places)? };
     let (offset, length) = ((place * PAGE_BYTES) as u32, pages * PAGE_BYTES);
-    Some(Call::Write { set, file, offset, length, seed: data_seed(rng) })
+    Some(write_call(rng, index, target, offset, length))
 }
 
-/// Sometimes a page stored in the file's own map, if it has one: a write
-/// there needs no own block, but its children may need copies. For a truncate
-/// it is often the first, so that the others are dropped.
-fn stored_page(rng: &mut Rng, beside: &Beside, set: u32, file: u32, drops: bool) -> Option<usize> {
-    if size_of(beside, set, file) == 0 || !rng.percent(if drops { 70 } else { 45 }) {
+/// Often a page that a child needs or that is stored in the file's own map, if
+/// there is one, or a page near it, which makes that one an extra page.
+fn written_page(rng: &mut Rng, beside: &Beside, set: u32, file: u32) -> Option<usize> {
+    if size_of(beside, set, file) == 0 || !rng.percent(65) {
+        return None;
+    }
+    let to_copy = rng.pick_any(&pages_to_copy(beside, set, file));
+    let page = to_copy.or_else(|| rng.pick_any(&stored_pages(beside, set, file)))?;
+    Some(if rng.percent(35) { near(rng, page) } else { page })
+}
+
+/// Often a page stored in the file's own map, if it has one, and often the first
+/// of them, so that a truncate drops the others.
+fn dropped_page(rng: &mut Rng, beside: &Beside, set: u32, file: u32) -> Option<usize> {
+    if size_of(beside, set, file) == 0 || !rng.percent(70) {
         return None;
     }
     let stored = stored_pages(beside, set, file);
-    if drops && rng.percent(50) {
+    if rng.percent(50) {
         return stored.first().copied();
     }
     let needed = rng.pick_any(&needed_pages(beside, set, file));
@@ -652,9 +797,9 @@ fn file_call(
     size: usize,
 ) -> Call {
     match index {
-        2 => {
-            let (length, seed) = (length(rng, style, offset), data_seed(rng));
-            Call::Write { set, file, offset, length, seed }
+        WRITE | WRITE_NARROW | WRITE_GROUPS => {
+            let length = length(rng, style, offset);
+            write_call(rng, index, (set, file), offset, length)
         }
         4 => {
             let size = if rng.percent(30) { shorter(rng, size) } else { offset };
@@ -753,6 +898,12 @@ pub fn made_length(rng: &mut Rng) -> usize {
 /// A random well-formed state of this many blocks, after this many calls.
 pub fn made_of(rng: &mut Rng, block_count: usize, length: usize) -> Made {
     let start = start(rng, block_count);
+    made_from(rng, start, length)
+}
+
+/// A random well-formed state with this beginning, after this many calls more.
+pub fn made_from(rng: &mut Rng, start: Start, length: usize) -> Made {
+    let block_count = start.style.block_count;
     let mut made = Made {
         tables: vec![0; TABLES_BYTES],
         pages: vec![0; block_count * PAGE_BYTES],
@@ -784,10 +935,8 @@ impl Made {
         if answer.number != 0 {
             return;
         }
-        let mut bytes = match call {
-            Call::Write { length, seed, .. } => data_bytes(length, seed),
-            _ => Vec::new(),
-        };
+        let write = call.as_write();
+        let mut bytes = write.map_or(Vec::new(), |write| data_bytes(write.length, write.seed));
         let lent = Lent::store(&mut self.tables, &mut self.pages, &mut bytes);
         store::run(call.index(), &call.numbers(), lent);
         self.calls.push(call);

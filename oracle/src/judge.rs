@@ -39,7 +39,10 @@ impl Beside {
                 lines.push((9, self.is_present(set, file)));
                 lines
             }
-            Call::Write { set, file, offset, length, .. } => {
+            // The size of groups makes no difference.
+            Call::Write { set, file, offset, length, .. }
+            | Call::WriteNarrow { set, file, offset, length, .. }
+            | Call::WriteGroups { set, file, offset, length, .. } => {
                 let end = u64::from(offset) + length as u64;
                 let mut lines = self.present_lines(set, file, true, true);
                 lines.push((7, end > LARGEST_SIZE as u64));
@@ -150,10 +153,16 @@ impl Beside {
                 self.tally.create(set as usize, file as usize);
                 [0, 0, 0]
             }
+            // Document 02: "A write now copies by aligned groups of eight unless the
+            // caller asks for a narrow one."
             Call::Write { set, file, offset, length, seed } => {
-                let (set, file, offset) = (set as usize, file as usize, offset as usize);
-                self.plain.write(set, file, offset, &data_bytes(length, seed));
-                self.tally.write(set, file, offset, offset + length)
+                self.write(8, (set, file), offset, &data_bytes(length, seed))
+            }
+            Call::WriteNarrow { set, file, offset, length, seed } => {
+                self.write(1, (set, file), offset, &data_bytes(length, seed))
+            }
+            Call::WriteGroups { group, set, file, offset, length, seed } => {
+                self.write(group.pages(), (set, file), offset, &data_bytes(length, seed))
             }
             Call::Read { set, file, offset, length } => {
                 let (set, file, offset) = (set as usize, file as usize, offset as usize);
@@ -189,6 +198,19 @@ impl Beside {
             Call::CheckBlocks {} | Call::Check {} => [0, 0, 0],
         };
         (Answer::accepted(counts), bytes)
+    }
+
+    /// A write by groups of this size. The plain store knows no groups.
+    fn write(
+        &mut self,
+        group: usize,
+        (set, file): (u32, u32),
+        offset: u32,
+        data: &[u8],
+    ) -> [u32; 3] {
+        let (set, file, offset) = (set as usize, file as usize, offset as usize);
+        self.plain.write(set, file, offset, data);
+        self.tally.write(set, file, offset, offset + data.len(), group)
     }
 
     fn list(&self, set: usize, file: usize) -> &Vec<u8> {

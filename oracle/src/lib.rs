@@ -1,10 +1,11 @@
 //! A second implementation of the sweep store, written from document 01, Asks 1
-//! to 4 of document 02 and their readings (docs/DECISIONS.md) alone. Clarity
+//! to 5 of document 02 and their readings (docs/DECISIONS.md) alone. Clarity
 //! goes before speed: each call unpacks the tables to a plain state, does the
 //! paper's steps, and packs.
 //!
 //! The words are those of the documents: set, file, page, block, own, virgin,
-//! marked, hole, stored, unmapped, next start, needs, hand over.
+//! marked, hole, stored, unmapped, next start, needs, hand over, group, extra
+//! page.
 
 // The remainder is what document 01 speaks of.
 #![allow(clippy::manual_is_multiple_of)]
@@ -28,3 +29,4 @@ pub mod session;
 pub mod state;
 pub mod store;
 pub mod tally;
+pub mod writes;

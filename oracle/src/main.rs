@@ -6,7 +6,7 @@ use oracle::call::*;
 use oracle::check::check_all;
 use oracle::history::any_history;
 use oracle::rng::Rng;
-use oracle::{bits, rows, session};
+use oracle::{bits, rows, session, writes};
 use std::io::{Read, Write};
 use std::process::ExitCode;
 
@@ -123,4 +123,5 @@ fn show_counts(counts: &Counts) {
     println!("copies {}, files marked {}", counts.copies, counts.files_marked);
     println!("blocks handed over {} in {} calls", counts.handed_over, counts.handing_calls);
     println!("accepted reads compared {}", counts.reads_beside);
+    writes::show("plain store and tally", &counts.writes_beside);
 }

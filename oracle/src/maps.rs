@@ -182,11 +182,44 @@ impl State {
         (copies, marked)
     }
 
+    /// Document 02: "the other pages of each touched group are gone through,
+    /// ascending, children in order of making, with the same copying." So a page
+    /// resolving to a hole becomes a hole in each child that needs it, also in a
+    /// full store and past the size. A child marked in step 4 needs nothing.
+    /// Gives copies made.
+    pub fn extra_pages(
+        &mut self,
+        pages: &mut [u8],
+        set: usize,
+        file: usize,
+        others: &[usize],
+    ) -> u32 {
+        let mut copies = 0;
+        for &page in others {
+            let resolved = self.resolve(set, file, page);
+            for child in self.children(set) {
+                if !self.needs(child, file, page) {
+                    continue;
+                }
+                match resolved {
+                    Resolved::Hole => self.files[child][file].entries[page] = HOLE,
+                    // "an extra page finding no free block stays unmapped, marks
+                    // nothing and is not a needed copy"
+                    Resolved::Stored(source) => {
+                        let copied = self.copy_to_child(pages, source, child, file, page);
+                        copies += u32::from(copied);
+                    }
+                }
+            }
+        }
+        copies
+    }
+
     /// "One resolving to stored is copied to a block taken; with none free, the
     /// child's file is marked." Document 02: "Other children needing it still
     /// get copies. Pages that the file only reads through its parent are copied
-    /// as before, and so is the part page of a truncate." Gives false, and
-    /// changes nothing, if none is free.
+    /// as before, and so is the part page of a truncate." An extra page is copied
+    /// in the same way. Gives false, and changes nothing, if none is free.
     fn copy_to_child(
         &mut self,
         pages: &mut [u8],

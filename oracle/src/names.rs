@@ -1,8 +1,8 @@
 //! The names of the calls, alone in a file: build.rs reads it too.
 
-/// In the order of include/sweep.h; a call is told from others by its place
+/// In the order in which they came; a call is told from others by its place
 /// here. New ones stand at the end.
-pub const CALL_NAMES: [&str; 12] = [
+pub const CALL_NAMES: [&str; 14] = [
     "format",
     "create",
     "write",
@@ -15,4 +15,9 @@ pub const CALL_NAMES: [&str; 12] = [
     "free",
     "check-blocks",
     "check",
+    "write-narrow",
+    "write-groups",
 ];
+
+/// Those of them that no library has a function for: the oracle does them alone.
+pub const ORACLE_ALONE: [&str; 1] = ["write-groups"];

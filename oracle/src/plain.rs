@@ -53,7 +53,8 @@ impl Plain {
     }
 
     /// "A write fills a shorter list with zeros up to its offset, then puts
-    /// its bytes there, past the end if need be." Empty writes change nothing.
+    /// its bytes there, past the end if need be." Empty writes change nothing. By
+    /// which groups a write copies makes no difference here.
     pub fn write(&mut self, set: usize, file: usize, offset: usize, data: &[u8]) {
         if data.is_empty() {
             return;

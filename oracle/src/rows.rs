@@ -1,5 +1,7 @@
 //! Rows M1 to M12 of document 01, each done on a store of its own. Document 02:
-//! "M11 becomes 0; 0, 0, 0 and M12 becomes 0; 0, 0, 0 with no block free."
+//! "M11 becomes 0; 0, 0, 0 and M12 becomes 0; 0, 0, 0 with no block free." "The
+//! session program and the rows of document 01 relied on the old default and now
+//! ask for narrow writes."
 
 use crate::call::*;
 use crate::store;
@@ -44,7 +46,7 @@ impl Store {
 
     fn write(&mut self, set: u32, offset: u32, length: usize) -> Answer {
         let data = data_bytes(length, 1);
-        store::write(&mut self.tables, &mut self.pages, set, 0, offset, &data)
+        store::write_narrow(&mut self.tables, &mut self.pages, set, 0, offset, &data)
     }
 
     fn make(&mut self, parent: u32, set: u32) -> Answer {

@@ -104,7 +104,9 @@ fn run(call: &SessionCall, tables: &mut [u8], pages: &mut [u8]) -> Answer {
     let SessionCall { set, file, other, offset, .. } = *call;
     match call.op {
         1 => store::create(tables, pages, set, file),
-        2 => store::write(tables, pages, set, file, offset, &vec![call.fill; call.length]),
+        // Document 02: "The session program and the rows of document 01 relied on
+        // the old default and now ask for narrow writes."
+        2 => store::write_narrow(tables, pages, set, file, offset, &vec![call.fill; call.length]),
         3 => store::truncate(tables, pages, set, file, offset),
         4 => store::delete(tables, pages, set, file),
         5 => store::make(tables, pages, set, other, 0),

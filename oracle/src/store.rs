@@ -25,6 +25,8 @@ pub fn create(tables: &mut [u8], pages: &mut [u8], set: u32, file: u32) -> Answe
     answer(try_create(tables, pages, set, file))
 }
 
+/// Document 02: "A write now copies by aligned groups of eight unless the caller
+/// asks for a narrow one."
 pub fn write(
     tables: &mut [u8],
     pages: &mut [u8],
@@ -33,7 +35,33 @@ pub fn write(
     offset: u32,
     data: &[u8],
 ) -> Answer {
-    answer(try_write(tables, pages, set, file, offset, data))
+    answer(try_write(tables, pages, WRITE_GROUP, set, file, offset, data))
+}
+
+/// The narrow write: each page is a group, so no touched group has another page.
+pub fn write_narrow(
+    tables: &mut [u8],
+    pages: &mut [u8],
+    set: u32,
+    file: u32,
+    offset: u32,
+    data: &[u8],
+) -> Answer {
+    answer(try_write(tables, pages, NARROW_GROUP, set, file, offset, data))
+}
+
+/// A write by groups of `group` pages, 1 to 64.
+pub fn write_groups(
+    tables: &mut [u8],
+    pages: &mut [u8],
+    group: usize,
+    set: u32,
+    file: u32,
+    offset: u32,
+    data: &[u8],
+) -> Answer {
+    assert!((1..=PAGES).contains(&group), "a group has 1 to 64 pages");
+    answer(try_write(tables, pages, group, set, file, offset, data))
 }
 
 pub fn read(
@@ -95,6 +123,8 @@ const DOES: [fn(&Numbers, Lent) -> Answer; CALLS] = [
     |_, lent| free(lent.tables, lent.pages),
     |_, lent| check_blocks(lent.tables),
     |_, lent| check(lent.tables, lent.pages),
+    |n, lent| write_narrow(lent.tables, lent.pages, n[0], n[1], n[2], lent.bytes),
+    |n, lent| write_groups(lent.tables, lent.pages, n[0] as usize, n[1], n[2], n[3], lent.bytes),
 ];
 
 /// Does the call at this place in `CALL_NAMES`.
@@ -214,9 +244,11 @@ fn try_create(tables: &mut [u8], pages: &[u8], set: u32, file: u32) -> Outcome {
     Ok([0, 0, 0])
 }
 
+/// A write by groups of `group` pages.
 fn try_write(
     tables: &mut [u8],
     pages: &mut [u8],
+    group: usize,
     set: u32,
     file: u32,
     offset: u32,
@@ -241,6 +273,7 @@ fn try_write(
     let touched: Vec<usize> = (offset / PAGE_BYTES..=(end - 1) / PAGE_BYTES).collect();
 
     // Step 1: "Own need is the touched pages not stored in this file's map."
+    // Extra pages are not in it.
     let own_pages: Vec<usize> =
         touched.iter().copied().filter(|page| !state.is_stored(set, file, *page)).collect();
     room_for(&state, own_pages.len())?;
@@ -251,6 +284,10 @@ fn try_write(
         own_pages.iter().map(|page| (*page, take_own(&mut state))).collect();
     // A write drops no page.
     let (copies, marked) = state.step_4(pages, set, file, &touched, &[]);
+    // Document 02: "After step 4 for the touched pages, the other pages of each
+    // touched group are gone through". "An extra copy made counts in the second
+    // count".
+    let extra_copies = state.extra_pages(pages, set, file, &other_pages(&touched, group));
     // Step 5: "Old bytes are carried to own pages, new bytes laid over, size
     // raised to the write's end if larger."
     for (page, block) in &own {
@@ -260,7 +297,18 @@ fn try_write(
     let record = &mut state.files[set][file];
     record.size = record.size.max(end);
     state.pack(tables);
-    Ok([own.len() as u32, copies, marked])
+    Ok([own.len() as u32, copies + extra_copies, marked])
+}
+
+/// The other pages of the groups that a write touches, ascending. Group n of g
+/// pages begins at page n x g, "the last group ending at page 63". The touched
+/// pages follow each other, so the others stand before the first of them in its
+/// group and after the last in its group.
+fn other_pages(touched: &[usize], group: usize) -> Vec<usize> {
+    let (first, last) = (touched[0], touched[touched.len() - 1]);
+    let start = first / group * group;
+    let end = ((last / group + 1) * group).min(PAGES);
+    (start..first).chain(last + 1..end).collect()
 }
 
 /// Takes an own block; step 1 has seen to it that there is one.

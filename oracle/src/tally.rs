@@ -66,7 +66,7 @@ pub struct Tally {
 /// What the children got in one call.
 #[derive(Default)]
 struct Given {
-    /// Needed copies made.
+    /// Copies made: needed ones, and in a write those of extra pages.
     copies: u32,
     /// Files newly marked.
     marked: u32,
@@ -224,6 +224,29 @@ impl Tally {
         }
     }
 
+    /// The pages that share a group with one of these, without these. A page's
+    /// group is its number divided by the size of groups, rounded down.
+    fn others_in_groups(touched: &[usize], group: usize) -> Vec<usize> {
+        let groups: Vec<usize> = touched.iter().map(|page| page / group).collect();
+        let is_other = |page: &usize| groups.contains(&(page / group)) && !touched.contains(page);
+        (0..PAGES).filter(is_other).collect()
+    }
+
+    /// Document 02, of the other pages of the touched groups: "an extra page
+    /// finding no free block stays unmapped, marks nothing and is not a needed
+    /// copy". All else is as for a touched page.
+    fn give_extra_pages(&mut self, set: usize, file: usize, others: &[usize], given: &mut Given) {
+        for &page in others {
+            let kind = self.resolves(set, file, page);
+            for child in self.waiting(set, file, page) {
+                let has_room = kind == Hole || self.free > 0;
+                if has_room {
+                    self.give(child, file, page, kind, given);
+                }
+            }
+        }
+    }
+
     fn mark(&mut self, set: usize, file: usize) -> u32 {
         let mut to_mark = vec![set];
         let mut marked = 0;
@@ -245,7 +268,15 @@ impl Tally {
         *self.file_mut(set, file) = TallyFile::new(Condition::Own, Hole);
     }
 
-    pub fn write(&mut self, set: usize, file: usize, offset: usize, end: usize) -> [u32; 3] {
+    /// A write of the bytes from `offset` up to `end`, by groups of `group` pages.
+    pub fn write(
+        &mut self,
+        set: usize,
+        file: usize,
+        offset: usize,
+        end: usize,
+        group: usize,
+    ) -> [u32; 3] {
         if offset == end {
             return [0, 0, 0];
         }
@@ -255,7 +286,9 @@ impl Tally {
         self.free -= own;
         let touched = Tally::pages_of(offset, end);
         // Nothing is dropped.
-        let given = self.give_to_children(set, file, &touched, PAGES);
+        let mut given = self.give_to_children(set, file, &touched, PAGES);
+        let others = Tally::others_in_groups(&touched, group);
+        self.give_extra_pages(set, file, &others, &mut given);
         let record = self.file_mut(set, file);
         for page in touched {
             record.kinds[page] = Stored;

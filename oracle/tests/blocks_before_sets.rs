@@ -414,7 +414,7 @@ fn what_the_calls_are_lent() {
         assert!(call.row().lent().all(|buffer| call.row().lends(buffer) == Lending::ReadOnly));
         assert_eq!(Item::parse(&call.to_string()), Ok(Item::Call(call)));
     }
-    assert_eq!(CALL_NAMES[10..], ["check-blocks", "check"]);
+    assert_eq!(CALL_NAMES[10..12], ["check-blocks", "check"]);
     assert!(Item::parse("check-blocks 1").is_err() && Item::parse("check 1").is_err());
 }
 

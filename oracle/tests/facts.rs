@@ -1,6 +1,6 @@
-//! Facts found by running the store, which follow from documents 01 and 02 (Ask
-//! 2). Each is checked after every call of random histories, and those of calls
-//! on random well-formed stores too.
+//! Facts found by running the store, which follow from documents 01 and 02 (Asks
+//! 2 and 5). Each is checked after every call of random histories, and those of
+//! calls on random well-formed stores too.
 
 use oracle::call::*;
 use oracle::maps::{block_range, Resolved};
@@ -109,15 +109,21 @@ fn is_below(state: &State, set: usize, above: usize) -> bool {
     set != 0 && state.sets[set].used && (parent == above || is_below(state, parent, above))
 }
 
-/// A child's entry changes only from unmapped and only at a touched page.
-/// Afterwards no own or virgin child needs a touched page.
+/// A child's entry changes only from unmapped and only at a touched page or, in
+/// a write, at a page of a touched group. Afterwards no own or virgin child needs
+/// a touched page, and if a block is free, none needs a page of a touched group.
 fn children_no_longer_need_touched_pages(change: &Change) {
+    let after = change.seen.after;
     for child in change.children() {
         for page in 0..PAGES {
             let old = change.seen.before.files[child][change.file].entries[page];
             let touched = change.touched.contains(&page);
-            assert!(old == change.entry_after(child, page) || (old == UNMAPPED && touched));
-            assert!(!(touched && change.seen.after.needs(child, change.file, page)));
+            let extra = change.extra.contains(&page);
+            let may_change = old == UNMAPPED && (touched || extra);
+            assert!(old == change.entry_after(child, page) || may_change);
+            let needs = after.needs(child, change.file, page);
+            assert!(!(touched && needs));
+            assert!(!(extra && needs && after.free_blocks() > 0));
         }
     }
 }
@@ -153,16 +159,16 @@ fn others_resolve_as_before(change: &Change) {
     }
 }
 
-/// How many pairs there are, before the call, of a child and a touched page that
-/// it needs and that resolves to stored in this file.
-fn needed(change: &Change) -> usize {
+/// How many pairs there are, before the call, of a child and one of these pages
+/// that it needs and that resolves to stored in this file.
+fn needed(change: &Change, pages: &[usize]) -> usize {
     let before = change.seen.before;
     let stored = |page: &&usize| before.resolve(change.set, change.file, **page) != Resolved::Hole;
     let needing = |page: &usize| {
         let needs = |child: &usize| before.needs(*child, change.file, *page);
         change.children().into_iter().filter(needs).count()
     };
-    change.touched.iter().filter(stored).map(needing).sum()
+    pages.iter().filter(stored).map(needing).sum()
 }
 
 /// How many pages dropped whole are, before the call, stored in this file's own
@@ -176,18 +182,30 @@ fn to_hand_over(change: &Change) -> usize {
     change.whole.iter().filter(stored).filter(needed).count()
 }
 
-/// The copies called for are the pages needed less those to hand over. All are
-/// made, or as many as blocks are free besides the own blocks if those are too
-/// few; exactly then some file is marked. At most the pages to hand over are
-/// handed over, and all of them if nothing is marked.
+/// The copies called for are the pages needed less those to hand over, and in a
+/// write the extra pages needed. All are made, or as many as blocks are free
+/// besides the own blocks if those are too few. Some file is marked exactly if
+/// these blocks are too few without the extra pages. At most the pages to hand
+/// over are handed over, and all of them if nothing is marked.
 fn copies_marking_and_handing_over(change: &Change) {
     let Seen { answer, before, call, .. } = *change.seen;
-    let (needed, to_hand_over) = (needed(change), to_hand_over(change));
+    let (needed, extra) = (needed(change, &change.touched), needed(change, &change.extra));
+    let to_hand_over = to_hand_over(change);
     let room = before.free_blocks() - answer.first as usize;
-    assert_eq!(answer.second as usize, (needed - to_hand_over).min(room), "{call}");
+    assert_eq!(answer.second as usize, (needed - to_hand_over + extra).min(room), "{call}");
     assert_eq!(answer.third > 0, needed - to_hand_over > room, "{call}");
     assert!(change.handed.len() <= to_hand_over, "{call}");
     assert!(answer.third > 0 || change.handed.len() == to_hand_over, "{call}");
+}
+
+/// An extra page is copied only if nothing is marked.
+fn extra_copies_only_if_nothing_is_marked(change: &Change) {
+    let copied = |child: usize| {
+        let is_stored = |page: &usize| change.entry_after(child, *page).kind == Kind::Stored;
+        let was_needed = |page: &&usize| change.seen.before.needs(child, change.file, **page);
+        change.extra.iter().filter(was_needed).any(is_stored)
+    };
+    assert!(change.seen.answer.third == 0 || !change.children().into_iter().any(copied));
 }
 
 fn marked_count(state: &State) -> usize {
@@ -233,8 +251,9 @@ fn other_used_blocks_stay(change: &Change) {
 
 /// Own blocks and copies come from the free blocks, and the blocks that leave
 /// this file's map become free, except those handed over. Own blocks and copies
-/// are at most the blocks free before, and at most the touched pages times one
-/// more than the children. Without any, next start stays. After a write that
+/// are at most the blocks free before. Own blocks are at most the touched pages,
+/// copies at most these and the extra pages times the children. Without any, next
+/// start stays. After a write that
 /// marks, no block is free. A write hands nothing over.
 fn free_blocks_add_up(change: &Change) {
     let Seen { answer, before, after, call, .. } = *change.seen;
@@ -243,9 +262,11 @@ fn free_blocks_add_up(change: &Change) {
     let left = after.free_blocks() + taken + change.handed.len();
     assert_eq!(left, before.free_blocks() + gone, "{call}");
     assert!(taken <= before.free_blocks(), "{call}");
-    assert!(taken <= change.touched.len() * (1 + change.children().len()), "{call}");
+    let pages = change.touched.len() + change.extra.len();
+    assert!(answer.first as usize <= change.touched.len(), "{call}");
+    assert!(answer.second as usize <= pages * change.children().len(), "{call}");
     assert!(taken > 0 || after.next_start == before.next_start, "{call}");
-    let write = matches!(call, Call::Write { .. });
+    let write = call.as_write().is_some();
     assert!(!write || answer.third == 0 || after.free_blocks() == 0, "{call}");
     assert!(!write || change.handed.is_empty(), "{call}");
 }
@@ -255,7 +276,7 @@ fn free_blocks_add_up(change: &Change) {
 /// size.
 fn written_pages_are_stored(change: &Change) {
     let Seen { answer, before, after, call, .. } = *change.seen;
-    if !matches!(call, Call::Write { .. }) {
+    if call.as_write().is_none() {
         return;
     }
     for page in &change.touched {
@@ -296,6 +317,7 @@ fn facts_of_call(seen: &Seen) -> [usize; 4] {
     children_no_longer_need_touched_pages(&change);
     others_resolve_as_before(&change);
     copies_marking_and_handing_over(&change);
+    extra_copies_only_if_nothing_is_marked(&change);
     third_count_is_files_newly_marked(&change);
     other_used_blocks_stay(&change);
     free_blocks_add_up(&change);
@@ -332,5 +354,6 @@ fn facts_of_calls_in_histories() {
 fn facts_of_calls_on_well_formed_stores() {
     let mut sums = Sums::default();
     walk::stores(SEED ^ 2, 800, |seen| sums.add(facts_of_call(&seen)));
+    walk::written_stores(SEED ^ 3, 800, |seen| sums.add(facts_of_call(&seen)));
     sums.check();
 }

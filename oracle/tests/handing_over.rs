@@ -6,65 +6,12 @@
 
 use oracle::call::*;
 use oracle::state::*;
-use oracle::store;
 
 mod script;
-use script::Store;
-
-impl Store {
-    fn state(&self) -> State {
-        State::unpack(self.0.tables())
-    }
-
-    fn file(&self, set: usize) -> FileRecord {
-        self.state().files[set][0].clone()
-    }
-
-    /// The file's own map, a run as its first page and what it is: `0:3` for
-    /// pages from 0 on in blocks from 3 on, `2:hole`, `5:unmapped`.
-    fn map(&self, set: usize) -> String {
-        let entries = self.file(set).entries;
-        let mut runs = Vec::new();
-        for (page, entry) in entries.iter().enumerate() {
-            let before = page.checked_sub(1).map(|before| entries[before]);
-            match (entry.kind, before) {
-                (Kind::Stored, Some(b)) if b == stored(entry.block.wrapping_sub(1)) => {}
-                (Kind::Stored, _) => runs.push(format!("{page}:{}", entry.block)),
-                (_, Some(b)) if b == *entry => {}
-                (Kind::Hole, _) => runs.push(format!("{page}:hole")),
-                _ => runs.push(format!("{page}:unmapped")),
-            }
-        }
-        runs.join(" ")
-    }
-
-    fn is_marked(&self, set: usize) -> bool {
-        self.file(set).state == FileState::Marked
-    }
-
-    /// All bytes by reading.
-    fn reads(&self, set: u32) -> Vec<u8> {
-        let mut bytes = vec![0; LARGEST_SIZE];
-        let answer = store::read(self.0.tables(), self.0.pages(), set, 0, 0, &mut bytes);
-        assert_eq!(answer.number, 0, "the file of set {set} can be read");
-        let size = store::size(self.0.tables(), self.0.pages(), set, 0);
-        assert_eq!(size, Answer::accepted([answer.first, 0, 0]));
-        bytes.truncate(answer.first as usize);
-        bytes
-    }
-
-    fn free(&self) -> u32 {
-        store::free(self.0.tables(), self.0.pages()).first
-    }
-}
-
-/// The bytes of pages, each written whole with a seed of its own (0: zeros).
-fn pages(seeds: &[u32]) -> Vec<u8> {
-    seeds.iter().flat_map(|seed| data_bytes(PAGE_BYTES, *seed)).collect()
-}
+use script::{pages, Store};
 
 /// File 0 with page 0 of seed 1 in block 0 and page 1 of seed 2 in block 1.
-const TWO_PAGES: &str = "create 0 0; write 0 0 0 512 1; write 0 0 512 512 2";
+const TWO_PAGES: &str = "create 0 0; write-narrow 0 0 0 512 1; write-narrow 0 0 512 512 2";
 
 // What is handed over.
 
@@ -121,7 +68,7 @@ fn the_part_page_is_copied() {
 
 #[test]
 fn the_part_page_alone_with_no_block_free_marks() {
-    let mut store = Store::after(1, "create 0 0; write 0 0 0 512 1; make 0 1 0");
+    let mut store = Store::after(1, "create 0 0; write-narrow 0 0 0 512 1; make 0 1 0");
     assert_eq!(store.does("truncate 0 0 511"), "0; 0, 0, 1");
     assert!(store.is_marked(1));
     assert_eq!((store.map(0), store.map(1)), ("0:0 1:hole".into(), "0:unmapped".into()));
@@ -131,7 +78,7 @@ fn the_part_page_alone_with_no_block_free_marks() {
 /// The old last page is dropped whole though the size ends inside it.
 #[test]
 fn the_old_last_page_counts_as_whole() {
-    let mut store = Store::after(2, "create 0 0; write 0 0 0 600 1; make 0 1 0");
+    let mut store = Store::after(2, "create 0 0; write-narrow 0 0 0 600 1; make 0 1 0");
     assert_eq!(store.does("truncate 0 0 512"), "0; 0, 0, 0");
     assert_eq!(store.map(0), "0:0 1:hole");
     assert_eq!(store.map(1), "0:unmapped 1:1 2:unmapped");
@@ -142,8 +89,8 @@ fn the_old_last_page_counts_as_whole() {
 
 /// "Pages that the file only reads through its parent are copied as before".
 /// Set 1 reads page 0 (block 0) through set 0 and has page 1 in block 1.
-const READS_PAGE_0_THROUGH_PARENT: &str = "create 0 0; write 0 0 0 512 1; make 0 1 1; \
-    write 1 0 512 512 2; make 1 2 0";
+const READS_PAGE_0_THROUGH_PARENT: &str = "create 0 0; write-narrow 0 0 0 512 1; make 0 1 1; \
+    write-narrow 1 0 512 512 2; make 1 2 0";
 
 #[test]
 fn a_page_read_through_the_parent_is_copied() {
@@ -206,7 +153,7 @@ fn a_truncate_with_an_own_block_copies_and_pages_handed_over() {
 /// A virgin file has nothing in its own map, so it hands nothing over.
 #[test]
 fn a_virgin_file_hands_nothing_over() {
-    let script = "create 0 0; write 0 0 0 512 1; make 0 1 1; make 1 2 0";
+    let script = "create 0 0; write-narrow 0 0 0 512 1; make 0 1 1; make 1 2 0";
     let mut store = Store::after(2, script);
     assert_eq!(store.does("delete 1 0"), "0; 0, 1, 0");
     assert_eq!((store.map(0), store.map(2)), ("0:0 1:hole".into(), "0:1 1:hole".into()));
@@ -225,7 +172,7 @@ fn a_virgin_file_hands_nothing_over() {
 #[test]
 fn holes_stay_holes() {
     // Page 2 alone is stored, with one byte.
-    let script = "create 0 0; write 0 0 1024 1 9; make 0 1 0";
+    let script = "create 0 0; write-narrow 0 0 1024 1 9; make 0 1 0";
     let mut store = Store::after(1, script);
     assert_eq!(store.does("truncate 0 0 0"), "0; 0, 0, 0");
     assert_eq!(store.map(0), "0:hole");
@@ -246,9 +193,9 @@ fn holes_stay_holes() {
 /// size.
 #[test]
 fn nothing_else_hands_over() {
-    let script = "create 0 0; write 0 0 0 512 1; make 0 1 0";
+    let script = "create 0 0; write-narrow 0 0 0 512 1; make 0 1 0";
     let mut store = Store::after(1, script);
-    assert_eq!(store.does("write 0 0 0 512 2"), "0; 0, 0, 1");
+    assert_eq!(store.does("write-narrow 0 0 0 512 2"), "0; 0, 0, 1");
     assert!(store.is_marked(1));
     let mut store = Store::after(1, script);
     assert_eq!(store.does("truncate 0 0 512"), "0; 0, 0, 0");
@@ -263,7 +210,7 @@ fn nothing_else_hands_over() {
 /// The heir is first in order of making, not of number.
 #[test]
 fn the_heir_is_the_first_child_in_order_of_making() {
-    let mut store = Store::after(1, "create 0 0; write 0 0 0 512 1; make 0 2 0; make 0 1 0");
+    let mut store = Store::after(1, "create 0 0; write-narrow 0 0 0 512 1; make 0 2 0; make 0 1 0");
     assert_eq!(store.does("delete 0 0"), "0; 0, 0, 1");
     assert_eq!(store.map(2), "0:0 1:hole");
     assert!(store.is_marked(1) && store.map(1) == "0:unmapped");
@@ -274,8 +221,8 @@ fn the_heir_is_the_first_child_in_order_of_making() {
 /// needs it.
 #[test]
 fn children_that_do_not_need_the_page_are_passed_over() {
-    let script = "create 0 0; write 0 0 0 512 1; make 0 1 1; make 0 2 1; make 0 3 0; make 0 4 0; \
-        write 1 0 0 512 2; delete 2 0";
+    let script = "create 0 0; write-narrow 0 0 0 512 1; make 0 1 1; make 0 2 1; make 0 3 0; \
+        make 0 4 0; write-narrow 1 0 0 512 2; delete 2 0";
     let mut store = Store::after(3, script);
     assert_eq!(store.map(1), "0:1 1:unmapped");
     assert_eq!(store.does("delete 0 0"), "0; 0, 1, 0");
@@ -292,8 +239,9 @@ fn children_that_do_not_need_the_page_are_passed_over() {
 /// 2 has page 1 (block 3).
 #[test]
 fn the_pages_of_one_call_may_have_different_heirs() {
-    let script =
-        format!("{TWO_PAGES}; make 0 1 1; make 0 2 1; write 1 0 0 512 3; write 2 0 512 512 4");
+    let script = format!(
+        "{TWO_PAGES}; make 0 1 1; make 0 2 1; write-narrow 1 0 0 512 3; write-narrow 2 0 512 512 4"
+    );
     let mut store = Store::after(4, &script);
     assert_eq!(store.does("delete 0 0"), "0; 0, 0, 0");
     assert_eq!(store.map(1), "0:2 1:1 2:hole");
@@ -307,7 +255,8 @@ fn the_pages_of_one_call_may_have_different_heirs() {
 /// over.
 #[test]
 fn a_child_marked_earlier_in_the_call_is_passed_over() {
-    let script = "create 0 0; write 0 0 0 1024 1; make 0 1 1; make 0 2 1; write 2 0 0 512 7";
+    let script = "create 0 0; write-narrow 0 0 0 1024 1; make 0 1 1; make 0 2 1; \
+        write-narrow 2 0 0 512 7";
     let mut store = Store::after(3, script);
     assert_eq!(store.does("truncate 0 0 100"), "0; 0, 0, 1");
     assert!(store.is_marked(1));
@@ -323,8 +272,8 @@ fn a_child_marked_earlier_in_the_call_is_passed_over() {
 /// is marked; set 3 has it and takes page 1 over.
 #[test]
 fn a_child_marked_earlier_in_a_delete_is_passed_over() {
-    let script = "create 0 0; write 0 0 0 512 1; make 0 1 1; write 1 0 512 512 2; \
-        make 1 2 0; make 1 3 1; write 3 0 0 512 3";
+    let script = "create 0 0; write-narrow 0 0 0 512 1; make 0 1 1; write-narrow 1 0 512 512 2; \
+        make 1 2 0; make 1 3 1; write-narrow 3 0 0 512 3";
     let mut store = Store::after(3, script);
     assert_eq!(store.does("delete 1 0"), "0; 0, 0, 1");
     assert!(store.is_marked(2) && store.map(2) == "0:unmapped");
@@ -336,7 +285,8 @@ fn a_child_marked_earlier_in_a_delete_is_passed_over() {
 /// A child marked by an earlier call needs nothing either.
 #[test]
 fn a_child_marked_before_the_call_is_passed_over() {
-    let script = "create 0 0; write 0 0 0 512 1; make 0 1 0; write 0 0 0 512 2; make 0 2 0";
+    let script = "create 0 0; write-narrow 0 0 0 512 1; make 0 1 0; write-narrow 0 0 0 512 2; \
+        make 0 2 0";
     let mut store = Store::after(1, script);
     assert!(store.is_marked(1));
     assert_eq!(store.does("delete 0 0"), "0; 0, 0, 0");
@@ -349,7 +299,8 @@ fn a_child_marked_before_the_call_is_passed_over() {
 /// marked file keeps its blocks, so the block stays used until it is deleted.
 #[test]
 fn an_heir_marked_later_in_the_call_keeps_the_block() {
-    let script = "create 0 0; write 0 0 512 512 1; make 0 1 1; write 1 0 0 512 2; make 1 2 1";
+    let script = "create 0 0; write-narrow 0 0 512 512 1; make 0 1 1; write-narrow 1 0 0 512 2; \
+        make 1 2 1";
     let mut store = Store::after(2, script);
     assert_eq!(store.does("delete 1 0"), "0; 0, 0, 1");
     assert!(store.is_marked(2));
@@ -364,8 +315,8 @@ fn an_heir_marked_later_in_the_call_keeps_the_block() {
 /// (block 1) and is marked at page 1, and so is set 3, which has page 0 itself.
 #[test]
 fn a_block_of_an_heir_marked_later_is_not_free_for_this_calls_copies() {
-    let script = "create 0 0; write 0 0 512 512 1; make 0 1 1; write 1 0 0 512 2; make 1 2 0; \
-        make 1 3 1; write 3 0 0 512 3";
+    let script = "create 0 0; write-narrow 0 0 512 512 1; make 0 1 1; write-narrow 1 0 0 512 2; \
+        make 1 2 0; make 1 3 1; write-narrow 3 0 0 512 3";
     let mut store = Store::after(3, script);
     assert_eq!(store.does("delete 1 0"), "0; 0, 0, 2");
     assert!(store.is_marked(2) && store.map(2) == "0:1 1:unmapped");
@@ -442,7 +393,7 @@ fn row_12_with_2_to_7_children() {
 #[test]
 fn sixty_four_pages_and_seven_children() {
     let script =
-        "create 0 0; write 0 0 0 32768 5; make 0 1 0; make 0 2 0; make 0 3 0; make 0 4 0; \
+        "create 0 0; write-narrow 0 0 0 32768 5; make 0 1 0; make 0 2 0; make 0 3 0; make 0 4 0; \
         make 0 5 0; make 0 6 0; make 0 7 0";
     let mut store = Store::after(64 + 384, script);
     assert_eq!(store.does("delete 0 0"), "0; 0, 384, 0");
@@ -457,7 +408,8 @@ fn sixty_four_pages_and_seven_children() {
 /// heir reads on.
 #[test]
 fn the_dependents_of_heir_and_marked_child() {
-    let script = "create 0 0; write 0 0 0 512 1; make 0 1 0; make 0 2 0; make 2 3 0; make 1 4 0";
+    let script = "create 0 0; write-narrow 0 0 0 512 1; make 0 1 0; make 0 2 0; make 2 3 0; \
+        make 1 4 0";
     let mut store = Store::after(1, script);
     assert_eq!(store.does("delete 0 0"), "0; 0, 0, 2");
     assert!(store.is_marked(2) && store.is_marked(3));
@@ -483,7 +435,8 @@ fn blocks_are_handed_over_in_a_store_with_room() {
 /// comes free after step 4, so page 1 finds no block for set 2.
 #[test]
 fn blocks_that_no_child_needs_are_not_free_for_this_calls_copies() {
-    let script = "create 0 0; write 0 0 512 512 1; make 0 1 0; make 0 2 0; write 0 0 0 512 2";
+    let script = "create 0 0; write-narrow 0 0 512 512 1; make 0 1 0; make 0 2 0; \
+        write-narrow 0 0 0 512 2";
     let mut store = Store::after(2, script);
     assert_eq!(store.map(0), "0:1 1:0 2:hole");
     assert_eq!(store.map(1), "0:hole 1:unmapped");
@@ -521,13 +474,13 @@ fn the_heirs_own_call_frees_the_block() {
 /// The heir's block is its own: it is written in place, and handed on.
 #[test]
 fn the_heirs_block_is_its_own() {
-    let script = "create 0 0; write 0 0 0 512 1; make 0 1 1; make 1 2 1; delete 0 0";
+    let script = "create 0 0; write-narrow 0 0 0 512 1; make 0 1 1; make 1 2 1; delete 0 0";
     let mut store = Store::after(1, script);
     assert_eq!((store.map(1), store.map(2)), ("0:0 1:hole".into(), "0:unmapped".into()));
     assert_eq!(store.does("delete 1 0"), "0; 0, 0, 0");
     assert_eq!((store.file(1), store.map(2)), (ABSENT_FILE, "0:0 1:hole".into()));
     assert_eq!(store.free(), 0);
-    assert_eq!(store.does("write 2 0 0 512 3"), "0; 0, 0, 0");
+    assert_eq!(store.does("write-narrow 2 0 0 512 3"), "0; 0, 0, 0");
     assert_eq!(store.reads(2), pages(&[3]));
     assert_eq!(store.does("delete 2 0"), "0; 0, 0, 0");
     assert_eq!(store.free(), 1);
@@ -536,9 +489,9 @@ fn the_heirs_block_is_its_own() {
 /// The file made anew in the parent set has nothing to do with the block.
 #[test]
 fn a_file_created_anew_in_the_parent_is_another() {
-    let script = "create 0 0; write 0 0 0 512 1; make 0 1 0; delete 0 0; create 0 0";
+    let script = "create 0 0; write-narrow 0 0 0 512 1; make 0 1 0; delete 0 0; create 0 0";
     let mut store = Store::after(2, script);
-    assert_eq!(store.does("write 0 0 0 512 9"), "0; 1, 0, 0");
+    assert_eq!(store.does("write-narrow 0 0 0 512 9"), "0; 1, 0, 0");
     assert_eq!(store.map(0), "0:1 1:hole");
     assert_eq!(store.map(1), "0:0 1:hole");
     assert_eq!(store.does("delete 0 0"), "0; 0, 0, 0");
@@ -551,7 +504,7 @@ fn a_file_created_anew_in_the_parent_is_another() {
 fn a_page_written_anew_after_a_truncate_is_another() {
     let script = format!("{TWO_PAGES}; make 0 1 0; truncate 0 0 512");
     let mut store = Store::after(3, &script);
-    assert_eq!(store.does("write 0 0 512 512 8"), "0; 1, 0, 0");
+    assert_eq!(store.does("write-narrow 0 0 512 512 8"), "0; 1, 0, 0");
     assert_eq!(store.map(0), "0:0 1:2 2:hole");
     assert_eq!(store.reads(0), pages(&[1, 8]));
     assert_eq!(store.reads(1), pages(&[1, 2]));
@@ -561,7 +514,7 @@ fn a_page_written_anew_after_a_truncate_is_another() {
 
 #[test]
 fn own_need_and_refusal_8_stay() {
-    let script = "create 0 0; write 0 0 0 512 1; make 0 1 1; make 1 2 0";
+    let script = "create 0 0; write-narrow 0 0 0 512 1; make 0 1 1; make 1 2 0";
     let mut store = Store::after(1, script);
     let before = store.state();
     assert_eq!(store.does("truncate 1 0 100"), "8; 0, 0, 0");
@@ -572,7 +525,7 @@ fn own_need_and_refusal_8_stay() {
 /// the heir and the others, also those that need no page.
 #[test]
 fn virgin_children_become_own_with_their_size_first() {
-    let script = "create 0 0; write 0 0 0 600 1; make 0 1 0; make 0 2 0";
+    let script = "create 0 0; write-narrow 0 0 0 600 1; make 0 1 0; make 0 2 0";
     for (call, size) in [("delete 0 0", 0), ("truncate 0 0 0", 0), ("truncate 0 0 512", 512)] {
         let mut store = Store::after(4, script);
         assert_eq!(store.file(1).state, FileState::Virgin);
@@ -589,7 +542,7 @@ fn virgin_children_become_own_with_their_size_first() {
 /// is freed.
 #[test]
 fn a_page_whose_only_heir_was_marked_is_freed() {
-    let mut store = Store::after(2, "create 0 0; write 0 0 0 1024 1; make 0 1 0");
+    let mut store = Store::after(2, "create 0 0; write-narrow 0 0 0 1024 1; make 0 1 0");
     assert_eq!(store.does("truncate 0 0 1"), "0; 0, 0, 1");
     assert!(store.is_marked(1));
     assert_eq!((store.map(1), store.file(1).size), ("0:unmapped".into(), 1_024));
@@ -602,8 +555,9 @@ fn a_page_whose_only_heir_was_marked_is_freed() {
 /// and is marked with set 2.
 #[test]
 fn delete_of_a_marked_file_hands_nothing_over() {
-    let script =
-        format!("{TWO_PAGES}; make 0 1 1; write 1 0 0 512 3; make 1 2 1; write 0 0 512 1 4");
+    let script = format!(
+        "{TWO_PAGES}; make 0 1 1; write-narrow 1 0 0 512 3; make 1 2 1; write-narrow 0 0 512 1 4"
+    );
     let mut store = Store::after(3, &script);
     assert!(store.is_marked(1) && store.is_marked(2));
     assert_eq!(store.map(1), "0:2 1:unmapped");
@@ -627,7 +581,7 @@ fn a_read_only_set_takes_blocks_over() {
         assert_eq!(store.does("delete 0 0"), "0; 0, 0, 0");
         assert_eq!(store.map(1), "0:0 2:hole");
         assert_eq!(store.reads(1), pages(&[1, 2]));
-        let write = store.does("write 1 0 0 1 1");
+        let write = store.does("write-narrow 1 0 0 1 1");
         assert_eq!(write, if writeable == 0 { "4; 0, 0, 0" } else { "0; 0, 0, 0" });
     }
 }
@@ -635,7 +589,7 @@ fn a_read_only_set_takes_blocks_over() {
 /// The grandchild stays virgin and reads through the heir.
 #[test]
 fn the_heir_is_a_child_never_deeper() {
-    let script = "create 0 0; write 0 0 0 512 1; make 0 1 0; make 1 2 0; make 2 3 0";
+    let script = "create 0 0; write-narrow 0 0 0 512 1; make 0 1 0; make 1 2 0; make 2 3 0";
     let mut store = Store::after(1, script);
     assert_eq!(store.does("delete 0 0"), "0; 0, 0, 0");
     assert_eq!((store.file(1).state, store.map(1)), (FileState::Own, "0:0 1:hole".into()));
@@ -650,7 +604,8 @@ fn the_heir_is_a_child_never_deeper() {
 /// set 0, and it is freed.
 #[test]
 fn a_grandchild_that_is_unmapped_needs_nothing_of_this_file() {
-    let script = "create 0 0; write 0 0 0 512 1; make 0 1 1; write 1 0 0 512 2; make 1 2 0";
+    let script = "create 0 0; write-narrow 0 0 0 512 1; make 0 1 1; write-narrow 1 0 0 512 2; \
+        make 1 2 0";
     let mut store = Store::after(2, script);
     assert_eq!(store.does("delete 0 0"), "0; 0, 0, 0");
     assert_eq!(store.map(1), "0:1 1:hole");
@@ -663,8 +618,8 @@ fn a_grandchild_that_is_unmapped_needs_nothing_of_this_file() {
 /// parent nor its sibling 3 has any part in it.
 #[test]
 fn parents_and_siblings_have_no_part_in_it() {
-    let script = "create 0 0; write 0 0 0 512 1; make 0 1 1; make 0 3 0; write 1 0 0 512 2; \
-        make 1 2 0";
+    let script = "create 0 0; write-narrow 0 0 0 512 1; make 0 1 1; make 0 3 0; \
+        write-narrow 1 0 0 512 2; make 1 2 0";
     let mut store = Store::after(2, script);
     assert_eq!(store.does("delete 1 0"), "0; 0, 0, 0");
     assert_eq!(store.map(0), "0:0 1:hole");

@@ -227,7 +227,7 @@ impl Met {
 #[test]
 fn histories_keep_the_promise_and_meet_every_case() {
     let mut met = Met::default();
-    walk::histories(SEED, 300, |seen| {
+    walk::histories(SEED, 450, |seen| {
         promise(&seen);
         met.see(&seen);
     });
@@ -237,7 +237,7 @@ fn histories_keep_the_promise_and_meet_every_case() {
 #[test]
 fn well_formed_stores_keep_the_promise_and_meet_every_case() {
     let mut met = Met::default();
-    walk::stores(SEED, 1_500, |seen| {
+    walk::stores(SEED, 2_500, |seen| {
         promise(&seen);
         met.see(&seen);
     });

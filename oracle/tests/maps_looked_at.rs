@@ -35,7 +35,7 @@ const LINE: &str = "make 0 1 1; make 1 2 1; make 2 3 1; make 3 4 1; make 4 5 1";
 #[test]
 fn no_byte_read_is_no_map_looked_at() {
     // File 0 has size 1,000, file 1 size 0; both are virgin in sets 1 and 2.
-    let script = "create 0 0; create 0 1; write 0 0 0 1000 1; make 0 1 1; make 1 2 0";
+    let script = "create 0 0; create 0 1; write-narrow 0 0 0 1000 1; make 0 1 1; make 1 2 0";
     let mut store = Store::after(4, script);
     for set in [0, 1, 2] {
         let calls = [
@@ -72,7 +72,7 @@ fn no_byte_read_is_no_map_looked_at() {
 /// and the number is that of the pages that hold a byte read.
 #[test]
 fn in_set_0_pages_are_counted() {
-    let mut store = Store::after(4, "create 0 0; write 0 0 0 1536 1");
+    let mut store = Store::after(4, "create 0 0; write-narrow 0 0 0 1536 1");
     store.answers(&[
         // One byte, in each of the three pages: one map.
         ("read 0 0 0 1", "0; 1, 1, 0"),
@@ -100,7 +100,7 @@ fn in_set_0_pages_are_counted() {
 /// no byte read.
 #[test]
 fn pages_past_the_size_are_not_counted() {
-    let mut store = Store::after(4, "create 0 0; write 0 0 0 513 1; make 0 1 0");
+    let mut store = Store::after(4, "create 0 0; write-narrow 0 0 0 513 1; make 0 1 0");
     store.answers(&[
         // 513 bytes are in pages 0 and 1.
         ("read 0 0 0 32768", "0; 513, 2, 0"),
@@ -124,7 +124,7 @@ fn pages_past_the_size_are_not_counted() {
 #[test]
 fn a_hole_counts_like_a_stored_page() {
     // Page 2 alone is stored; pages 0, 1 and 3 are holes inside the size.
-    let script = "create 0 0; write 0 0 1024 512 1; truncate 0 0 2048; make 0 1 1";
+    let script = "create 0 0; write-narrow 0 0 1024 512 1; truncate 0 0 2048; make 0 1 1";
     let mut store = Store::after(4, script);
     store.answers(&[
         ("read 0 0 0 1", "0; 1, 1, 0"),
@@ -149,7 +149,7 @@ fn a_hole_counts_like_a_stored_page() {
 /// map after them, that of set 0.
 #[test]
 fn an_untouched_file_of_level_n_looks_at_n_plus_1_maps() {
-    let mut store = Store::after(4, &format!("create 0 0; write 0 0 0 1 1; {LINE}"));
+    let mut store = Store::after(4, &format!("create 0 0; write-narrow 0 0 0 1 1; {LINE}"));
     let lines = [
         ("read 0 0 0 1", "0; 1, 1, 0"),
         ("read 1 0 0 1", "0; 1, 2, 0"),
@@ -169,7 +169,7 @@ fn an_untouched_file_of_level_n_looks_at_n_plus_1_maps() {
 fn levels_count_and_not_set_numbers_or_siblings() {
     // From set 0 down: 6, 2, 7, 1, 4. Sets 3 and 5 are children of set 0 too.
     let line = "make 0 6 1; make 6 2 1; make 2 7 1; make 7 1 1; make 1 4 1; make 0 3 1; make 0 5 1";
-    let mut store = Store::after(1, &format!("create 0 0; write 0 0 0 1 1; {line}"));
+    let mut store = Store::after(1, &format!("create 0 0; write-narrow 0 0 0 1 1; {line}"));
     store.answers(&[
         ("read 6 0 0 1", "0; 1, 2, 0"),
         ("read 2 0 0 1", "0; 1, 3, 0"),
@@ -184,7 +184,7 @@ fn levels_count_and_not_set_numbers_or_siblings() {
 /// The largest number there is: 64 pages x 6 maps.
 #[test]
 fn a_full_file_at_level_5() {
-    let mut store = Store::after(64, &format!("create 0 0; write 0 0 0 32768 1; {LINE}"));
+    let mut store = Store::after(64, &format!("create 0 0; write-narrow 0 0 0 32768 1; {LINE}"));
     store.answers(&[
         ("read 5 0 0 32768", "0; 32768, 384, 0"),
         ("read 5 0 0 70000", "0; 32768, 384, 0"),
@@ -201,8 +201,8 @@ fn a_full_file_at_level_5() {
 }
 
 /// Set 0 has pages 0 to 3. Set 1 has page 1, set 2 (made from set 1) page 2.
-const MIXED: &str = "create 0 0; write 0 0 0 2048 1; make 0 1 1; write 1 0 512 512 2; make 1 2 1; \
-    write 2 0 1024 512 3";
+const MIXED: &str = "create 0 0; write-narrow 0 0 0 2048 1; make 0 1 1; \
+    write-narrow 1 0 512 512 2; make 1 2 1; write-narrow 2 0 1024 512 3";
 
 /// In set 2, page 0 is found in set 0 (3 maps), page 1 in set 1 (2), page 2 in
 /// the own map (1) and page 3 in set 0 (3).
@@ -252,7 +252,7 @@ fn pages_that_hold_no_byte_read_are_not_counted() {
 /// below end there, though set 0 has a block for page 1.
 #[test]
 fn a_hole_in_the_middle_ends_the_walk() {
-    let script = "create 0 0; write 0 0 0 1024 1; make 0 1 1; truncate 1 0 512; \
+    let script = "create 0 0; write-narrow 0 0 0 1024 1; make 0 1 1; truncate 1 0 512; \
         truncate 1 0 1024; make 1 2 0; make 2 3 0";
     let mut store = Store::after(4, script);
     store.answers(&[
@@ -277,7 +277,7 @@ fn a_hole_in_the_middle_ends_the_walk() {
 fn after_a_write_over_a_hole() {
     let mut store = Store::after(1, "create 0 0; truncate 0 0 512; make 0 1 0; make 1 2 0");
     store.answers(&[("read 1 0 0 1", "0; 1, 2, 0"), ("read 2 0 0 1", "0; 1, 3, 0")]);
-    store.accepts("write 0 0 0 1 7");
+    store.accepts("write-narrow 0 0 0 1 7");
     store.answers(&[
         ("read 0 0 0 1", "0; 1, 1, 0"),
         ("read 1 0 0 1", "0; 1, 1, 0"),
@@ -288,9 +288,10 @@ fn after_a_write_over_a_hole() {
 /// The same with a copy. Page 1 is not touched and is still read through set 0.
 #[test]
 fn after_a_write_that_copies() {
-    let mut store = Store::after(3, "create 0 0; write 0 0 0 1024 1; make 0 1 0; make 1 2 0");
+    let mut store =
+        Store::after(3, "create 0 0; write-narrow 0 0 0 1024 1; make 0 1 0; make 1 2 0");
     store.answers(&[("read 1 0 0 1024", "0; 1024, 4, 0"), ("read 2 0 0 1024", "0; 1024, 6, 0")]);
-    store.accepts("write 0 0 0 1 2");
+    store.accepts("write-narrow 0 0 0 1 2");
     store.answers(&[
         ("read 1 0 0 512", "0; 512, 1, 0"),
         ("read 1 0 512 512", "0; 512, 2, 0"),
@@ -302,7 +303,7 @@ fn after_a_write_that_copies() {
 /// Truncate leaves holes in this map. Set 1 has four pages of set 0 at first.
 #[test]
 fn a_file_that_shrank_and_grew_again() {
-    let script = "create 0 0; write 0 0 0 2048 1; make 0 1 1";
+    let script = "create 0 0; write-narrow 0 0 0 2048 1; make 0 1 1";
     let mut store = Store::after(5, script);
     store.answers(&[("read 1 0 0 2048", "0; 2048, 8, 0")]);
     store.accepts("truncate 1 0 0");
@@ -332,7 +333,8 @@ fn a_file_that_shrank_and_grew_again() {
 /// set 0 too, also where set 0 ends before it.
 #[test]
 fn a_file_that_only_grew() {
-    let mut store = Store::after(1, "create 0 0; write 0 0 0 1 1; make 0 1 1; truncate 1 0 2048");
+    let mut store =
+        Store::after(1, "create 0 0; write-narrow 0 0 0 1 1; make 0 1 1; truncate 1 0 2048");
     store.answers(&[
         ("read 1 0 0 2048", "0; 2048, 8, 0"),
         ("read 1 0 1536 1", "0; 1, 2, 0"),
@@ -343,7 +345,7 @@ fn a_file_that_only_grew() {
 // After Ask 2's handing over.
 
 /// Pages 0 and 1 of set 0, read through sets 1 and 2.
-const TWO_PAGES: &str = "create 0 0; write 0 0 0 1024 1; make 0 1 1; make 1 2 0";
+const TWO_PAGES: &str = "create 0 0; write-narrow 0 0 0 1024 1; make 0 1 1; make 1 2 0";
 
 /// Delete hands both blocks to set 1: its own map has the pages now, and set 2
 /// looks at one map fewer for each.
@@ -393,8 +395,8 @@ fn after_a_truncate_that_hands_over() {
 /// Set 1 has page 0 and reads page 1 through set 0; sets 2 and 3 lie below it.
 #[test]
 fn after_a_handing_over_in_the_middle_of_the_tree() {
-    let script = "create 0 0; write 0 0 0 1024 1; make 0 1 1; write 1 0 0 512 2; make 1 2 0; \
-        make 2 3 0";
+    let script = "create 0 0; write-narrow 0 0 0 1024 1; make 0 1 1; write-narrow 1 0 0 512 2; \
+        make 1 2 0; make 2 3 0";
     let mut store = Store::after(4, script);
     store.answers(&[
         // Page 0 is found in set 1, page 1 in set 0: 1 + 2, 2 + 3, 3 + 4.
@@ -415,8 +417,8 @@ fn after_a_handing_over_in_the_middle_of_the_tree() {
 /// entries, so that no parent map is gone to.
 #[test]
 fn below_a_marked_file() {
-    let script = "create 0 0; write 0 0 0 1 1; make 0 1 0; make 1 2 1; write 0 0 0 1 2; \
-        delete 2 0; create 2 0; truncate 2 0 600";
+    let script = "create 0 0; write-narrow 0 0 0 1 1; make 0 1 0; make 1 2 1; \
+        write-narrow 0 0 0 1 2; delete 2 0; create 2 0; truncate 2 0 600";
     let mut store = Store::after(1, script);
     store.answers(&[("read 1 0 0 1", "6; 0, 0, 0"), ("read 2 0 0 32768", "0; 600, 2, 0")]);
 }
@@ -424,7 +426,7 @@ fn below_a_marked_file() {
 /// "returned (counts 0, nothing changed)".
 #[test]
 fn refused_reads_give_no_count() {
-    let script = "create 0 0; write 0 0 0 1 1; make 0 1 0; write 0 0 0 1 2";
+    let script = "create 0 0; write-narrow 0 0 0 1 1; make 0 1 0; write-narrow 0 0 0 1 2";
     let mut store = Store::after(1, script);
     store.answers(&[
         ("read 8 0 0 1", "2; 0, 0, 0"),
@@ -639,7 +641,7 @@ impl Met {
 #[test]
 fn reads_of_histories_give_the_number_and_meet_every_case() {
     let mut met = Met::default();
-    walk::reads_of_histories(SEED, 300, |read| met.see(&read));
+    walk::reads_of_histories(SEED, 600, |read| met.see(&read));
     met.check(5);
 }
 

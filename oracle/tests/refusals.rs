@@ -15,11 +15,24 @@ fn last(script: &str) -> String {
     answer.unwrap().to_string()
 }
 
+/// The call; of a write, all three kinds of it.
+fn kinds(call: &str) -> Vec<String> {
+    match call.strip_prefix("write ") {
+        None => vec![call.to_string()],
+        Some(rest) => ["write", "write-narrow", "write-groups 5", "write-groups 64"]
+            .map(|name| format!("{name} {rest}"))
+            .to_vec(),
+    }
+}
+
+/// Each call gives its number, a write whatever its groups.
 fn refusals(base: &str, cases: &[(&str, u32)]) {
     for (call, number) in cases {
-        let found = last(&format!("{base}; {call}"));
-        let found = found.split(';').next().unwrap();
-        assert_eq!(found, number.to_string(), "{call}");
+        for call in kinds(call) {
+            let found = last(&format!("{base}; {call}"));
+            let found = found.split(';').next().unwrap();
+            assert_eq!(found, number.to_string(), "{call}");
+        }
     }
 }
 
@@ -222,7 +235,7 @@ fn number_1_in_every_other_call() {
         "pages 1024",
         "poke 3 1",
     ];
-    for call in calls {
+    for call in calls.into_iter().flat_map(kinds) {
         for damage in damages {
             assert_eq!(
                 last(&format!("format 512; {damage}; {call}")),

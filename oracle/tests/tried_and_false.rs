@@ -46,13 +46,13 @@ impl After {
 
 #[test]
 fn pages_of_free_blocks_are_zero() {
-    let after = after("format 512; create 0 0; write 0 0 0 1 1; delete 0 0");
+    let after = after("format 512; create 0 0; write-narrow 0 0 0 1 1; delete 0 0");
     assert!(!after.state.bits[0] && after.pages[0] != 0);
 }
 
 #[test]
 fn the_block_before_next_start_is_used_once_any_is() {
-    let after = after("format 2048; create 0 0; write 0 0 0 543 1; truncate 0 0 1");
+    let after = after("format 2048; create 0 0; write-narrow 0 0 0 543 1; truncate 0 0 1");
     assert!(after.state.bits[0] && after.state.next_start == 2 && !after.state.bits[1]);
 }
 
@@ -64,11 +64,11 @@ fn a_childs_size_is_at_most_the_parents() {
 
 #[test]
 fn a_childs_size_is_at_least_the_parents() {
-    let after = after("format 2048; create 0 0; make 0 1 0; write 0 0 0 1 1");
+    let after = after("format 2048; create 0 0; make 0 1 0; write-narrow 0 0 0 1 1");
     assert!(after.size(1) < after.size(0));
 }
 
-const FULL: &str = "format 512; create 0 0; write 0 0 0 1 1; make 0 1 0";
+const FULL: &str = "format 512; create 0 0; write-narrow 0 0 0 1 1; make 0 1 0";
 
 /// Set 1 takes the block over, so set 2 is marked.
 #[test]
@@ -85,14 +85,15 @@ fn an_own_parents_file_of_a_marked_file_has_a_stored_page() {
 
 #[test]
 fn a_present_child_of_a_marked_file_is_marked() {
-    let after = after(&format!("{FULL}; make 1 2 1; write 0 0 0 1 1; delete 2 0; create 2 0"));
+    let after =
+        after(&format!("{FULL}; make 1 2 1; write-narrow 0 0 0 1 1; delete 2 0; create 2 0"));
     assert!(after.is_marked(1) && after.file(2).state == FileState::Own);
     assert_eq!(after.state.sets[2].parent, 1);
 }
 
 #[test]
 fn a_child_of_a_virgin_file_is_virgin_or_absent() {
-    let after = after("format 2048; create 0 0; make 0 1 0; make 1 2 1; write 2 0 0 1 1");
+    let after = after("format 2048; create 0 0; make 0 1 0; make 1 2 1; write-narrow 2 0 0 1 1");
     assert!(after.file(1).state == FileState::Virgin && after.file(2).state == FileState::Own);
 }
 
@@ -110,7 +111,7 @@ fn an_own_file_has_a_mapped_page() {
 
 #[test]
 fn an_own_files_pages_past_its_size_are_holes_in_its_own_map() {
-    let after = after("format 2048; create 0 0; make 0 1 0; write 0 0 0 1 1");
+    let after = after("format 2048; create 0 0; make 0 1 0; write-narrow 0 0 0 1 1");
     assert!(after.file(1).state == FileState::Own && after.size(1) == 0);
     assert!(after.file(1).has_unmapped());
 }
@@ -124,14 +125,16 @@ fn no_live_child_is_unmapped_over_a_parents_hole() {
 
 #[test]
 fn a_marked_file_has_recorded_size_0() {
-    let after = after(&format!("{FULL}; write 0 0 0 1 1"));
+    let after = after(&format!("{FULL}; write-narrow 0 0 0 1 1"));
     assert!(after.is_marked(1) && after.file(1).size == 1);
 }
 
 /// Page 0 becomes a hole in set 1, and page 1 finds no block free.
 #[test]
 fn a_marked_file_has_a_stored_page_or_is_all_unmapped() {
-    let after = after("format 1024; create 0 0; write 0 0 512 1 1; make 0 1 0; write 0 0 0 513 2");
+    let after = after(
+        "format 1024; create 0 0; write-narrow 0 0 512 1 1; make 0 1 0; write-narrow 0 0 0 513 2",
+    );
     assert_eq!(after.answer, Answer::accepted([1, 0, 1]));
     assert!(after.is_marked(1) && !after.has_stored(1));
     assert_eq!(after.file(1).entries[0], HOLE);
@@ -148,14 +151,15 @@ fn siblings_ascend_and_a_childs_number_is_above_its_parents() {
 
 #[test]
 fn the_third_count_is_at_most_the_number_of_children() {
-    let after = after(&format!("{FULL}; make 1 2 0; write 0 0 0 1 1"));
+    let after = after(&format!("{FULL}; make 1 2 0; write-narrow 0 0 0 1 1"));
     assert_eq!(after.state.children(0).len(), 1);
     assert_eq!(after.answer, Answer::accepted([0, 0, 2]));
 }
 
 /// The only child is marked at the part page, and the block of page 1, dropped
 /// whole and needed by a child before the call, is freed.
-const PART_PAGE: &str = "format 1024; create 0 0; write 0 0 0 1024 1; make 0 1 0; truncate 0 0 1";
+const PART_PAGE: &str = "format 1024; create 0 0; write-narrow 0 0 0 1024 1; make 0 1 0; \
+    truncate 0 0 1";
 
 #[test]
 fn no_block_is_free_after_a_call_that_marked() {
@@ -175,8 +179,8 @@ fn every_block_that_a_child_needs_before_the_call_is_handed_over() {
 #[test]
 fn the_heir_of_a_block_is_not_marked_by_the_call() {
     let after = after(
-        "format 1024; create 0 0; write 0 0 512 512 1; make 0 1 1; write 1 0 0 512 2; make 1 2 0; \
-        delete 1 0",
+        "format 1024; create 0 0; write-narrow 0 0 512 512 1; make 0 1 1; \
+        write-narrow 1 0 0 512 2; make 1 2 0; delete 1 0",
     );
     assert_eq!(after.answer, Answer::accepted([0, 0, 1]));
     assert!(after.is_marked(2) && after.has_stored(2) && after.state.bits[1]);
@@ -188,12 +192,36 @@ fn in_a_full_store_delete_of_an_own_file_marks_nothing() {
     assert_eq!(after.answer, Answer::accepted([0, 0, 1]));
 }
 
+// Claims about extra pages.
+
+/// There is room for one page only, and the touched one has it.
+#[test]
+fn after_a_write_no_live_child_needs_a_page_of_a_touched_group() {
+    let after = after(
+        "format 1536; create 0 0; write-narrow 0 0 0 1024 1; make 0 1 0; \
+        write-groups 2 0 0 0 512 2",
+    );
+    assert_eq!(after.answer, Answer::accepted([0, 1, 0]));
+    assert!(after.state.needs(1, 0, 1) && !after.is_marked(1));
+}
+
+/// One touched page and one child: two blocks, but by groups it takes three.
+#[test]
+fn a_write_takes_at_most_its_pages_times_one_more_than_the_children() {
+    let after = after(
+        "format 6656; create 0 0; write-narrow 0 0 0 1536 1; make 0 1 0; \
+        write-groups 4 0 0 0 512 2",
+    );
+    assert_eq!(after.answer, Answer::accepted([0, 3, 0]));
+}
+
 // Other claims.
 
 #[test]
 fn a_marked_child_got_no_copy_in_that_call() {
-    let after =
-        after("format 1536; create 0 0; write 0 0 0 1024 1; make 0 1 0; write 0 0 0 1024 2");
+    let after = after(
+        "format 1536; create 0 0; write-narrow 0 0 0 1024 1; make 0 1 0; write-narrow 0 0 0 1024 2",
+    );
     assert_eq!(after.answer, Answer::accepted([0, 1, 1]));
     assert!(after.is_marked(1) && after.has_stored(1));
 }
@@ -203,7 +231,8 @@ fn a_marked_child_got_no_copy_in_that_call() {
 #[test]
 fn well_formed_alone_gives_demand_3() {
     let mut bench = Bench::new();
-    let script = "format 512; create 0 0; write 0 0 0 100 1; poke-page 100 7; truncate 0 0 512";
+    let script = "format 512; create 0 0; write-narrow 0 0 0 100 1; poke-page 100 7; \
+        truncate 0 0 512";
     for item in Item::parse_script(script).unwrap() {
         bench.step(&item, &mut NoOther).unwrap();
         assert!(oracle::check::is_well_formed(bench.tables(), bench.pages().len()));

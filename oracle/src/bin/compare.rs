@@ -24,20 +24,30 @@ mod sweep {
     use oracle::export;
     use oracle::export::Export;
 
+    /// A function, if it is linked; none for a call that has no arguments here,
+    /// as the oracle does it alone.
+    macro_rules! export_if_linked {
+        ($name:ident) => {
+            None
+        };
+        ($name:ident($($argument:tt)*)) => {{
+            #[cfg($name)]
+            {
+                Some(export!(n lent $name () () $($argument)*))
+            }
+            #[cfg(not($name))]
+            {
+                None
+            }
+        }};
+    }
+
     /// The table: only functions that are linked are declared.
     macro_rules! exports {
-        ($($name:ident($($argument:tt)*);)*) => {
+        ($($name:ident $(($($argument:tt)*))?;)*) => {
             /// In the order of `CALL_NAMES`.
-            static EXPORTS: [Option<Export>; CALLS] = [$({
-                #[cfg($name)]
-                {
-                    Some(export!(n lent $name () () $($argument)*))
-                }
-                #[cfg(not($name))]
-                {
-                    None
-                }
-            }),*];
+            static EXPORTS: [Option<Export>; CALLS] =
+                [$(export_if_linked!($name $(($($argument)*))?)),*];
         };
     }
 
@@ -54,6 +64,8 @@ mod sweep {
         sweep_free(look tables, look pages);
         sweep_check_blocks(look tables);
         sweep_check(look tables, look pages);
+        sweep_write_narrow(change tables, change pages, u32 0, u32 1, u32 2, look bytes);
+        sweep_write_groups;
     }
 
     /// Whether the call at this place in `CALL_NAMES` is linked.
@@ -84,10 +96,11 @@ mod linked {
     use oracle::call::*;
     use oracle::check::{rules_broken, Rule};
     use oracle::gen::{self, Made, Style};
-    use oracle::history::{any_history, Failure};
+    use oracle::history::{any_history, group_history, Failure};
     use oracle::judge::Beside;
     use oracle::rng::Rng;
     use oracle::state::State;
+    use oracle::writes;
     use std::fs::File;
     use std::io::{Seek, Write};
     use std::time::{Duration, Instant};
@@ -107,6 +120,7 @@ exit status: 0 no difference, 1 a difference, 2 bad usage
     /// And so many times alone.
     const ALONE_OF_EACH_RULE: usize = 10;
     const SCATTERED: usize = 200;
+    const GROUP_HISTORIES: usize = 100;
     const STATES: usize = 60;
     const LENGTH_ROUNDS: usize = 15;
 
@@ -187,6 +201,7 @@ exit status: 0 no difference, 1 a difference, 2 bad usage
             counts: Counts::default(),
             states: Vec::new(),
             histories: 0,
+            group_histories: 0,
             twists: 0,
             by_first_part: [0; 2],
             trace: Trace(file),
@@ -209,6 +224,7 @@ exit status: 0 no difference, 1 a difference, 2 bad usage
         /// Well-formed states to damage.
         states: Vec<Made>,
         histories: u64,
+        group_histories: u64,
         twists: u64,
         /// Damaged tables that the first part of the check accepts, and those
         /// that it refuses.
@@ -238,8 +254,12 @@ exit status: 0 no difference, 1 a difference, 2 bad usage
             for _ in 0..SCATTERED {
                 self.scattered()?;
             }
+            for _ in 0..GROUP_HISTORIES {
+                self.group_history()?;
+            }
             while self.histories < 20 || start.elapsed() < time {
                 self.history()?;
+                self.group_history()?;
                 for _ in 0..5 {
                     self.damaged(None)?;
                     self.twisted()?;
@@ -271,6 +291,15 @@ exit status: 0 no difference, 1 a difference, 2 bad usage
             self.trace.restart();
             let trace = &mut self.trace;
             any_history(seed, &mut Sweep, &mut self.counts, &mut |item| trace.line(item))
+        }
+
+        /// A short history with a family for writes by groups.
+        fn group_history(&mut self) -> Outcome {
+            let seed = self.rng.word();
+            self.group_histories += 1;
+            self.trace.restart();
+            let trace = &mut self.trace;
+            group_history(seed, &mut Sweep, &mut self.counts, &mut |item| trace.line(item))
         }
 
         /// (b) Damaged tables: every linked call on them.
@@ -424,9 +453,10 @@ exit status: 0 no difference, 1 a difference, 2 bad usage
         fn show(&self) {
             let counts = &self.counts;
             println!(
-                "histories {}, well-formed stores changed by hand {}",
-                self.histories, self.twists
+                "histories {}, short ones with writes by groups {}",
+                self.histories, self.group_histories
             );
+            println!("well-formed stores changed by hand {}", self.twists);
             for (index, name) in CALL_NAMES.iter().enumerate() {
                 println!(
                     "calls {name} {}, of the library {}",
@@ -446,6 +476,8 @@ exit status: 0 no difference, 1 a difference, 2 bad usage
             println!("damaged tables that the first part accepts {accepted}, refuses {refused}");
             println!("accepted reads compared with the library {}", counts.reads_linked);
             println!("accepted reads compared with plain store and tally {}", counts.reads_beside);
+            writes::show("the library", &counts.writes_linked);
+            writes::show("plain store and tally", &counts.writes_beside);
         }
     }
 

@@ -7,10 +7,11 @@
 use oracle::agree::read_off;
 use oracle::bench::{handed_over, Bench, Handed, NoOther};
 use oracle::call::*;
-use oracle::gen::{self, Made, Style};
+use oracle::gen::{self, Made, Start, Style};
 use oracle::judge::Beside;
 use oracle::rng::Rng;
 use oracle::state::*;
+use std::collections::BTreeSet;
 
 /// An accepted call that can change the store, with the store before and after
 /// it.
@@ -63,39 +64,46 @@ pub struct Change<'a> {
     pub touched: Vec<usize>,
     /// Those of them that the call drops whole.
     pub whole: Vec<usize>,
+    /// The other pages of the groups that a write touches.
+    pub extra: Vec<usize>,
     /// The blocks handed over, as the tables show it.
     pub handed: Vec<Handed>,
 }
 
 impl<'a> Change<'a> {
     pub fn of(seen: &'a Seen<'a>) -> Option<Change<'a>> {
-        let (set, file) = match *seen.call {
-            Call::Write { set, file, .. }
-            | Call::Truncate { set, file, .. }
-            | Call::Delete { set, file } => (set as usize, file as usize),
+        let write = seen.call.as_write();
+        let (set, file) = match (write, seen.call) {
+            (Some(write), _) => (write.set as usize, write.file as usize),
+            (_, Call::Truncate { set, file, .. } | Call::Delete { set, file }) => {
+                (*set as usize, *file as usize)
+            }
             _ => return None,
         };
         let old_size = match seen.before.files[set][file].state {
             FileState::Marked => 0,
             _ => seen.before.size_by_reading(set, file),
         };
-        let (touched, first_whole) = match *seen.call {
-            Call::Write { length: 0, .. } => (0..0, 0),
-            Call::Write { offset, length, .. } => {
-                let first = offset as usize / PAGE_BYTES;
-                (first..(offset as usize + length).div_ceil(PAGE_BYTES), PAGES)
+        let (touched, first_whole) = match (write, seen.call) {
+            (Some(write), _) if write.length == 0 => (0..0, 0),
+            (Some(write), _) => {
+                let first = write.offset as usize / PAGE_BYTES;
+                (first..(write.offset as usize + write.length).div_ceil(PAGE_BYTES), PAGES)
             }
-            Call::Truncate { size, .. } if size as usize >= old_size => (0..0, 0),
-            Call::Truncate { size, .. } => {
-                let first = size as usize / PAGE_BYTES;
-                (first..old_size.div_ceil(PAGE_BYTES), (size as usize).div_ceil(PAGE_BYTES))
+            (_, Call::Truncate { size, .. }) if *size as usize >= old_size => (0..0, 0),
+            (_, Call::Truncate { size, .. }) => {
+                let first = *size as usize / PAGE_BYTES;
+                (first..old_size.div_ceil(PAGE_BYTES), (*size as usize).div_ceil(PAGE_BYTES))
             }
             _ if seen.before.files[set][file].state == FileState::Marked => (0..0, 0),
             _ => (0..PAGES, 0),
         };
         let handed = handed_over(seen.before, seen.after, set, file);
         let whole = touched.clone().filter(|page| *page >= first_whole).collect();
-        Some(Change { seen, set, file, touched: touched.collect(), whole, handed })
+        let touched: Vec<usize> = touched.collect();
+        // Only writes go by groups.
+        let extra = write.map_or(Vec::new(), |write| others_of_groups(&touched, write.group));
+        Some(Change { seen, set, file, touched, whole, extra, handed })
     }
 
     pub fn children(&self) -> Vec<usize> {
@@ -111,6 +119,15 @@ impl<'a> Change<'a> {
     pub fn entry_after(&self, child: usize, page: usize) -> Entry {
         self.seen.after.files[child][self.file].entries[page]
     }
+}
+
+/// The pages that are in a group with one of these, and are not among them.
+pub fn others_of_groups(touched: &[usize], group: usize) -> Vec<usize> {
+    let groups: BTreeSet<usize> = touched.iter().map(|page| page / group).collect();
+    let mut others: BTreeSet<usize> =
+        (0..PAGES).filter(|page| groups.contains(&(page / group))).collect();
+    others.retain(|page| !touched.contains(page));
+    others.into_iter().collect()
 }
 
 /// A store, and what has been shown of it.
@@ -171,39 +188,74 @@ pub fn reads_of_histories(seed: u64, rounds: usize, see: impl FnMut(SeenRead)) {
     show_histories(seed, rounds, &mut reads(see));
 }
 
+/// Shows the calls of random histories that begin with a family for writes by
+/// groups; fewer calls than in others follow.
+pub fn histories_of_groups(seed: u64, rounds: usize, see: impl FnMut(Seen)) {
+    let mut see = changes(see);
+    println!("seed {seed}");
+    let mut rng = Rng::new(seed);
+    for round in 0..rounds {
+        let block_count = if round % 5 == 0 { 64 } else { rng.between(3, 16) };
+        let start = gen::group_start(&mut rng, block_count);
+        show_history(&mut rng, start, 20, &mut see);
+    }
+}
+
 fn show_histories(seed: u64, rounds: usize, see: &mut dyn FnMut(Shown)) {
     println!("seed {seed}");
     let mut rng = Rng::new(seed);
     for round in 0..rounds {
         let block_count = if round % 10 == 0 { 64 } else { rng.between(1, 12) };
-        let mut start = gen::start(&mut rng, block_count);
-        start.style.weights[0] = 0;
-        let mut walk = Walk::new(Bench::with(vec![0; TABLES_BYTES], Vec::new()));
-        for call in start.calls.into_iter().chain(start.then) {
-            match call {
-                Call::Format { .. } => drop(walk.bench.call(&call, &mut NoOther).unwrap()),
-                _ => walk.step(&call, see),
-            }
+        let start = gen::start(&mut rng, block_count);
+        show_history(&mut rng, start, 80, see);
+    }
+}
+
+/// The calls that begin a history, and so many random ones.
+fn show_history(rng: &mut Rng, mut start: Start, length: usize, see: &mut dyn FnMut(Shown)) {
+    start.style.weights[0] = 0;
+    let mut walk = Walk::new(Bench::with(vec![0; TABLES_BYTES], Vec::new()));
+    for call in start.calls.into_iter().chain(start.then) {
+        match call {
+            Call::Format { .. } => drop(walk.bench.call(&call, &mut NoOther).unwrap()),
+            _ => walk.step(&call, see),
         }
-        for _ in 0..80 {
-            let beside = walk.bench.beside.as_ref().expect("a history begins with format");
-            let call = gen::call(&mut rng, &start.style, beside);
-            walk.step(&call, see);
-        }
+    }
+    for _ in 0..length {
+        let beside = walk.bench.beside.as_ref().expect("a history begins with format");
+        let call = gen::call(rng, &start.style, beside);
+        walk.step(&call, see);
     }
 }
 
 /// Shows calls on random well-formed stores, whether or not calls could bring
-/// them there. Plain store and tally are read off before each call.
+/// them there. Plain store and tally are read off before each call. Most calls
+/// are truncates and deletes.
 pub fn stores(seed: u64, rounds: usize, see: impl FnMut(Seen)) {
+    show_stores(seed, rounds, gen::start, &["truncate", "delete"], see);
+}
+
+/// The same with stores of families for writes by groups; most calls are writes.
+pub fn written_stores(seed: u64, rounds: usize, see: impl FnMut(Seen)) {
+    let most = ["write", "write-narrow", "write-groups"];
+    show_stores(seed, rounds, gen::group_start, &most, see);
+}
+
+/// How a store of this many blocks begins.
+type Begin = fn(&mut Rng, usize) -> Start;
+
+fn show_stores(seed: u64, rounds: usize, begin: Begin, most: &[&str], see: impl FnMut(Seen)) {
     let mut see = changes(see);
-    each_store(seed, rounds, |rng, style, mut walk| {
+    let place = |name: &&str| CALL_NAMES.iter().position(|other| other == name).unwrap();
+    let most: Vec<usize> = most.iter().map(place).collect();
+    each_store(seed, rounds, begin, |rng, style, mut walk| {
         for _ in 0..5 {
             let beside = walk.read_off();
-            // Most of them are truncates and deletes.
             let call = match rng.below(6) {
-                0 | 1 => gen::call_of(rng, style, beside, 4),
-                2 | 3 => gen::call_of(rng, style, beside, 5),
+                0..=3 => {
+                    let index = rng.pick(&most);
+                    gen::call_of(rng, style, beside, index)
+                }
                 _ => gen::call(rng, style, beside),
             };
             if !grows_over_a_gap(&walk.store().0, &call) {
@@ -216,7 +268,7 @@ pub fn stores(seed: u64, rounds: usize, see: impl FnMut(Seen)) {
 /// Shows reads of such stores.
 pub fn reads_of_stores(seed: u64, rounds: usize, see: impl FnMut(SeenRead)) {
     let mut see = reads(see);
-    each_store(seed, rounds, |rng, style, mut walk| {
+    each_store(seed, rounds, gen::start, |rng, style, mut walk| {
         let beside = walk.read_off().clone();
         for _ in 0..8 {
             let call = gen::call_of(rng, style, &beside, 3);
@@ -226,7 +278,12 @@ pub fn reads_of_stores(seed: u64, rounds: usize, see: impl FnMut(SeenRead)) {
 }
 
 /// Random well-formed stores, with the style of the calls that made them.
-fn each_store(seed: u64, rounds: usize, mut use_it: impl FnMut(&mut Rng, &Style, Walk)) {
+fn each_store(
+    seed: u64,
+    rounds: usize,
+    begin: Begin,
+    mut use_it: impl FnMut(&mut Rng, &Style, Walk),
+) {
     println!("seed {seed}");
     let mut rng = Rng::new(seed);
     let mut pool: Vec<Made> = Vec::new();
@@ -238,7 +295,8 @@ fn each_store(seed: u64, rounds: usize, mut use_it: impl FnMut(&mut Rng, &Style,
                 _ => rng.between(3, 12),
             };
             let length = gen::made_length(&mut rng);
-            pool.push(gen::made_of(&mut rng, block_count, length));
+            let start = begin(&mut rng, block_count);
+            pool.push(gen::made_from(&mut rng, start, length));
         }
         let made = rng.pick(&pool);
         let (mut tables, mut pages) = (made.tables, made.pages);
@@ -254,11 +312,10 @@ fn grows_over_a_gap(state: &State, call: &Call) -> bool {
         let there = set < 8 && file < 16 && state.files[set as usize][file as usize].is_present();
         there.then(|| state.size_by_reading(set as usize, file as usize))
     };
-    match *call {
-        Call::Truncate { set, file, size: t } => size(set, file).is_some_and(|s| t as usize > s),
-        Call::Write { set, file, offset, .. } => {
-            size(set, file).is_some_and(|s| offset as usize > s)
-        }
-        _ => false,
-    }
+    let (set, file, place) = match (call.as_write(), call) {
+        (Some(write), _) => (write.set, write.file, write.offset),
+        (_, Call::Truncate { set, file, size }) => (*set, *file, *size),
+        _ => return false,
+    };
+    size(set, file).is_some_and(|size| place as usize > size)
 }
