@@ -41,6 +41,7 @@ extern "C" {
 #define SWEEP_FILES 16u             /* files of a set, numbered 0 to 15 */
 #define SWEEP_FILE_PAGES 64u        /* pages of a file */
 #define SWEEP_FILE_BYTES_MAX 32768u /* bytes of a file */
+#define SWEEP_GROUP_PAGES 8u        /* pages of a group, by which sweep_write copies: 0 to 7, 8 to 15, ... */
 #define SWEEP_LEVEL_MAX 5u          /* level of a set: the root has 0, a copy its parent's plus one */
 
 /* The number that a call gives: the lowest that applies */
@@ -75,9 +76,19 @@ sweep_answer sweep_format(uint8_t *tables, size_t tables_length, uint8_t *pages,
 sweep_answer sweep_create(uint8_t *tables, size_t tables_length, uint8_t *pages, size_t pages_length,
                           uint32_t set, uint32_t file);
 
-/* Writes data at offset; a gap before it reads as zeros. Counts: own blocks taken, copies, files newly marked. */
+/* Writes data at offset; a gap before it reads as zeros. Touched are the pages that hold a byte of data. First each child set that
+ * still reads a touched page through this set gets that page as it was: a stored one as a copy, a hole as a hole. Where no block is
+ * free for a copy, the child's file is marked. Then the other pages of each touched group of SWEEP_GROUP_PAGES pages go to the
+ * children that still read them through this set, in the same way, but a copy is made only if a block is free: this marks nothing,
+ * and later writes of those pages need no copy for these children. SWEEP_FULL does not see such extra copies.
+ * Counts: own blocks taken, copies with the extra ones, files newly marked. */
 sweep_answer sweep_write(uint8_t *tables, size_t tables_length, uint8_t *pages, size_t pages_length,
                          uint32_t set, uint32_t file, uint32_t offset, const uint8_t *data, size_t data_length);
+
+/* A narrow write: the same without the extra copies, so that no block is taken that this write does not need. (Only sweep_write goes
+ * by groups.) Counts: own blocks taken, copies, files newly marked. */
+sweep_answer sweep_write_narrow(uint8_t *tables, size_t tables_length, uint8_t *pages, size_t pages_length,
+                                uint32_t set, uint32_t file, uint32_t offset, const uint8_t *data, size_t data_length);
 
 /* Reads from offset as many bytes as the buffer and the file have, into the buffer's front; touches no others.
  * Counts: bytes read, maps looked at, 0. Maps looked at: for each page holding a byte read, one for the file's own map and one

@@ -26,6 +26,7 @@ RUN(size, sweep_size(STORE, N(0), N(1)))
 RUN(free, sweep_free(STORE))
 RUN(check_blocks, sweep_check_blocks(SLICE(TABLES)))
 RUN(check, sweep_check(STORE))
+RUN(write_narrow, sweep_write_narrow(STORE, N(0), N(1), N(2), SLICE(BYTES)))
 
 /* The rows */
 
@@ -51,6 +52,8 @@ static const struct function functions[CALLS] = {
     [FREE] = {.name = "free", .run = run_free, .lends = {STORE_READ}},
     [CHECK_BLOCKS] = {.name = "check_blocks", .run = run_check_blocks, .lends = {[TABLES] = READ_ONLY}, .unchecked = 1},
     [CHECK] = {.name = "check", .run = run_check, .lends = {STORE_READ}},
+    [WRITE_NARROW] = {.name = "write_narrow", .run = run_write_narrow, .lends = {STORE_CHANGED, [BYTES] = READ_ONLY},
+                      .numbers = {SET, A_FILE, A_PLACE}, .copies = 1, .prepare = data_to_write},
 };
 
 struct suite exported = {functions, CALLS, judge, {{{0}}, 0, 0}};

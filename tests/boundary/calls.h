@@ -5,7 +5,7 @@
 #include "harness.h"
 
 /* The places of their rows; the judge has the same (oracle/src/names.rs). */
-enum { FORMAT, CREATE, WRITE, READ, TRUNCATE, DELETE, MAKE, REMOVE, SIZE, FREE, CHECK_BLOCKS, CHECK, CALLS };
+enum { FORMAT, CREATE, WRITE, READ, TRUNCATE, DELETE, MAKE, REMOVE, SIZE, FREE, CHECK_BLOCKS, CHECK, WRITE_NARROW, CALLS };
 
 /* Places in the tables: set records from SETS_AT on, then file records. */
 enum { SETS_AT = 516, SET_BYTES = 3, FILES_AT = 540, FILE_BYTES = 132 };

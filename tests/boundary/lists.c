@@ -182,16 +182,18 @@ typedef void changes(struct buffers *world, struct cursor *cursor);
 /* Lists */
 
 /* What a byte of a list asks for: a change from outside, or a call. Each has so many of the values of a byte; those behind the
- * last are those from 128 less on. New rows stand at the end, so that the lists in corpus.txt keep their meaning. */
+ * last are those from 128 less on. New rows stand at the end: in corpus.txt only the values that a new row takes change their
+ * meaning. */
 struct kind {
     unsigned slots;
     unsigned name;   /* of a call */
     changes *change; /* or 0 */
 };
 static const struct kind kinds[] = {
-    {36, WRITE, 0}, {12, CREATE, 0},       {16, MAKE, 0},         {8, DELETE, 0},         {16, TRUNCATE, 0},
+    {36, WRITE_NARROW, 0}, {12, CREATE, 0}, {16, MAKE, 0},         {8, DELETE, 0},         {16, TRUNCATE, 0},
     {8, REMOVE, 0}, {12, READ, 0},         {4, SIZE, 0},          {4, FREE, 0},           {5, 0, damage_tables},
     {4, 0, change_a_page}, {2, 0, choose_lengths}, {1, FORMAT, 0},        {4, CHECK_BLOCKS, 0},   {4, CHECK, 0},
+    {36, WRITE, 0},
 };
 enum { KINDS = sizeof kinds / sizeof *kinds };
 

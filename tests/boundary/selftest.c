@@ -38,8 +38,10 @@ static void look_past_bytes(struct done *done) { if (START(BYTES)) look(END(BYTE
 static void look_before_bytes(struct done *done) { if (START(BYTES)) look(START(BYTES) - 1); }
 static void touch_tables_in_free(struct done *done) { if (IS(FREE)) touch(START(TABLES)); }
 static void touch_pages_in_read(struct done *done) { if (IS(READ)) touch(START(PAGES)); }
-static void touch_data_in_write(struct done *done) { if (IS(WRITE)) touch(START(BYTES)); }
+static void touch_data_in_write(struct done *done) { if (IS(WRITE) || IS(WRITE_NARROW)) touch(START(BYTES)); }
 static void count_one_more_copy(struct done *done) { if (IS(WRITE)) done->answer.second++; }
+static void count_one_copy_less(struct done *done) { if (IS(WRITE) && done->answer.second > 1) done->answer.second--; }
+static void count_a_narrow_copy_more(struct done *done) { if (IS(WRITE_NARROW)) done->answer.second++; }
 static void count_no_marks(struct done *done) { done->answer.third = 0; }
 static void give_another_number(struct done *done) { if (done->answer.number == SWEEP_FULL) done->answer.number = 0; }
 static void look_at_no_map(struct done *done) { if (IS(READ)) done->answer.second = 0; }
@@ -52,6 +54,9 @@ static void check_the_first_part_alone(struct done *done)
     if (IS(CHECK))
         done->answer = sweep_check_blocks(START(TABLES), LENT(TABLES).length);
 }
+
+/* The write of the other kind is done (call_with_fault). */
+static void exchange_writes(struct done *done) { (void)done; }
 
 static void change_a_bit(struct done *done) { if (IS(TRUNCATE)) START(TABLES)[5] ^= 1; }
 static void change_beside_tables(struct done *done) { if (IS(DELETE)) change_before(LENT(TABLES)); }
@@ -67,7 +72,8 @@ static void change_the_buffers_end(struct done *done)
 static const struct fault faults[] = {
     {"none", 0}, FAULT(look_past_tables), FAULT(look_before_tables), FAULT(look_past_pages), FAULT(look_before_pages),
     FAULT(look_past_bytes), FAULT(look_before_bytes), FAULT(touch_tables_in_free), FAULT(touch_pages_in_read),
-    FAULT(touch_data_in_write), FAULT(count_one_more_copy), FAULT(count_no_marks), FAULT(give_another_number),
+    FAULT(touch_data_in_write), FAULT(count_one_more_copy), FAULT(count_one_copy_less),
+    FAULT(count_a_narrow_copy_more), FAULT(exchange_writes), FAULT(count_no_marks), FAULT(give_another_number),
     FAULT(refuse_every_first_part), FAULT(check_the_first_part_alone), FAULT(look_at_no_map), FAULT(look_at_one_map_more),
     FAULT(look_at_one_map_less), FAULT(change_beside_tables),
     FAULT(change_beside_pages), FAULT(change_a_bit), FAULT(change_a_page), FAULT(change_the_buffers_end),
@@ -77,7 +83,10 @@ static void (*fault)(struct done *done);
 
 static sweep_answer call_with_fault(const struct call *call)
 {
-    struct done done = {call, call_plainly(call)};
+    struct call made = *call;
+    if (fault == exchange_writes && (call->name == WRITE || call->name == WRITE_NARROW))
+        made.name = WRITE + WRITE_NARROW - call->name;
+    struct done done = {call, call_plainly(&made)};
     if (fault)
         fault(&done);
     return done.answer;
