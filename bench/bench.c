@@ -34,6 +34,7 @@ struct calls {
     sweep_answer (*format)(uint8_t *, size_t, uint8_t *, size_t);
     sweep_answer (*create)(uint8_t *, size_t, uint8_t *, size_t, uint32_t, uint32_t);
     sweep_answer (*write)(uint8_t *, size_t, uint8_t *, size_t, uint32_t, uint32_t, uint32_t, const uint8_t *, size_t);
+    sweep_answer (*write_narrow)(uint8_t *, size_t, uint8_t *, size_t, uint32_t, uint32_t, uint32_t, const uint8_t *, size_t);
     sweep_answer (*read)(const uint8_t *, size_t, const uint8_t *, size_t, uint32_t, uint32_t, uint32_t, uint8_t *, size_t);
     sweep_answer (*truncate)(uint8_t *, size_t, uint8_t *, size_t, uint32_t, uint32_t, uint32_t);
     sweep_answer (*delete)(uint8_t *, size_t, uint8_t *, size_t, uint32_t, uint32_t);
@@ -46,8 +47,8 @@ struct calls {
 };
 
 #define ALL(prefix)                                                                                                    \
-    prefix##_format, prefix##_create, prefix##_write, prefix##_read, prefix##_truncate, prefix##_delete, prefix##_make,    \
-        prefix##_remove, prefix##_size, prefix##_free, prefix##_check_blocks, prefix##_check
+    prefix##_format, prefix##_create, prefix##_write, prefix##_write_narrow, prefix##_read, prefix##_truncate,         \
+        prefix##_delete, prefix##_make, prefix##_remove, prefix##_size, prefix##_free, prefix##_check_blocks, prefix##_check
 static const struct calls store = { "store", ALL(sweep) };
 static const struct calls twin = { "twin", ALL(twin) };
 
@@ -99,7 +100,7 @@ static void root_files(unsigned file_pages)
 {
     for (unsigned f = 0; f < 16; f++) {
         must(twin_create(LENT, 0, f));
-        must(twin_write(LENT, 0, f, 0, data, (size_t)file_pages * PAGE));
+        must(twin_write_narrow(LENT, 0, f, 0, data, (size_t)file_pages * PAGE));
     }
 }
 
@@ -109,7 +110,7 @@ static void some_write(unsigned set, unsigned file_pages, unsigned most)
     unsigned all = below(4) == 0, run = all ? file_pages : 1 + below(4), at = all ? 0 : below(file_pages), f = below(16);
     run = run < most ? run : most;
     run = run < file_pages - at ? run : file_pages - at;
-    must(twin_write(LENT, set, f, at * PAGE, data, (size_t)run * PAGE));
+    must(twin_write_narrow(LENT, set, f, at * PAGE, data, (size_t)run * PAGE));
 }
 
 static unsigned free_now(void)
@@ -231,7 +232,7 @@ static void one_file(unsigned blocks, unsigned file_pages, unsigned children)
     empty(blocks);
     must(twin_create(LENT, 0, 0));
     if (file_pages > 0)
-        must(twin_write(LENT, 0, 0, 0, data, (size_t)file_pages * PAGE));
+        must(twin_write_narrow(LENT, 0, 0, 0, data, (size_t)file_pages * PAGE));
     for (unsigned s = 1; s <= children; s++)
         must(twin_make(LENT, 0, s, 0));
 }
@@ -262,16 +263,19 @@ CASE(size_far, size(LENT, 7, 3))
 CASE(read_1, read(LENT, 7, 3, 100, buffer, 1))
 CASE(read_512, read(LENT, 7, 3, 0, buffer, 512))
 CASE(read_all, read(LENT, 7, 3, 0, buffer, FILE_BYTES))
-CASE(write_1, write(LENT, 0, 0, 700, data, 1))
-CASE(write_512, write(LENT, 0, 0, 512, data, 512))
-CASE(write_all, write(LENT, 0, 0, 0, data, FILE_BYTES))
-CASE(write_far, write(LENT, 7, 3, 100, data, 1))
+#define WRITES(which, set, file, offset, length)                                                                       \
+    CASE(write_##which, write(LENT, set, file, offset, data, length))                                                  \
+    CASE(narrow_##which, write_narrow(LENT, set, file, offset, data, length))
+WRITES(1, 0, 0, 700, 1)
+WRITES(512, 0, 0, 512, 512)
+WRITES(all, 0, 0, 0, FILE_BYTES)
+WRITES(far, 7, 3, 100, 1)
+WRITES(5, 5, 0, 700, 1)
 CASE(truncate_to_100, truncate(LENT, 0, 0, 100))
 CASE(truncate_to_0, truncate(LENT, 0, 0, 0))
 CASE(truncate_up, truncate(LENT, 0, 0, 5000))
 CASE(delete_it, delete(LENT, 0, 0))
 CASE(read_5, read(LENT, 5, 0, 0, buffer, FILE_BYTES))
-CASE(write_5, write(LENT, 5, 0, 700, data, 1))
 CASE(truncate_5, truncate(LENT, 5, 0, 100))
 CASE(delete_4, delete(LENT, 4, 0))
 CASE(make_1, make(LENT, 0, 1, 1))
@@ -279,6 +283,21 @@ CASE(remove_1, remove(LENT, 1))
 CASE(remove_7, remove(LENT, 7))
 CASE(create_1, create(LENT, 0, 1))
 CASE(format_it, format(LENT))
+
+/* File 0 of set 0 rewritten from front to back, a page a call; gives the counts of all, and the first number that is not 0. */
+#define REWRITE(name, call)                                                                                            \
+    static sweep_answer name(const struct calls *c)                                                                    \
+    {                                                                                                                  \
+        sweep_answer all = { 0 };                                                                                      \
+        for (unsigned at = 0; at < FILE_BYTES; at += PAGE) {                                                           \
+            sweep_answer a = c->call(LENT, 0, 0, at, data + at, PAGE);                                                 \
+            all.number = all.number ? all.number : a.number;                                                           \
+            all.first += a.first, all.second += a.second, all.third += a.third;                                        \
+        }                                                                                                              \
+        return all;                                                                                                    \
+    }
+REWRITE(rewrite_grouped, write)
+REWRITE(rewrite_narrow, write_narrow)
 
 struct bench_case {
     const char *call, *what, *store;
@@ -319,9 +338,29 @@ static const struct bench_case cases[] = {
     { "write", "32 KiB, 64 copies", "one child", write_all, one_child, true, 0, { 1024, 4096 }, { 0, 0 } },
     { "write", "32 KiB, 448 copies", "seven children", write_all, seven_children, true, 0, { 1024, 4096 }, { 77, 77 } },
     { "write", "32 KiB, marks", "one child", write_all, one_child, true, 0, { 64, 0 }, { 0, 0 } },
+    { "write", "1 byte, 8 copies", "one child", write_1, one_child, true, 0, { 1024, 4096 }, { 0, 0 } },
+    { "write", "1 byte, 56 copies", "seven children", write_1, seven_children, true, 0, { 1024, 4096 }, { 0, 0 } },
     { "write", "1 byte, 3 children", "typical", write_1, typical, true, 0, { 4096, 0 }, { 0, 0 } },
     { "write", "1 byte, set 7", "typical", write_far, typical, true, 0, { 64, 4096 }, { 0, 0 } },
     { "write", "1 byte, level 5", "chain", write_5, chain, true, 0, { 1024, 4096 }, { 0, 0 } },
+    { "narrow", "1 byte, new page", "one file", narrow_1, lean, true, 0, { 64, 4096 }, { 5, 5 } },
+    { "narrow", "1 byte, stored page", "one file", narrow_1, short_file, true, 0, { 64, 4096 }, { 5, 5 } },
+    { "narrow", "512 bytes", "one file", narrow_512, lean, true, 0, { 64, 4096 }, { 0, 0 } },
+    { "narrow", "32 KiB", "one file", narrow_all, lean, true, 0, { 64, 4096 }, { 12, 12 } },
+    { "narrow", "32 KiB, 64 copies", "one child", narrow_all, one_child, true, 0, { 1024, 4096 }, { 0, 0 } },
+    { "narrow", "32 KiB, 448 copies", "seven children", narrow_all, seven_children, true, 0, { 1024, 4096 }, { 77, 77 } },
+    { "narrow", "32 KiB, marks", "one child", narrow_all, one_child, true, 0, { 64, 0 }, { 0, 0 } },
+    { "narrow", "1 byte, 1 copy", "one child", narrow_1, one_child, true, 0, { 1024, 4096 }, { 0, 0 } },
+    { "narrow", "1 byte, 7 copies", "seven children", narrow_1, seven_children, true, 0, { 1024, 4096 }, { 0, 0 } },
+    { "narrow", "1 byte, 3 children", "typical", narrow_1, typical, true, 0, { 4096, 0 }, { 0, 0 } },
+    { "narrow", "1 byte, set 7", "typical", narrow_far, typical, true, 0, { 64, 4096 }, { 0, 0 } },
+    { "narrow", "1 byte, level 5", "chain", narrow_5, chain, true, 0, { 1024, 4096 }, { 0, 0 } },
+    { "rewrite", "64 writes, by eights", "one file", rewrite_grouped, full_file, true, 0, { 64, 4096 }, { 0, 0 } },
+    { "rewrite", "64 writes, narrow", "one file", rewrite_narrow, full_file, true, 0, { 64, 4096 }, { 0, 0 } },
+    { "rewrite", "64 writes, by eights", "one child", rewrite_grouped, one_child, true, 0, { 1024, 4096 }, { 0, 0 } },
+    { "rewrite", "64 writes, narrow", "one child", rewrite_narrow, one_child, true, 0, { 1024, 4096 }, { 0, 0 } },
+    { "rewrite", "64 writes, by eights", "seven children", rewrite_grouped, seven_children, true, 0, { 1024, 4096 }, { 0, 0 } },
+    { "rewrite", "64 writes, narrow", "seven children", rewrite_narrow, seven_children, true, 0, { 1024, 4096 }, { 0, 0 } },
     { "truncate", "32 KiB to 100", "one file", truncate_to_100, full_file, true, 0, { 64, 4096 }, { 0, 0 } },
     { "truncate", "1 copy, 63 handed", "one child", truncate_to_100, one_child, true, 0, { 1024, 4096 }, { 0, 0 } },
     { "truncate", "64 handed", "one child", truncate_to_0, one_child, true, 0, { 64, 4096 }, { 0, 0 } },
@@ -562,7 +601,7 @@ static void print_stack(void)
     printf("stack, the most bytes over all cases of a call\n%-9s %7s %7s\n", "call", "store", "twin");
     for (unsigned i = 0; i < CASES; i++) {
         size_t most[2] = { 0, 0 };
-        if (i > 0 && !strcmp(cases[i].call, cases[i - 1].call))
+        if ((i > 0 && !strcmp(cases[i].call, cases[i - 1].call)) || !strcmp(cases[i].call, "rewrite")) /* many calls */
             continue;
         for (unsigned n = i; n < CASES && !strcmp(cases[n].call, cases[i].call); n++)
             for (unsigned j = 0; j < 2 && cases[n].blocks[j]; j++) {

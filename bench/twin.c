@@ -708,15 +708,22 @@ static inline void give(struct change *c, unsigned child, unsigned page, unsigne
     c->copies++;
 }
 
+/* The children of the set whose file depends on the one above it. */
+static inline unsigned dependents(const struct change *c, uint8_t child[SETS])
+{
+    unsigned n = 0;
+    for (unsigned k = c->x->first[c->set]; k != NONE; k = c->x->next[k])
+        if (depends(c->t, k, c->file))
+            child[n++] = (uint8_t)k;
+    return n;
+}
+
 /* Step 4 for the pages from `from` up to `to`. Those from `whole` on are dropped whole: the first child that needs one takes
  * over the block that it has in the file's own map. */
 static void give_pages(struct change *c, unsigned from, unsigned to, unsigned whole)
 {
     uint8_t child[SETS];
-    unsigned n = 0, looks = 0;
-    for (unsigned k = c->x->first[c->set]; k != NONE; k = c->x->next[k])
-        if (depends(c->t, k, c->file))
-            child[n++] = (uint8_t)k;
+    unsigned n = dependents(c, child), looks = 0;
     if (n == 0)
         return;
     for (unsigned q = from; q < to; q++) {
@@ -737,6 +744,24 @@ static void give_pages(struct change *c, unsigned from, unsigned to, unsigned wh
     }
 }
 
+/* The pages of touched groups, from `lo` up to `hi`, that are not themselves touched, which those from `from` up to `to` are: copied
+ * where a block is free; nothing is marked. */
+static void give_others(struct change *c, unsigned lo, unsigned from, unsigned to, unsigned hi)
+{
+    uint8_t child[SETS];
+    if (lo == from && to == hi)
+        return;
+    unsigned n = dependents(c, child), looks = 0;
+    if (n == 0)
+        return;
+    for (unsigned q = lo == from ? to : lo; q < hi; q = q + 1 == from ? to : q + 1) {
+        unsigned e = resolve(c->t, c->x, c->set, c->file, q, &looks);
+        for (unsigned i = 0; i < n && (e == HOLE || c->free > 0); i++)
+            if (entry_at(c->t, child[i], c->file, q) == UNMAPPED)
+                give(c, child[i], q, e);
+    }
+}
+
 /* Step 5 for one page of a write, whose part from `at` on is `part` bytes of data; b is its new block, if one was taken. */
 static inline void lay(struct change *c, unsigned page, unsigned b, bool taken, size_t at, const uint8_t *data, size_t part)
 {
@@ -754,8 +779,9 @@ static inline void lay(struct change *c, unsigned page, unsigned b, bool taken, 
         put_entry(c->t, c->set, c->file, page, STORED | b);
 }
 
-sweep_answer twin_write(uint8_t *t, size_t tl, uint8_t *p, size_t pl, uint32_t set, uint32_t file, uint32_t offset,
-                        const uint8_t *data, size_t length)
+/* A write by aligned groups of so many pages. */
+static sweep_answer write_by(unsigned group, uint8_t *t, size_t tl, uint8_t *p, size_t pl, uint32_t set, uint32_t file,
+                             uint32_t offset, const uint8_t *data, size_t length)
 {
     struct store x;
     if (!well_formed(t, tl, pl, &x))
@@ -787,6 +813,8 @@ sweep_answer twin_write(uint8_t *t, size_t tl, uint8_t *p, size_t pl, uint32_t s
     }
     c.taken = need;
     give_pages(&c, first, end, end);
+    unsigned lo = first / group * group, hi = (end - 1) / group * group + group;
+    give_others(&c, lo, first, end, hi < PAGES ? hi : PAGES);
     for (size_t done = 0; done < length;) {
         unsigned q = (unsigned)((offset + done) / PAGE);
         size_t at = (offset + done) % PAGE, part = PAGE - at < length - done ? PAGE - at : length - done;
@@ -796,6 +824,18 @@ sweep_answer twin_write(uint8_t *t, size_t tl, uint8_t *p, size_t pl, uint32_t s
     unsigned size = size_of(load32(r)), reach = (unsigned)(offset + length);
     store32(r, head_of(OWN, size > reach ? size : reach));
     return finish(&c);
+}
+
+sweep_answer twin_write(uint8_t *t, size_t tl, uint8_t *p, size_t pl, uint32_t set, uint32_t file, uint32_t offset,
+                        const uint8_t *data, size_t length)
+{
+    return write_by(8, t, tl, p, pl, set, file, offset, data, length);
+}
+
+sweep_answer twin_write_narrow(uint8_t *t, size_t tl, uint8_t *p, size_t pl, uint32_t set, uint32_t file, uint32_t offset,
+                               const uint8_t *data, size_t length)
+{
+    return write_by(1, t, tl, p, pl, set, file, offset, data, length);
 }
 
 /* The pages from `from` up to `to` become holes, their blocks free. */

@@ -9,6 +9,8 @@ sweep_answer twin_create(uint8_t *tables, size_t tables_length, uint8_t *pages, 
                          uint32_t file);
 sweep_answer twin_write(uint8_t *tables, size_t tables_length, uint8_t *pages, size_t pages_length, uint32_t set,
                         uint32_t file, uint32_t offset, const uint8_t *data, size_t data_length);
+sweep_answer twin_write_narrow(uint8_t *tables, size_t tables_length, uint8_t *pages, size_t pages_length, uint32_t set,
+                               uint32_t file, uint32_t offset, const uint8_t *data, size_t data_length);
 sweep_answer twin_read(const uint8_t *tables, size_t tables_length, const uint8_t *pages, size_t pages_length,
                        uint32_t set, uint32_t file, uint32_t offset, uint8_t *buffer, size_t buffer_length);
 sweep_answer twin_truncate(uint8_t *tables, size_t tables_length, uint8_t *pages, size_t pages_length, uint32_t set,
