@@ -2,11 +2,15 @@
 use Rattle.history.proofs.Demand3.{demand3}
 use Rattle.history.proofs.Events.{listed-run}
 use Rattle.history.proofs.Formed.{formed-after, formed-marks}
+use Rattle.history.proofs.FromReset.{from-reset}
 use Rattle.history.proofs.Others.{others}
+use Rattle.history.proofs.Panel.{counts}
 use Rattle.history.specs.Claims.{Claims}
 use Rattle.rules.proofs.Whole.Rows.{rows-hold}
 use Rattle.tables.proofs.BlocksAlone.{blocks-alone}
 use Rattle.tables.proofs.OneReading.{one-reading}
+use Rattle.tables.proofs.PanelRows.{panel-rows}
+use Rattle.tables.proofs.Registers.{panel-table}
 
 -- THEOREM
 pub claims : Claims
@@ -14,8 +18,12 @@ claims = record {
   one-reading = one-reading;
   demand3 = demand3;
   listed = listed-run;
-  formed = λ m bs h es. (formed-after m bs h es, formed-marks m bs h es);
+  formed = λ h bs f es. (formed-after h bs f es, formed-marks h bs f es);
   others = others;
   blocks-alone = blocks-alone;
+  panel-table = panel-table;
+  panel-rows = panel-rows;
+  from-reset = from-reset;
+  counts = counts;
   rows = rows-hold;
 }

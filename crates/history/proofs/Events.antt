@@ -7,14 +7,15 @@ use Prim.Native.Nat.{ℕ, _≤_}
 use Rattle.history.proofs.CallImage.{after-image, gave-image, marks-image}
 use Rattle.history.proofs.Image.{image-store, imageOf}
 use Rattle.history.specs.Demand3.{MarksRightly}
-use Rattle.history.specs.Events.{Event, check, checkBlocks, eventOn, eventsOn, gaveAll, gaveBy, listOf, listed, listedAll, runs, runsAll}
-use Rattle.history.specs.Image.{Image, after}
+use Rattle.history.proofs.Panel.{afterAny, write-image}
+use Rattle.history.specs.Events.{Event, check, checkBlocks, eventOn, eventsOn, gaveAll, gaveBy, listOf, listed, listedAll, panelLine, panelRead, panelReset, panelWrite, runs, runsAll}
+use Rattle.history.specs.Image.{Held, Image, after, gave, withImage}
 use Rattle.rules.proofs.Storages.CountCalls.{modelOf}
 use Rattle.rules.proofs.Whole.Holds.{Holds, holds-quiet, holds-step}
 use Rattle.rules.proofs.Whole.HoldsMeans.{given-step}
 use Rattle.rules.proofs.Whole.HoldsRun.{both-append, given-append}
 use Rattle.rules.proofs.Whole.Order.{InOrder, order-step}
-use Rattle.rules.specs.Agreement.{Given, bothGiven, bothRun}
+use Rattle.rules.specs.Agreement.{Given, bothGive, bothGiven, bothRun}
 use Rattle.rules.specs.Calls.{Store, blankMemory, step, treeIn}
 use Rattle.rules.specs.Numbers.{Call}
 use Rattle.rules.specs.Plain.{Plain}
@@ -23,10 +24,14 @@ use Rattle.rules.specs.Storage.{freeBlocks, real}
 use Rattle.rules.specs.Tally.{Both, Tally}
 
 -- a list of the ten alone runs these
-pub listed-run : (cs : List Call) (m : Image) → runsAll (listedAll cs) m ≡ cs
+pub listed-run : (cs : List Call) (h : Held) → runsAll (listedAll cs) h ≡ cs
 unfolding listedAll runsAll
-listed-run [] m = refl
-listed-run (c ∷ cs) m = ap (λ ds. c ∷ ds) (listed-run cs (after c m))
+listed-run [] h = refl
+listed-run (c ∷ cs) h = ap (λ ds. c ∷ ds) (listed-run cs (withImage (after c (h .image)) h))
+
+-- the image of a store, and registers
+abbrev pub heldOf : Store real → List ℕ → Held
+heldOf r rs = record { image = imageOf r; registers = rs }
 
 module _ (B : ℕ) (least : 1 ≤ B) (most : B ≤ 4096) where
   -- a store in order goes to the image of one in order, the call o being run, if any
@@ -63,11 +68,20 @@ module _ (B : ℕ) (least : 1 ≤ B) (most : B ≤ 4096) where
     look-goes : Goes r none (imageOf r)
     look-goes = quiet-goes r o (λ f s. refl)
 
+    -- the call that is run, if any, and nothing else
+    run-goes : (o : Option Call) → Goes r o (afterAny o (imageOf r))
+    run-goes none = look-goes
+    run-goes (some c) = call-goes c
+
     -- EVERY EVENT keeps a store in order
-    pub event-goes : (e : Event) → Goes r (runs e (imageOf r)) (eventOn e (imageOf r))
-    event-goes (listed c) = call-goes c
-    event-goes checkBlocks = look-goes
-    event-goes check = look-goes
+    pub event-goes : (e : Event) (rs : List ℕ) → Goes r (runs e (heldOf r rs)) (eventOn e (heldOf r rs) .image)
+    event-goes (listed c) rs = call-goes c
+    event-goes checkBlocks rs = look-goes
+    event-goes check rs = look-goes
+    event-goes panelReset rs = look-goes
+    event-goes (panelRead offset) rs = look-goes
+    event-goes (panelWrite offset value) rs = subst (Goes r (runs (panelWrite offset value) (heldOf r rs))) (sym (write-image offset value (heldOf r rs))) (run-goes _)
+    event-goes panelLine rs = look-goes
 
   -- a store that agrees with plain store and tally goes to the image of one that does, the call o being run, if any
   pub record Kept (pl : Plain) (ta : Tally) (o : Option Call) (m : Image) : Type 0 where
@@ -89,54 +103,68 @@ module _ (B : ℕ) (least : 1 ≤ B) (most : B ≤ 4096) where
     look-kept : Kept pl ta none (imageOf r)
     look-kept = quiet-kept r (v .order) refl (λ f. refl) refl
 
+    run-kept : (o : Option Call) → Kept pl ta o (afterAny o (imageOf r))
+    run-kept none = look-kept
+    run-kept (some c) = call-kept c
+
     -- EVERY EVENT keeps the agreement, with the call that it runs
-    pub event-kept : (e : Event) → Kept pl ta (runs e (imageOf r)) (eventOn e (imageOf r))
-    event-kept (listed c) = call-kept c
-    event-kept checkBlocks = look-kept
-    event-kept check = look-kept
+    pub event-kept : (e : Event) (rs : List ℕ) → Kept pl ta (runs e (heldOf r rs)) (eventOn e (heldOf r rs) .image)
+    event-kept (listed c) rs = call-kept c
+    event-kept checkBlocks rs = look-kept
+    event-kept check rs = look-kept
+    event-kept panelReset rs = look-kept
+    event-kept (panelRead offset) rs = look-kept
+    event-kept (panelWrite offset value) rs = subst (Kept pl ta (runs (panelWrite offset value) (heldOf r rs))) (sym (write-image offset value (heldOf r rs))) (run-kept _)
+    event-kept panelLine rs = look-kept
 
     -- what the call that is run gives is what plain store and tally give
+    pub call-given : (c : Call) → gave c (imageOf r) ≡ bothGive B c pl ta
+    call-given c = gave-image B least most r (v .order) c ∙ given-step B r pl ta v least c
+
     given-by : (o : Option Call) → listOf (gaveBy o (imageOf r)) ≡ bothGiven B (listOf o) pl ta
     unfolding bothGiven
     given-by none = refl
-    given-by (some c) = ap (λ (x : Given). x ∷ []) (gave-image B least most r (v .order) c ∙ given-step B r pl ta v least c)
+    given-by (some c) = ap (λ (x : Given). x ∷ []) (call-given c)
 
   -- LISTS of events: on a store in order
-  pub record GoesAll (es : List Event) (r : Store real) : Type 0 where
+  pub record GoesAll (es : List Event) (r : Store real) (rs : List ℕ) : Type 0 where
     pub store : Store real
-    pub image : eventsOn es (imageOf r) ≡ imageOf store
+    pub image : eventsOn es (heldOf r rs) .image ≡ imageOf store
     pub order : InOrder B store
 
-  pub events-go : (es : List Event) (r : Store real) → InOrder B r → GoesAll es r
+  pub events-go : (es : List Event) (r : Store real) (rs : List ℕ) → InOrder B r → GoesAll es r rs
   unfolding eventsOn
-  events-go [] r o = record { store = r; image = refl; order = o }
-  events-go (e ∷ es) r o =
-      let g = event-goes r o e in
-      let q : GoesAll es (g .store) = events-go es (g .store) (g .order) in
-      record { store = q .store; image = ap (eventsOn es) (g .image) ∙ q .image; order = q .order }
+  events-go [] r rs o = record { store = r; image = refl; order = o }
+  events-go (e ∷ es) r rs o =
+      let g = event-goes r o e rs in
+      let rs′ : List ℕ = eventOn e (heldOf r rs) .registers in
+      let q : GoesAll es (g .store) rs′ = events-go es (g .store) rs′ (g .order) in
+      record { store = q .store; image = ap (λ (m : Image). eventsOn es (record { image = m; registers = rs′ }) .image) (g .image) ∙ q .image; order = q .order }
 
   -- and with plain store and tally
-  pub record KeptAll (es : List Event) (r : Store real) (pl : Plain) (ta : Tally) : Type 0 where
+  pub record KeptAll (es : List Event) (r : Store real) (rs : List ℕ) (pl : Plain) (ta : Tally) : Type 0 where
     pub store : Store real
-    pub image : eventsOn es (imageOf r) ≡ imageOf store
-    pub holds : Holds B store (bothRun B (runsAll es (imageOf r)) pl ta .plain) (bothRun B (runsAll es (imageOf r)) pl ta .tally)
-    pub given : gaveAll es (imageOf r) ≡ bothGiven B (runsAll es (imageOf r)) pl ta
+    pub image : eventsOn es (heldOf r rs) .image ≡ imageOf store
+    pub holds : Holds B store (bothRun B (runsAll es (heldOf r rs)) pl ta .plain) (bothRun B (runsAll es (heldOf r rs)) pl ta .tally)
+    pub given : gaveAll es (heldOf r rs) ≡ bothGiven B (runsAll es (heldOf r rs)) pl ta
 
-  pub events-kept : (es : List Event) (r : Store real) (pl : Plain) (ta : Tally) → Holds B r pl ta → KeptAll es r pl ta
+  pub events-kept : (es : List Event) (r : Store real) (rs : List ℕ) (pl : Plain) (ta : Tally) → Holds B r pl ta → KeptAll es r rs pl ta
   unfolding eventsOn runsAll gaveAll bothRun bothGiven
-  events-kept [] r pl ta v = record { store = r; image = refl; holds = v; given = refl }
-  events-kept (e ∷ es) r pl ta v =
-      let o : Option Call = runs e (imageOf r) in
-      let k : Kept pl ta o (eventOn e (imageOf r)) = event-kept r pl ta v e in
+  events-kept [] r rs pl ta v = record { store = r; image = refl; holds = v; given = refl }
+  events-kept (e ∷ es) r rs pl ta v =
+      let h : Held = eventOn e (heldOf r rs) in
+      let o : Option Call = runs e (heldOf r rs) in
+      let k : Kept pl ta o (h .image) = event-kept r pl ta v e rs in
       let b : Both = bothRun B (listOf o) pl ta in
-      let q : KeptAll es (k .store) (b .plain) (b .tally) = events-kept es (k .store) (b .plain) (b .tally) (k .holds) in
-      let cs : runsAll es (eventOn e (imageOf r)) ≡ runsAll es (imageOf (k .store)) = ap (runsAll es) (k .image) in
-      let bs : bothRun B (listOf o ++ runsAll es (eventOn e (imageOf r))) pl ta ≡ bothRun B (runsAll es (imageOf (k .store))) (b .plain) (b .tally) =
+      let at : Image → Held = λ m. record { image = m; registers = h .registers } in
+      let q : KeptAll es (k .store) (h .registers) (b .plain) (b .tally) = events-kept es (k .store) (h .registers) (b .plain) (b .tally) (k .holds) in
+      let cs : runsAll es h ≡ runsAll es (heldOf (k .store) (h .registers)) = ap (λ m. runsAll es (at m)) (k .image) in
+      let bs : bothRun B (listOf o ++ runsAll es h) pl ta ≡ bothRun B (runsAll es (heldOf (k .store) (h .registers))) (b .plain) (b .tally) =
       both-append B (listOf o) _ pl ta ∙ ap (λ l. bothRun B l (b .plain) (b .tally)) cs in
       record {
         store = q .store;
-        image = ap (eventsOn es) (k .image) ∙ q .image;
+        image = ap (λ m. eventsOn es (at m) .image) (k .image) ∙ q .image;
         holds = subst (λ (x : Both). Holds B (q .store) (x .plain) (x .tally)) (sym bs) (q .holds);
-        given = ap₂ (λ xs ys. xs ++ ys) (given-by r pl ta v o) (ap (gaveAll es) (k .image) ∙ q .given ∙ ap (λ l. bothGiven B l (b .plain) (b .tally)) (sym cs))
+        given = ap₂ (λ xs ys. xs ++ ys) (given-by r pl ta v o) (ap (λ m. gaveAll es (at m)) (k .image) ∙ q .given ∙ ap (λ l. bothGiven B l (b .plain) (b .tally)) (sym cs))
             ∙ sym (given-append B (listOf o) _ pl ta);
       }

@@ -15,7 +15,7 @@ use Rattle.history.proofs.Events.{event-goes, events-go}
 use Rattle.history.proofs.Image.{image-formed, imageOf}
 use Rattle.history.specs.Demand3.{MarksRightly, MarksThroughout}
 use Rattle.history.specs.Events.{Event, eventOn, eventsOn, runs}
-use Rattle.history.specs.Image.{Image, storeIn}
+use Rattle.history.specs.Image.{Held, Image, storeIn}
 use Rattle.packing.specs.Words.{Bytes}
 use Rattle.rules.proofs.Formed.FilesMapped.{map-formed}
 use Rattle.rules.proofs.Storages.MapBlocks.{mapFile}
@@ -67,15 +67,21 @@ module _ (m : Image) (bs : Bytes (m .tables)) (h : wellFormed (m .tables) (lengt
       subst P (image-of (m .tables) (m .pages) h bs)
       (k (unpack (m .tables) .blocks) (header .at-least) (header .most) (storeIn m) (order-of (m .tables) (m .pages) h))
 
-  -- LISTS OF EVENTS on well-formed bytes
-  pub formed-after : (es : List Event) → wellFormed (eventsOn es m .tables) (length (eventsOn es m .pages)) ≡ true
+-- LISTS OF EVENTS on well-formed bytes, with any registers
+module _ (h : Held) (bs : Bytes (h .image .tables)) (f : wellFormed (h .image .tables) (length (h .image .pages)) ≡ true) where
+  abbrev at : Image → Held
+  at m = record { image = m; registers = h .registers }
+
+  pub formed-after : (es : List Event) → let m : Image = eventsOn es h .image in wellFormed (m .tables) (length (m .pages)) ≡ true
   formed-after es =
-      of-image (λ x. wellFormed (eventsOn es x .tables) (length (eventsOn es x .pages)) ≡ true)
-      (λ B least most r o. let g = events-go B least most es r o in
+      of-image (h .image) bs f (λ x. wellFormed (eventsOn es (at x) .image .tables) (length (eventsOn es (at x) .image .pages)) ≡ true)
+      (λ B least most r o. let g = events-go B least most es r (h .registers) o in
       ap (λ (x : Image). wellFormed (x .tables) (length (x .pages))) (g .image) ∙ image-formed B most (g .store) (g .order))
 
-  pub formed-marks : (es : List Event) → MarksThroughout m es
+  pub formed-marks : (es : List Event) → MarksThroughout h es
   formed-marks es before rest e d =
-      of-image (λ x. MarksRightly (eventsOn before x) (runs e (eventsOn before x)) (eventOn e (eventsOn before x)))
-      (λ B least most r o. let g = events-go B least most before r o in
-      subst (λ (x : Image). MarksRightly x (runs e x) (eventOn e x)) (sym (g .image)) (event-goes B least most (g .store) (g .order) e .marks))
+      of-image (h .image) bs f (λ x. let here : Held = eventsOn before (at x) in MarksRightly (here .image) (runs e here) (eventOn e here .image))
+      (λ B least most r o. let g = events-go B least most before r (h .registers) o in
+      let rs : List ℕ = eventsOn before (at (imageOf r)) .registers in
+      subst (λ (x : Image). MarksRightly x (runs e (record { image = x; registers = rs })) (eventOn e (record { image = x; registers = rs }) .image)) (sym (g .image))
+      (event-goes B least most (g .store) (g .order) e rs .marks))

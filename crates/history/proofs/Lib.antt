@@ -1,7 +1,9 @@
 pub mod Image
 pub mod CallImage
+pub mod Panel
 pub mod Events
 pub mod Formed
 pub mod Demand3
 pub mod Others
+pub mod FromReset
 pub mod Claims

@@ -1,14 +1,15 @@
 -- DEMAND 3: one claim about the whole list of events. Document 01, "Demand 3".
 --
--- For all tables and pages whose lengths a format accepts, whatever they hold, and every list of events (the ten calls with any arguments, refused ones
--- included, and the calls added since, which run one of the ten or none), run from their format on, tables and pages handed from one to the next as bytes, by
--- the definitions that the contracts of the exported functions cite (`callOn`, and those of the added calls):
+-- For all tables and pages whose lengths a format accepts, whatever they hold, all bytes as registers of the front panel, and every list of events (the ten calls
+-- with any arguments, refused ones included, and the calls added since, which run one of the ten or none), run from their format on, tables, pages and registers
+-- handed from one to the next as bytes, by the definitions that the contracts of the exported functions cite (`callOn`, and those of the added calls):
 -- the tables are well formed; sets, presence, sizes and bytes by reading are the plain store's; states, sizes, kinds and free blocks are the tally's; and
 -- every answer of the ten, its number and all three counts, with the bytes of every read, is the one that plain store and tally give, fed the arguments of the
 -- calls that the events ran, alone. What an added call answers is said by its contract.
 -- So accepted are exactly the calls to which no refusal applies, judged on these two.
 -- And at every place in the list a file becomes marked exactly when a needed copy for it finds no free block beyond the writer's own need, or it still depends
 -- on a file so marked, or its set is then made from one where it is marked: read off the bytes before and after.
+-- And a command of the front panel shows in the registers what plain store and tally give to the call that it runs.
 --
 -- The numbers of the fields are those of docs/PROMISES.md, "Demand 3, in plain words".
 use mathlib.Core.Bool.{false, true}
@@ -18,9 +19,9 @@ use mathlib.Core.Option.{Option, none, some}
 use mathlib.Core.Path.{_≡_}
 use Prim.Native.Nat.{_/_, ℕ}
 use lib.ListN.{length}
-use Rattle.history.specs.Events.{Event, eventOn, eventsOn, gaveAll, runs, runsAll}
-use Rattle.history.specs.Image.{Image, after, gave, storeIn}
-use Rattle.rules.specs.Agreement.{AgreesPlain, AgreesTally, bothGiven, bothRun, tallyIn}
+use Rattle.history.specs.Events.{Event, eventOn, eventsOn, gaveAll, panelWrite, runs, runsAll}
+use Rattle.history.specs.Image.{Held, Image, after, gave, storeIn}
+use Rattle.rules.specs.Agreement.{AgreesPlain, AgreesTally, bothGive, bothGiven, bothRun, tallyIn}
 use Rattle.rules.specs.Marking.{BecomesMarked}
 use Rattle.rules.specs.Numbers.{Call, format, noCounts}
 use Rattle.rules.specs.Plain.{plainFormat}
@@ -28,13 +29,17 @@ use Rattle.rules.specs.State.{isMarked, pageBytes}
 use Rattle.rules.specs.Tally.{Both, tallyFormat}
 use Rattle.tables.specs.Calls.{formatLengths}
 use Rattle.tables.specs.Packed.{wellFormed}
+use Rattle.tables.specs.Panel.{answered, entered}
 
--- the image after the format and the list; the calls that the events ran; plain store and tally after these calls
-abbrev pub imageAfter : Image → List Event → Image
-imageAfter m es = eventsOn es (after format m)
+-- what is held after the format of m and the list, from registers r on; the calls that the events ran; plain store and tally after these calls
+abbrev pub formattedOf : Image → List ℕ → Held
+formattedOf m r = record { image = after format m; registers = r }
 
-abbrev pub callsRun : Image → List Event → List Call
-callsRun m es = runsAll es (after format m)
+abbrev pub heldAfter : Image → List ℕ → List Event → Held
+heldAfter m r es = eventsOn es (formattedOf m r)
+
+abbrev pub callsRun : Image → List ℕ → List Event → List Call
+callsRun m r es = runsAll es (formattedOf m r)
 
 abbrev pub bothAfter : Image → List Call → Both
 bothAfter m cs = let blocks : ℕ = length (m .pages) / pageBytes in bothRun blocks cs plainFormat (tallyFormat blocks)
@@ -49,26 +54,38 @@ MarkedBy (some c) m f s = (gave c m .answer .number ≡ 0) × BecomesMarked (tal
 abbrev pub MarksRightly : Image → Option Call → Image → Type 0
 MarksRightly m o m′ = (f s : ℕ) → isMarked (storeIn m .files f s .state) ≡ false → (isMarked (storeIn m′ .files f s .state) ≡ true) ↔ MarkedBy o m f s
 
--- at every place in a list of events, run from m on
-abbrev pub MarksThroughout : Image → List Event → Type 0
-MarksThroughout m es =
-    (before rest : List Event) (e : Event) → es ≡ before ++ (e ∷ rest) → let here : Image = eventsOn before m in MarksRightly here (runs e here) (eventOn e here)
+-- at every place in a list of events, run from h on
+abbrev pub MarksThroughout : Held → List Event → Type 0
+MarksThroughout h es =
+    (before rest : List Event) (e : Event) → es ≡ before ++ (e ∷ rest)
+    → let here : Held = eventsOn before h in MarksRightly (here .image) (runs e here) (eventOn e here .image)
+
+-- at every place in the list where a write to a register runs a call: the registers then show what plain store and tally give to that call
+abbrev pub ShowsThroughout : Image → List ℕ → List Event → Type 0
+ShowsThroughout m r es =
+    (before rest : List Event) (offset value : ℕ) (c : Call) → es ≡ before ++ (panelWrite offset value ∷ rest)
+    → let here : Held = heldAfter m r before in let both : Both = bothAfter m (callsRun m r before) in
+    runs (panelWrite offset value) here ≡ some c
+    → eventOn (panelWrite offset value) here .registers
+    ≡ answered (bothGive (length (m .pages) / pageBytes) c (both .plain) (both .tally) .answer) (entered offset value (here .registers))
 
 -- THE CLAIM
-pub record Demand3 (m : Image) (es : List Event) : Type 0 where
+pub record Demand3 (m : Image) (r : List ℕ) (es : List Event) : Type 0 where
   -- the format is accepted
   pub begins : gave format m ≡ record { answer = noCounts; bytes = [] }
   -- 1. the tables are well formed
-  pub formed : wellFormed (imageAfter m es .tables) (length (imageAfter m es .pages)) ≡ true
+  pub formed : let m′ : Image = heldAfter m r es .image in wellFormed (m′ .tables) (length (m′ .pages)) ≡ true
   -- 2, 3. sets, presence, sizes and bytes by reading are those of the plain store
-  pub plain : AgreesPlain (storeIn (imageAfter m es)) (bothAfter m (callsRun m es) .plain)
+  pub plain : AgreesPlain (storeIn (heldAfter m r es .image)) (bothAfter m (callsRun m r es) .plain)
   -- 4, 5. the number and counts of every call of the ten that was run, and the bytes of every read, are those that plain store and tally give
-  pub given : gaveAll es (after format m) ≡ bothGiven (length (m .pages) / pageBytes) (callsRun m es) plainFormat (tallyFormat (length (m .pages) / pageBytes))
+  pub given : gaveAll es (formattedOf m r) ≡ bothGiven (length (m .pages) / pageBytes) (callsRun m r es) plainFormat (tallyFormat (length (m .pages) / pageBytes))
   -- 6. states, sizes, kinds and free blocks are the tally's
-  pub tally : AgreesTally (storeIn (imageAfter m es)) (bothAfter m (callsRun m es) .tally)
+  pub tally : AgreesTally (storeIn (heldAfter m r es .image)) (bothAfter m (callsRun m r es) .tally)
   -- 7. at every place in the list, what becomes marked
-  pub marks : MarksThroughout (after format m) es
+  pub marks : MarksThroughout (formattedOf m r) es
+  -- 8. at every place in the list, what a command of the front panel shows in the registers
+  pub shows : ShowsThroughout m r es
 
--- DEMAND 3, whole: all tables and pages of lengths that a format accepts, and all lists of events
+-- DEMAND 3, whole: all tables and pages of lengths that a format accepts, all registers of any length, and all lists of events
 abbrev pub Demand3Claim : Type 0
-Demand3Claim = (m : Image) → formatLengths (length (m .tables)) (length (m .pages)) ≡ true → (es : List Event) → Demand3 m es
+Demand3Claim = (m : Image) → formatLengths (length (m .tables)) (length (m .pages)) ≡ true → (r : List ℕ) (es : List Event) → Demand3 m r es

@@ -1,12 +1,15 @@
--- WHAT MAY STAND IN A LIST: events. An event takes tables and pages to tables and pages; in doing so it runs one of the ten calls, or none.
+-- WHAT MAY STAND IN A LIST: events. An event is lent tables, pages and registers and leaves tables, pages and registers; in doing so it runs one of the ten calls, or none.
 -- "A call added later on these tables joins the list; for plain store and tally it is just the listed calls that it runs, if any." One that ran several would stand
 -- in the list as that many events, one after another. How one is added: docs/ARCHITECTURE.md, "How to add a call".
 use mathlib.Core.List.{_++_, List, _∷_, []}
 use mathlib.Core.Option.{Option, none, some}
-use Rattle.history.specs.Image.{Image, after, gave, imageLeft}
+use Prim.Native.Nat.{ℕ}
+use Rattle.history.specs.Image.{Held, Image, after, gave, heldLeft, imageLeft, withImage, withRegisters}
 use Rattle.rules.specs.Agreement.{Given}
 use Rattle.rules.specs.Numbers.{Call}
+use Rattle.tables.specs.Calls.{callOn}
 use Rattle.tables.specs.Checks.{checkBlocksOn, checkOn}
+use Rattle.tables.specs.Panel.{callRun, panelLineOn, panelReadOn, panelResetOn, panelWriteOn}
 
 pub data Event : Type 0 where
   -- one of the ten; each write by a group size of its own
@@ -14,18 +17,31 @@ pub data Event : Type 0 where
   -- document 02, Ask 4: the first part of the check, which is lent no pages, and the whole check
   checkBlocks : Event
   check : Event
+  -- document 02, Ask 6: the calls of the front panel. A read has its offset, a write its offset and its value
+  panelReset : Event
+  panelRead : ℕ → Event
+  panelWrite : ℕ → ℕ → Event
+  panelLine : Event
 
--- an event on tables and pages
-abbrev pub eventOn : Event → Image → Image
-eventOn (listed c) m = after c m
-eventOn checkBlocks m = record { tables = checkBlocksOn (m .tables) .tables; pages = m .pages }
-eventOn check m = imageLeft (checkOn (m .tables) (m .pages))
+-- an event on tables, pages and registers
+abbrev pub eventOn : Event → Held → Held
+eventOn (listed c) h = withImage (after c (h .image)) h
+eventOn checkBlocks h = withImage (record { tables = checkBlocksOn (h .image .tables) .tables; pages = h .image .pages }) h
+eventOn check h = withImage (imageLeft (checkOn (h .image .tables) (h .image .pages))) h
+eventOn panelReset h = withRegisters (panelResetOn (h .registers) .registers) h
+eventOn (panelRead offset) h = withRegisters (panelReadOn offset (h .registers) .registers) h
+eventOn (panelWrite offset value) h = heldLeft (panelWriteOn callOn offset value (h .registers) (h .image .tables) (h .image .pages))
+eventOn panelLine h = withRegisters (panelLineOn (h .registers) .registers) h
 
--- the call of the ten that it runs there, if any
-abbrev pub runs : Event → Image → Option Call
-runs (listed c) m = some c
-runs checkBlocks m = none
-runs check m = none
+-- the call of the ten that it runs there, if any: "Sequences through the panel count as the calls they run."
+abbrev pub runs : Event → Held → Option Call
+runs (listed c) h = some c
+runs checkBlocks h = none
+runs check h = none
+runs panelReset h = none
+runs (panelRead offset) h = none
+runs (panelWrite offset value) h = callRun offset value (h .registers)
+runs panelLine h = none
 
 -- a list of one or none
 abbrev pub listOf : {A : Type 0} → Option A → List A
@@ -38,17 +54,17 @@ gaveBy none m = none
 gaveBy (some c) m = some (gave c m)
 
 -- after a list of events; the calls that they ran; what these gave
-unfoldable pub eventsOn : List Event → Image → Image
-eventsOn [] m = m
-eventsOn (e ∷ es) m = eventsOn es (eventOn e m)
+unfoldable pub eventsOn : List Event → Held → Held
+eventsOn [] h = h
+eventsOn (e ∷ es) h = eventsOn es (eventOn e h)
 
-unfoldable pub runsAll : List Event → Image → List Call
-runsAll [] m = []
-runsAll (e ∷ es) m = listOf (runs e m) ++ runsAll es (eventOn e m)
+unfoldable pub runsAll : List Event → Held → List Call
+runsAll [] h = []
+runsAll (e ∷ es) h = listOf (runs e h) ++ runsAll es (eventOn e h)
 
-unfoldable pub gaveAll : List Event → Image → List Given
-gaveAll [] m = []
-gaveAll (e ∷ es) m = listOf (gaveBy (runs e m) m) ++ gaveAll es (eventOn e m)
+unfoldable pub gaveAll : List Event → Held → List Given
+gaveAll [] h = []
+gaveAll (e ∷ es) h = listOf (gaveBy (runs e h) (h .image)) ++ gaveAll es (eventOn e h)
 
 -- a list of the ten alone
 unfoldable pub listedAll : List Call → List Event

@@ -19,3 +19,6 @@ pub mod FreeBlocks
 pub mod Pending
 pub mod KeptEntries
 pub mod FormedStore
+pub mod Registers
+pub mod NumberFits
+pub mod PanelRows
