@@ -1,5 +1,6 @@
 // The exported calls, as include/sweep.h declares them. C sees a slice as a pointer and a length. None asks anything of its
-// arguments; each contract is one equation for the number, the counts and every byte of tables, pages and read buffer.
+// arguments; each contract is one equation for the number, the counts and every byte of tables, pages, read buffer and
+// registers.
 ghost use mathlib.Core.Bool.{not};
 ghost use mathlib.Core.List.{[]};
 ghost use mathlib.Core.Path.{_≡_};
@@ -7,7 +8,9 @@ ghost use lib.Dec.{eqb};
 ghost use Rattle.rules.specs.Numbers;
 ghost use Rattle.tables.specs.Calls.{callOn};
 ghost use Rattle.tables.specs.Checks.{checkBlocksOn, checkOn};
+ghost use Rattle.tables.specs.Panel.{panelLineOn, panelReadOn, panelResetOn, panelWriteOn};
 ghost use Rattle.calls.specs.Outcomes.{outcome};
+ghost use Rattle.panel.specs.Outcomes.{panelOutcome};
 use calls::answer::Answer;
 
 #[no_mangle]
@@ -137,4 +140,39 @@ pub extern "C" fn sweep_check(tables: &[u8], pages: &[u8]) -> Answer
     ensures { λ r. ⌜ outcome r (now (tables .entry)) (now (pages .entry)) [] ≡ checkOn (now (tables .entry)) (now (pages .entry)) ⌝ }
 {
     calls::checks::check(tables, pages)
+}
+
+// The register page of the front panel: sixteen bytes, which only these four calls write from a reset on.
+#[no_mangle]
+pub extern "C" fn sweep_panel_reset(registers: &mut [u8]) -> Answer
+    ensures { λ r. ⌜ panelOutcome r (now (registers .exit)) [] [] ≡ panelResetOn (now (registers .entry)) ⌝ }
+{
+    panel::reset(registers)
+}
+
+#[no_mangle]
+pub extern "C" fn sweep_panel_read(registers: &[u8], offset: u32) -> Answer
+    ensures { λ r. ⌜ panelOutcome r (now (registers .entry)) [] [] ≡ panelReadOn offset (now (registers .entry)) ⌝ }
+{
+    panel::read(registers, offset)
+}
+
+#[no_mangle]
+pub extern "C" fn sweep_panel_write(
+    registers: &mut [u8],
+    tables: &mut [u8],
+    pages: &mut [u8],
+    offset: u32,
+    value: u8,
+) -> Answer
+    ensures { λ r. ⌜ panelOutcome r (now (registers .exit)) (now (tables .exit)) (now (pages .exit)) ≡ panelWriteOn callOn offset value (now (registers .entry)) (now (tables .entry)) (now (pages .entry)) ⌝ }
+{
+    panel::write(registers, tables, pages, offset, value)
+}
+
+#[no_mangle]
+pub extern "C" fn sweep_panel_line(registers: &[u8]) -> Answer
+    ensures { λ r. ⌜ panelOutcome r (now (registers .entry)) [] [] ≡ panelLineOn (now (registers .entry)) ⌝ }
+{
+    panel::line(registers)
 }

@@ -1,0 +1,2 @@
+pub mod RegisterCases
+pub mod CommandCases
