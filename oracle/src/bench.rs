@@ -1,12 +1,16 @@
 //! Runs scripts. After every call it compares: with plain store and tally
-//! ("Demand 3"), with the promise that a refused call changes nothing, and
-//! with another implementation where there is one, byte for byte.
+//! ("Demand 3"), with what the panel's registers must show since a reset, with
+//! the promise that a refused call changes nothing, and with another
+//! implementation where there is one, byte for byte.
 
+use crate::accesses::{Access, Accesses};
 use crate::agree::agree;
 use crate::call::*;
 use crate::check::{check_state, Rule};
 use crate::judge::{format_blocks, Beside};
 use crate::lent::{check_unchanged, Buffer::*, Buffers, Guarded};
+use crate::panel::REGISTERS;
+use crate::panel_judge::{self, Since};
 use crate::state::{Kind, State};
 use crate::store;
 use crate::writes::{ByKind, Written};
@@ -96,6 +100,10 @@ pub struct Counts {
     pub writes_linked: ByKind,
     /// Writes compared with plain store and tally.
     pub writes_beside: ByKind,
+    /// Panel accesses compared with the other implementation.
+    pub panel_linked: Accesses,
+    /// Panel accesses compared with what is demanded of them.
+    pub panel_judged: Accesses,
     pub damages: BTreeMap<Rule, u64>,
     pub flips: u64,
 }
@@ -103,6 +111,7 @@ pub struct Counts {
 const BUFFER_FILL: u8 = 0xB7;
 const OLD_PAGE_FILL: u8 = 0xA5;
 const OLD_TABLE_FILL: u8 = 0x5A;
+const OLD_REGISTER_FILL: u8 = 0x96;
 
 pub struct Bench {
     /// What the caller holds from call to call.
@@ -110,7 +119,17 @@ pub struct Bench {
     /// Plain store and tally; none before an accepted format and after a
     /// change of tables or pages made from outside.
     pub beside: Option<Beside>,
+    /// What was done to the panel; none before an accepted panel-reset and after
+    /// a change of registers made from outside.
+    pub since: Option<Since>,
     pub counts: Counts,
+}
+
+/// A listed call that was done: the call itself, or the one that a panel command
+/// ran.
+struct Done {
+    call: Call,
+    answer: Answer,
 }
 
 impl Default for Bench {
@@ -124,12 +143,14 @@ impl Bench {
         Bench::with(vec![OLD_TABLE_FILL; TABLES_BYTES], Vec::new())
     }
 
-    /// A bench on given tables and pages, without plain store and tally.
+    /// A bench on given tables and pages, without plain store and tally, and with
+    /// registers that no reset made.
     pub fn with(tables: Vec<u8>, pages: Vec<u8>) -> Bench {
         let mut buffers = Buffers::default();
         buffers[Tables] = tables;
         buffers[Pages] = pages;
-        Bench { buffers, beside: None, counts: Counts::default() }
+        buffers[Registers] = vec![OLD_REGISTER_FILL; REGISTERS];
+        Bench { buffers, beside: None, since: None, counts: Counts::default() }
     }
 
     pub fn tables(&self) -> &[u8] {
@@ -138,6 +159,10 @@ impl Bench {
 
     pub fn pages(&self) -> &[u8] {
         &self.buffers[Pages]
+    }
+
+    pub fn registers(&self) -> &[u8] {
+        &self.buffers[Registers]
     }
 
     /// Does one line of a script. An error says the first difference.
@@ -153,8 +178,10 @@ impl Bench {
                 buffer
             }
         };
-        if matches!(changed, Tables | Pages) {
-            self.beside = None;
+        match changed {
+            Tables | Pages => self.beside = None,
+            Registers => self.since = None,
+            _ => {}
         }
         Ok(None)
     }
@@ -163,10 +190,22 @@ impl Bench {
         let before = self.buffers_of(call);
         let mut after = before.clone();
         let answer = store::run(call.index(), &call.numbers(), after.lend());
-        self.count(call, &answer, &before, &after);
+        self.counts.calls[call.index()] += 1;
+        self.counts.numbers[answer.number as usize] += 1;
         check_unchanged(call.row(), &answer, &before, &after)?;
+        let done = listed(call, answer, &before, &after)?;
+        if let Some(done) = &done {
+            self.count(done, &before, &after);
+        }
         self.compare_other(call, &answer, &before, &mut after, other)?;
-        self.compare_beside(call, &answer, &before, &after)?;
+        if let Some(done) = &done {
+            self.compare_beside(done, &before, &after)?;
+        }
+        if call.is_of_panel() {
+            let ran = done.map(|done| done.answer);
+            let registers = (before[Registers].as_slice(), after[Registers].as_slice());
+            self.compare_since(call, answer, ran, registers, other.has(call.index()))?;
+        }
         if call.as_write().is_some() && answer.number == 0 {
             self.count_write(call, &answer, [&before, &after], other.has(call.index()));
         }
@@ -198,9 +237,8 @@ impl Bench {
         }
     }
 
-    fn count(&mut self, call: &Call, answer: &Answer, before: &Buffers, after: &Buffers) {
-        self.counts.calls[call.index()] += 1;
-        self.counts.numbers[answer.number as usize] += 1;
+    /// Counts what a listed call did to the store.
+    fn count(&mut self, Done { call, answer }: &Done, before: &Buffers, after: &Buffers) {
         let drops = matches!(call, Call::Truncate { .. } | Call::Delete { .. });
         if drops || call.as_write().is_some() {
             self.counts.copies += u64::from(answer.second);
@@ -239,8 +277,7 @@ impl Bench {
     /// answer are compared, the maps looked at by a read among them.
     fn compare_beside(
         &mut self,
-        call: &Call,
-        answer: &Answer,
+        Done { call, answer }: &Done,
         before: &Buffers,
         after: &Buffers,
     ) -> Result<(), String> {
@@ -270,6 +307,43 @@ impl Bench {
         agree(&state, &after[Pages], beside)
     }
 
+    /// What a call of the panel answers, and what the registers then show, is
+    /// what was done since the last reset demands; `ran` is the answer of the
+    /// call that it ran, which plain store and tally have seen. Without a reset
+    /// the number alone is compared.
+    fn compare_since(
+        &mut self,
+        call: &Call,
+        answer: Answer,
+        ran: Option<Answer>,
+        (before, after): (&[u8], &[u8]),
+        is_linked: bool,
+    ) -> Result<(), String> {
+        let number = panel_judge::number(call, before.len());
+        if answer.number != number {
+            return Err(format!("the answer is {answer}; the panel's number is {number}"));
+        }
+        let from_reset = self.since.is_some();
+        let access = Access { call, answer, ran, before, after, from_reset };
+        self.counts.panel_judged.count(&access);
+        if is_linked {
+            self.counts.panel_linked.count(&access);
+        }
+        if number == 0 && *call == (Call::PanelReset {}) {
+            self.since.get_or_insert_default();
+        }
+        let (Some(since), 0) = (&mut self.since, number) else { return Ok(()) };
+        let wanted = since.step(call, ran);
+        if answer != wanted {
+            return Err(format!("the answer is {answer}; since the reset it must be {wanted}"));
+        }
+        if after != since.registers() {
+            let wanted = since.registers();
+            return Err(format!("the registers are {after:?}; since the reset {wanted:?}"));
+        }
+        Ok(())
+    }
+
     fn compare_other(
         &mut self,
         call: &Call,
@@ -288,6 +362,32 @@ impl Bench {
         self.counts.reads_linked.count(call, answer);
         lent.compare(call.row(), answer.number == 0, after)
     }
+}
+
+/// The listed call that is done, none for a panel access that runs no command. What
+/// a command does to tables and pages is what its call does, made directly:
+/// "Sequences through the panel count as the calls they run."
+fn listed(
+    call: &Call,
+    answer: Answer,
+    before: &Buffers,
+    after: &Buffers,
+) -> Result<Option<Done>, String> {
+    if !call.is_of_panel() {
+        return Ok(Some(Done { call: call.clone(), answer }));
+    }
+    let mut direct = before.clone();
+    let done = panel_judge::call_run(call, &before[Registers]).map(|call| {
+        let answer = store::run(call.index(), &call.numbers(), direct.lend());
+        Done { call, answer }
+    });
+    if direct[Tables] == after[Tables] && direct[Pages] == after[Pages] {
+        return Ok(done);
+    }
+    Err(match done {
+        Some(Done { call, .. }) => format!("the store is not as after the call {call}"),
+        None => "the store changed, and no command ran".to_string(),
+    })
 }
 
 /// The number and all three counts are equal. Document 02, of the maps looked at

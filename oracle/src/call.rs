@@ -8,8 +8,8 @@ use std::fmt;
 
 /// How many calls there are.
 pub const CALLS: usize = CALL_NAMES.len();
-/// How many numbers an answer can have: 0 to 12.
-pub const NUMBERS: usize = 13;
+/// How many numbers an answer can have: 0 to 13.
+pub const NUMBERS: usize = 14;
 
 /// "Largest: 8 sets, 16 files a set, 64 pages of 512 bytes a file (32,768
 /// bytes), 4,096 blocks of 512 bytes."
@@ -30,6 +30,8 @@ pub const NONE: usize = 8;
 pub const WRITE_GROUP: usize = 8;
 /// A narrow write is one by groups of one page.
 pub const NARROW_GROUP: usize = 1;
+/// Document 02, of the panel's command: "a session op 1, 4, 5, 6 or 7".
+pub const COMMANDS: [u8; 5] = [1, 4, 5, 6, 7];
 
 /// What a call gives: "An accepted call gives 0 and three counts."
 #[repr(C)]
@@ -63,9 +65,18 @@ const STORE_READ: [Lending; BUFFERS] = lends(ReadOnly, NotLent);
 /// The tables alone: such a call never sees the pages.
 const TABLES_READ: [Lending; BUFFERS] = [ReadOnly, NotLent, NotLent, NotLent, NotLent, NotLent];
 
+/// The panel's registers, to be changed or only read.
+const REGISTERS_CHANGED: [Lending; BUFFERS] = lends_registers(NotLent, Changed);
+const REGISTERS_READ: [Lending; BUFFERS] = lends_registers(NotLent, ReadOnly);
+
 /// How a call is lent tables and pages, and its data or buffer.
 const fn lends(store: Lending, bytes: Lending) -> [Lending; BUFFERS] {
     [store, store, bytes, NotLent, NotLent, NotLent]
+}
+
+/// How a call of the panel is lent tables and pages, and the registers.
+const fn lends_registers(store: Lending, registers: Lending) -> [Lending; BUFFERS] {
+    [store, store, NotLent, registers, NotLent, NotLent]
 }
 
 /// Makes of a table of calls: the type of a call, its place, what it is lent
@@ -153,6 +164,13 @@ calls! {
     /// A narrow write.
     WriteNarrow { set: u32, file: u32, offset: u32, length: usize, seed: u32 }
         told [set, file, offset] lends lends(Changed, ReadOnly), leaves None;
+    PanelReset {} told [] lends REGISTERS_CHANGED, leaves None;
+    PanelRead { offset: u32 } told [offset] lends REGISTERS_READ, leaves None;
+    /// A write of a register; at offset 0 it runs a command on the store.
+    PanelWrite { offset: u32, value: u8 }
+        told [offset, value] lends lends_registers(Changed, Changed), leaves None;
+    /// Asking for the line.
+    PanelLine {} told [] lends REGISTERS_READ, leaves None;
     /// A write by groups of any size.
     WriteGroups { group: Group, set: u32, file: u32, offset: u32, length: usize, seed: u32 }
         told [group, set, file, offset] lends lends(Changed, ReadOnly), leaves None;
@@ -225,6 +243,11 @@ impl Call {
             }
             _ => return None,
         })
+    }
+
+    /// Whether it is a call of the panel: no other is lent registers.
+    pub fn is_of_panel(&self) -> bool {
+        self.row().lends(Buffer::Registers) != NotLent
     }
 
     /// Whether the call may change tables or pages at all.

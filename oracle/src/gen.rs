@@ -1,4 +1,7 @@
-//! Random calls, histories, well-formed states and damages.
+//! Random calls, histories, well-formed states and damages. Those of the panel are
+//! in `gen::panel`.
+
+pub mod panel;
 
 use crate::bits::put_field;
 use crate::call::*;
@@ -11,10 +14,19 @@ use crate::store;
 use crate::tally::{Condition, TallyKind};
 use std::collections::BTreeSet;
 
-/// The places of the three kinds of write in `CALL_NAMES`.
+/// Places in `CALL_NAMES`: the calls that panel commands run, and the panel's own.
+const CREATE: usize = 1;
+const DELETE: usize = 5;
+const MAKE: usize = 6;
+const REMOVE: usize = 7;
+const PANEL_RESET: usize = 13;
+const PANEL_READ: usize = 14;
+const PANEL_WRITE: usize = 15;
+const PANEL_LINE: usize = 16;
+/// The places of the three kinds of write.
 const WRITE: usize = 2;
 const WRITE_NARROW: usize = 12;
-const WRITE_GROUPS: usize = 13;
+const WRITE_GROUPS: usize = 17;
 const WRITES: [usize; 3] = [WRITE, WRITE_NARROW, WRITE_GROUPS];
 
 /// Group sizes that are used most: some divide 64, with others the last group is
@@ -36,8 +48,11 @@ pub struct Style {
     pub wide: usize,
     /// Percent of arguments out of range.
     pub wild: usize,
-    /// How often each call of `CALL_NAMES` comes.
+    /// How often each call of `CALL_NAMES` comes. Those of the panel come by
+    /// `panel` alone.
     pub weights: [usize; CALLS],
+    /// Percent of turns that are accesses of the panel.
+    pub panel: usize,
     /// Percent of writes of several pages.
     pub long: usize,
     /// Percent of writes that leave no block free, or only one or two.
@@ -65,14 +80,14 @@ pub fn block_count(rng: &mut Rng) -> usize {
 fn style(rng: &mut Rng, block_count: usize) -> Style {
     let fond_files = rng.between(1, 3);
     let fond_pages = rng.between(1, 4);
-    // format create write read trunc delete make remove size free check-blocks check
-    // write-narrow write-groups
+    // format create write read trunc delete make remove size free check-blocks
+    // check write-narrow, the panel's four, write-groups
     let weights = rng.pick(&[
-        [1, 30, 80, 60, 80, 30, 110, 40, 15, 10, 5, 5, 70, 70],
-        [1, 40, 60, 40, 120, 50, 90, 40, 10, 10, 5, 5, 60, 40],
-        [2, 30, 50, 60, 60, 30, 200, 60, 20, 10, 5, 5, 50, 50],
-        [0, 60, 90, 20, 60, 70, 80, 20, 5, 5, 3, 3, 80, 80],
-        [0, 70, 50, 10, 100, 100, 120, 20, 5, 5, 3, 3, 50, 40],
+        [1, 30, 80, 60, 80, 30, 110, 40, 15, 10, 5, 5, 70, 0, 0, 0, 0, 70],
+        [1, 40, 60, 40, 120, 50, 90, 40, 10, 10, 5, 5, 60, 0, 0, 0, 0, 40],
+        [2, 30, 50, 60, 60, 30, 200, 60, 20, 10, 5, 5, 50, 0, 0, 0, 0, 50],
+        [0, 60, 90, 20, 60, 70, 80, 20, 5, 5, 3, 3, 80, 0, 0, 0, 0, 80],
+        [0, 70, 50, 10, 100, 100, 120, 20, 5, 5, 3, 3, 50, 0, 0, 0, 0, 40],
     ]);
     Style {
         block_count,
@@ -82,6 +97,7 @@ fn style(rng: &mut Rng, block_count: usize) -> Style {
         wide: rng.pick(&[0, 50, 80]),
         wild: rng.pick(&[0, 2, 5, 12]),
         weights,
+        panel: rng.pick(&[0, 5, 10, 20]),
         long: rng.pick(&[5, 20, 60]),
         filling: rng.pick(&[0, 0, 5, 20]),
     }
@@ -636,23 +652,29 @@ pub fn call(rng: &mut Rng, style: &Style, beside: &Beside) -> Call {
         left -= style.weights[index];
         index += 1;
     }
+    let index = possible(rng, beside, index);
+    call_of(rng, style, beside, index)
+}
+
+/// Mostly another kind of call, where this one says little.
+fn possible(rng: &mut Rng, beside: &Beside, index: usize) -> usize {
     // Without files most calls say little, so create one.
     let of_a_file = (2..=5).contains(&index) || WRITES.contains(&index);
     if of_a_file && changeable_files(beside).is_empty() && rng.percent(80) {
-        index = 1;
+        return CREATE;
     }
     // With every set used, make room for making more.
-    if index == 6 && used_sets(beside).len() == SETS && rng.percent(80) {
-        index = 7;
+    if index == MAKE && used_sets(beside).len() == SETS && rng.percent(80) {
+        return REMOVE;
     }
-    call_of(rng, style, beside, index)
+    index
 }
 
 /// A random call of the kind at this place in `CALL_NAMES`.
 pub fn call_of(rng: &mut Rng, style: &Style, beside: &Beside, index: usize) -> Call {
     match index {
         0 => Call::Format { pages_length: format_length(rng, style) },
-        1 => {
+        CREATE => {
             let (set, file) = (any_set(rng, style, beside), any_file(rng, style));
             Call::Create { set, file }
         }
@@ -660,11 +682,15 @@ pub fn call_of(rng: &mut Rng, style: &Style, beside: &Beside, index: usize) -> C
             let target = read_target(rng, style, beside);
             read_call(rng, style, beside, target)
         }
-        6 => make_call(rng, style, beside),
-        7 => remove_call(rng, style, beside),
+        MAKE => make_call(rng, style, beside),
+        REMOVE => remove_call(rng, style, beside),
         9 => Call::Free {},
         10 => Call::CheckBlocks {},
         11 => Call::Check {},
+        PANEL_RESET => Call::PanelReset {},
+        PANEL_READ => Call::PanelRead { offset: panel::any_offset(rng, style) },
+        PANEL_WRITE => panel::any_write(rng, style),
+        PANEL_LINE => Call::PanelLine {},
         _ if WRITES.contains(&index) && rng.percent(style.filling) => {
             let filling = filling_write(rng, beside, index);
             filling.unwrap_or_else(|| call_of_file(rng, style, beside, index))
@@ -675,7 +701,7 @@ pub fn call_of(rng: &mut Rng, style: &Style, beside: &Beside, index: usize) -> C
 
 /// A random call of this kind on a file that there is, mostly.
 fn call_of_file(rng: &mut Rng, style: &Style, beside: &Beside, index: usize) -> Call {
-    let drops = index == 4 || index == 5;
+    let drops = index == 4 || index == DELETE;
     let (set, file) = target(rng, style, beside, drops);
     let size = size_of(beside, set, file);
     let mut offset = place(rng, style, size);
@@ -805,8 +831,9 @@ fn file_call(
             let size = if rng.percent(30) { shorter(rng, size) } else { offset };
             Call::Truncate { set, file, size }
         }
-        5 => Call::Delete { set, file },
-        _ => Call::Size { set, file },
+        DELETE => Call::Delete { set, file },
+        8 => Call::Size { set, file },
+        _ => unreachable!("{} is no call of a file", CALL_NAMES[index]),
     }
 }
 

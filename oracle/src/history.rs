@@ -2,8 +2,10 @@
 
 use crate::bench::{Bench, Counts, Other};
 use crate::call::*;
-use crate::gen::{self, Start};
+use crate::gen::{self, panel, Start};
+use crate::judge::Beside;
 use crate::rng::Rng;
+use std::collections::VecDeque;
 
 /// A difference and the script that ends in it.
 pub struct Failure {
@@ -16,8 +18,9 @@ pub type Watch<'a> = &'a mut dyn FnMut(&Item);
 
 /// A random history of its own seed: format, perhaps calls that fill the store,
 /// make a family and drop its pages or write them by groups, or make a line and
-/// read through it, then `length` random calls. The counts are added to. Where the
-/// other implementation has only some of the calls, these come more often.
+/// read through it, then `length` turns: a random call, or accesses of the panel
+/// that belong together. The counts are added to. Where the other implementation
+/// has only some of the calls, these come more often.
 pub fn random_history(
     seed: u64,
     block_count: usize,
@@ -44,7 +47,34 @@ pub fn group_history(
     history(&mut rng, start, 10, other, counts, watch)
 }
 
-/// A history that begins in this way, and then so many random calls.
+/// A short history that begins with calls made through the panel.
+pub fn panel_history(
+    seed: u64,
+    other: &mut dyn Other,
+    counts: &mut Counts,
+    watch: Watch,
+) -> Result<(), Failure> {
+    let mut rng = Rng::new(seed);
+    let block_count = if rng.percent(20) { 64 } else { rng.between(1, 12) };
+    let start = panel::panel_start(&mut rng, block_count);
+    history(&mut rng, start, 10, other, counts, watch)
+}
+
+/// A short history in which a delete through the panel can make more than 255
+/// copies, so many blocks being free.
+pub fn many_copies_history(
+    seed: u64,
+    free: usize,
+    other: &mut dyn Other,
+    counts: &mut Counts,
+    watch: Watch,
+) -> Result<(), Failure> {
+    let mut rng = Rng::new(seed);
+    let start = panel::many_copies_start(&mut rng, free);
+    history(&mut rng, start, 5, other, counts, watch)
+}
+
+/// A history that begins in this way, and then so many turns.
 fn history(
     rng: &mut Rng,
     start: Start,
@@ -53,36 +83,50 @@ fn history(
     counts: &mut Counts,
     watch: Watch,
 ) -> Result<(), Failure> {
-    // Format is left out: it would end each history soon.
-    let others: Vec<usize> = (1..CALLS).filter(|index| other.has(*index)).collect();
-    let some_others = !others.is_empty() && others.len() < CALLS - 1 - ORACLE_ALONE.len();
     let mut bench = Bench::new();
     std::mem::swap(&mut bench.counts, counts);
     let mut script = Vec::new();
-    let mut first_calls = [start.calls, start.then].concat().into_iter();
+    let mut coming: VecDeque<Item> =
+        [start.calls, start.then].concat().into_iter().map(Item::Call).collect();
+    // Mostly the panel is reset before it is used; format stands first.
+    if rng.percent(85) {
+        coming.insert(1, Item::Call(Call::PanelReset {}));
+    }
     let mut outcome = Ok(());
-    for _ in 0..first_calls.len() + length {
-        let call = first_calls.next().unwrap_or_else(|| {
-            let beside = bench.beside.as_ref().expect("a history begins with format");
-            if some_others && rng.percent(40) {
-                let index = rng.pick(&others);
-                return gen::call_of(rng, &start.style, beside, index);
+    let mut turns = 0..length;
+    while outcome.is_ok() {
+        let Some(item) = coming.pop_front() else {
+            if turns.next().is_none() {
+                break;
             }
-            gen::call(rng, &start.style, beside)
-        });
-        let item = Item::Call(call);
+            let beside = bench.beside.as_ref().expect("a history begins with format");
+            coming.extend(turn(rng, &start.style, beside, other));
+            continue;
+        };
         watch(&item);
         script.push(item.clone());
-        if let Err(text) = bench.step(&item, other) {
-            outcome = Err(Failure { text, script });
-            break;
-        }
+        let done = bench.step(&item, other);
+        outcome = done.map(drop).map_err(|text| Failure { text, script: script.clone() });
     }
     std::mem::swap(&mut bench.counts, counts);
     outcome
 }
 
-/// A random history with a random store size and length.
+/// What comes next. Where the other implementation has only some of the calls,
+/// often one of these.
+fn turn(rng: &mut Rng, style: &gen::Style, beside: &Beside, other: &dyn Other) -> Vec<Item> {
+    // Format is left out: it would end each history soon.
+    let others: Vec<usize> = (1..CALLS).filter(|index| other.has(*index)).collect();
+    let some_others = !others.is_empty() && others.len() < CALLS - 1 - ORACLE_ALONE.len();
+    if some_others && rng.percent(40) {
+        let index = rng.pick(&others);
+        return panel::turn_of(rng, style, beside, index);
+    }
+    panel::turn(rng, style, beside)
+}
+
+/// A random history with a random store size and length. Now and then it begins
+/// with calls made through the panel, seldom with a delete of many copies.
 pub fn any_history(
     seed: u64,
     other: &mut dyn Other,
@@ -92,5 +136,12 @@ pub fn any_history(
     let mut rng = Rng::new(seed ^ 0x5EED);
     let block_count = gen::block_count(&mut rng);
     let length = rng.between(20, 160);
-    random_history(seed, block_count, length, other, counts, watch)
+    match rng.below(100) {
+        0 | 1 => {
+            let free = rng.pick(&panel::LEFT_FREE);
+            many_copies_history(seed, free, other, counts, watch)
+        }
+        2..=9 => panel_history(seed, other, counts, watch),
+        _ => random_history(seed, block_count, length, other, counts, watch),
+    }
 }

@@ -19,6 +19,11 @@ pub fn format_blocks(pages_length: usize) -> Option<usize> {
     (1..=MOST_BLOCKS).find(|count| count * PAGE_BYTES == pages_length)
 }
 
+/// Of a panel access, plain store and tally are fed the call that it runs, if
+/// any, in its place (see `panel_judge`): "Sequences through the panel count as
+/// the calls they run."
+const NOT_LISTED: &str = "a panel access is fed as the call that it runs";
+
 /// One line of the table of numbers: the number, and whether it applies.
 type Lines = Vec<(u32, bool)>;
 
@@ -69,6 +74,10 @@ impl Beside {
             }
             // They find nothing to refuse in well-formed tables.
             Call::Free {} | Call::CheckBlocks {} | Call::Check {} => vec![],
+            Call::PanelReset {}
+            | Call::PanelRead { .. }
+            | Call::PanelWrite { .. }
+            | Call::PanelLine {} => unreachable!("{NOT_LISTED}"),
         };
         lines.iter().filter(|line| line.1).map(|line| line.0).min().unwrap_or(0)
     }
@@ -134,8 +143,8 @@ impl Beside {
         self.tally.own_need_of_truncate(set, file, size) > self.tally.free
     }
 
-    /// Does the call on plain store and tally. Gives the answer they demand,
-    /// and the bytes that a read must give.
+    /// Does the call, which is no panel access, on plain store and tally. Gives the
+    /// answer they demand, and the bytes that a read must give.
     pub fn step(&mut self, call: &Call) -> (Answer, Vec<u8>) {
         let number = self.number(call);
         if number != 0 {
@@ -153,8 +162,8 @@ impl Beside {
                 self.tally.create(set as usize, file as usize);
                 [0, 0, 0]
             }
-            // Document 02: "A write now copies by aligned groups of eight unless the
-            // caller asks for a narrow one."
+            // Document 02: "A write now copies by aligned groups of eight unless
+            // the caller asks for a narrow one."
             Call::Write { set, file, offset, length, seed } => {
                 self.write(8, (set, file), offset, &data_bytes(length, seed))
             }
@@ -196,6 +205,10 @@ impl Beside {
             // "for plain store and tally it is just the listed calls that it
             // runs, if any": none.
             Call::CheckBlocks {} | Call::Check {} => [0, 0, 0],
+            Call::PanelReset {}
+            | Call::PanelRead { .. }
+            | Call::PanelWrite { .. }
+            | Call::PanelLine {} => unreachable!("{NOT_LISTED}"),
         };
         (Answer::accepted(counts), bytes)
     }

@@ -1,15 +1,16 @@
 //! A second implementation of the sweep store, written from document 01, Asks 1
-//! to 5 of document 02 and their readings (docs/DECISIONS.md) alone. Clarity
+//! to 6 of document 02 and their readings (docs/DECISIONS.md) alone. Clarity
 //! goes before speed: each call unpacks the tables to a plain state, does the
 //! paper's steps, and packs.
 //!
 //! The words are those of the documents: set, file, page, block, own, virgin,
 //! marked, hole, stored, unmapped, next start, needs, hand over, group, extra
-//! page.
+//! page, register, command, cause, mask, line.
 
 // The remainder is what document 01 speaks of.
 #![allow(clippy::manual_is_multiple_of)]
 
+pub mod accesses;
 pub mod agree;
 pub mod bench;
 pub mod bits;
@@ -22,6 +23,8 @@ pub mod judge;
 pub mod lent;
 pub mod maps;
 pub mod names;
+pub mod panel;
+pub mod panel_judge;
 pub mod plain;
 pub mod rng;
 pub mod rows;

@@ -1,12 +1,13 @@
 //! The program `oracle`: checks a table file, runs a session, shows the rows,
-//! and runs random histories against plain store and tally.
+//! and runs random histories against plain store and tally, and what the panel's
+//! registers must show.
 
 use oracle::bench::{report, Counts, NoOther};
 use oracle::call::*;
 use oracle::check::check_all;
 use oracle::history::any_history;
 use oracle::rng::Rng;
-use oracle::{bits, rows, session, writes};
+use oracle::{accesses, bits, rows, session, writes};
 use std::io::{Read, Write};
 use std::process::ExitCode;
 
@@ -19,7 +20,8 @@ usage:
                                    count x 512)
   oracle session                   the session program, from standard input to output
   oracle rows                      rows M1 to M12 and their results
-  oracle random SEED COUNT         COUNT random histories against plain store and tally
+  oracle random SEED COUNT         COUNT random histories against plain store and tally,
+                                   and what the panel's registers must show
   oracle help                      this text
 exit status: 0 well, 1 a broken table, row or history, 2 bad usage
 ";
@@ -124,4 +126,5 @@ fn show_counts(counts: &Counts) {
     println!("blocks handed over {} in {} calls", counts.handed_over, counts.handing_calls);
     println!("accepted reads compared {}", counts.reads_beside);
     writes::show("plain store and tally", &counts.writes_beside);
+    accesses::show("what is demanded", &counts.panel_judged);
 }

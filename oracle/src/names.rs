@@ -1,8 +1,10 @@
 //! The names of the calls, alone in a file: build.rs reads it too.
 
-/// In the order in which they came; a call is told from others by its place
-/// here. New ones stand at the end.
-pub const CALL_NAMES: [&str; 14] = [
+/// A call is told from others by its place here. First stand the calls that a
+/// library has a function for, in the order in which they came, so that none of
+/// them changes its place; a new one stands at their end. Those that the oracle
+/// does alone stand last.
+pub const CALL_NAMES: [&str; 18] = [
     "format",
     "create",
     "write",
@@ -16,6 +18,10 @@ pub const CALL_NAMES: [&str; 14] = [
     "check-blocks",
     "check",
     "write-narrow",
+    "panel-reset",
+    "panel-read",
+    "panel-write",
+    "panel-line",
     "write-groups",
 ];
 

@@ -5,12 +5,13 @@
 use crate::call::*;
 use crate::check::check_state;
 use crate::maps::*;
+use crate::panel;
 use crate::state::*;
 
 /// Three counts, or the number of a refusal.
-type Outcome = Result<[u32; 3], u32>;
+pub(crate) type Outcome = Result<[u32; 3], u32>;
 
-fn answer(outcome: Outcome) -> Answer {
+pub(crate) fn answer(outcome: Outcome) -> Answer {
     match outcome {
         Ok(counts) => Answer::accepted(counts),
         Err(number) => Answer::refused(number),
@@ -124,6 +125,10 @@ const DOES: [fn(&Numbers, Lent) -> Answer; CALLS] = [
     |_, lent| check_blocks(lent.tables),
     |_, lent| check(lent.tables, lent.pages),
     |n, lent| write_narrow(lent.tables, lent.pages, n[0], n[1], n[2], lent.bytes),
+    |_, lent| panel::reset(lent.registers),
+    |n, lent| panel::read(lent.registers, n[0]),
+    |n, lent| panel::write(lent.registers, lent.tables, lent.pages, n[0], n[1] as u8),
+    |_, lent| panel::line(lent.registers),
     |n, lent| write_groups(lent.tables, lent.pages, n[0] as usize, n[1], n[2], n[3], lent.bytes),
 ];
 
@@ -596,8 +601,8 @@ fn try_free(tables: &[u8], pages: &[u8]) -> Outcome {
 
 /// Document 02: "That first part accepts exactly the tables of right length that
 /// meet the rules on B, next start, kinds, blocks and bits, whatever else they
-/// hold". It is the only call but format that may be accepted on tables that are
-/// not well formed.
+/// hold". It is the only call but format, and those of the panel, that may be
+/// accepted on tables that are not well formed.
 fn try_check_blocks(tables: &[u8]) -> Outcome {
     if crate::check::check_blocks(tables).is_empty() {
         Ok([0, 0, 0])

@@ -1,6 +1,7 @@
 //! The calling of exports and the comparing of lent buffers, tried on a
-//! stand-in call with registers, a spare page, second tables, five numbers of
-//! two widths and bytes that it leaves free: what no call of document 01 has.
+//! stand-in call with a spare page, second tables, five numbers and bytes that it
+//! leaves free, which no call has yet, and with registers and numbers of two
+//! widths beside them.
 
 use oracle::call::Answer;
 use oracle::export;

@@ -4,7 +4,8 @@ use oracle::agree::{agree, read_off};
 use oracle::bench::{Bench, NoOther};
 use oracle::call::*;
 use oracle::check::{check_all, check_blocks, is_well_formed, rules_broken, Rule};
-use oracle::gen::{self, Made};
+use oracle::gen::{self, panel, Made};
+use oracle::panel_judge;
 use oracle::rng::Rng;
 use oracle::state::State;
 use std::collections::BTreeSet;
@@ -154,12 +155,14 @@ fn damages_by_hand() {
 
 /// The check is a sum of its rules for any bytes: it never fails to end, and
 /// damaged tables give 1 in every call but the first part of the check, which
-/// does not look at all of it.
+/// does not look at all of it, and the panel's, where a command gives 1 in register
+/// 1.
 #[test]
 fn any_bytes_are_judged() {
     println!("seed {SEED}");
     let mut rng = Rng::new(SEED ^ 1);
     let pool = pool(&mut rng, 20);
+    let mut commands = 0;
     for round in 0..600 {
         let made = rng.pick(&pool);
         let mut tables = made.tables.clone();
@@ -170,19 +173,28 @@ fn any_bytes_are_judged() {
         }
         let well_formed = is_well_formed(&tables, made.pages.len());
         let mut bench = Bench::with(tables, made.pages.clone());
-        for index in 1..CALLS {
-            let call = gen::call_of(&mut rng, &made.style, &made.beside, index);
+        let turn_of = |index| panel::turn_of(&mut rng, &made.style, &made.beside, index);
+        for item in (1..CALLS).flat_map(turn_of) {
+            let Item::Call(call) = item else { unreachable!() };
+            let command = panel_judge::call_run(&call, bench.registers());
             let answer = bench.call(&call, &mut NoOther).unwrap();
-            if call == (Call::CheckBlocks {}) {
+            if call.is_of_panel() {
+                assert_eq!(answer.number, panel_judge::number(&call, 16));
+                if command.is_some() && !well_formed {
+                    assert_eq!(bench.registers()[1], 1);
+                    commands += 1;
+                }
+            } else if call == (Call::CheckBlocks {}) {
                 let number = u32::from(!check_blocks(bench.tables()).is_empty());
                 assert_eq!(answer, Answer::refused(number));
             } else if !well_formed {
                 assert_eq!(answer, Answer::refused(1));
-            } else if bench.counts.numbers[0] != 0 {
+            } else if answer.number == 0 {
                 break;
             }
         }
     }
+    assert!(commands > 500, "{commands} commands on damaged tables");
 }
 
 #[test]

@@ -65,6 +65,10 @@ mod sweep {
         sweep_check_blocks(look tables);
         sweep_check(look tables, look pages);
         sweep_write_narrow(change tables, change pages, u32 0, u32 1, u32 2, look bytes);
+        sweep_panel_reset(change registers);
+        sweep_panel_read(look registers, u32 0);
+        sweep_panel_write(change registers, change tables, change pages, u32 0, u8 1);
+        sweep_panel_line(look registers);
         sweep_write_groups;
     }
 
@@ -91,12 +95,14 @@ mod sweep {
 mod linked {
     use super::sweep::{linked, Sweep};
     use super::ExitCode;
+    use oracle::accesses;
     use oracle::agree::read_off;
-    use oracle::bench::{replay, report, Bench, Counts};
+    use oracle::bench::{replay, report, Bench, Counts, Other};
     use oracle::call::*;
     use oracle::check::{rules_broken, Rule};
-    use oracle::gen::{self, Made, Style};
-    use oracle::history::{any_history, group_history, Failure};
+    use oracle::gen::{self, panel, Made, Style};
+    use oracle::history::{any_history, group_history, many_copies_history, panel_history};
+    use oracle::history::{Failure, Watch};
     use oracle::judge::Beside;
     use oracle::rng::Rng;
     use oracle::state::State;
@@ -121,6 +127,7 @@ exit status: 0 no difference, 1 a difference, 2 bad usage
     const ALONE_OF_EACH_RULE: usize = 10;
     const SCATTERED: usize = 200;
     const GROUP_HISTORIES: usize = 100;
+    const PANEL_HISTORIES: usize = 100;
     const STATES: usize = 60;
     const LENGTH_ROUNDS: usize = 15;
 
@@ -202,6 +209,8 @@ exit status: 0 no difference, 1 a difference, 2 bad usage
             states: Vec::new(),
             histories: 0,
             group_histories: 0,
+            panel_histories: 0,
+            many_copies: 0,
             twists: 0,
             by_first_part: [0; 2],
             trace: Trace(file),
@@ -225,6 +234,9 @@ exit status: 0 no difference, 1 a difference, 2 bad usage
         states: Vec<Made>,
         histories: u64,
         group_histories: u64,
+        panel_histories: u64,
+        /// Histories in which a panel command can make more than 255 copies.
+        many_copies: u64,
         twists: u64,
         /// Damaged tables that the first part of the check accepts, and those
         /// that it refuses.
@@ -233,13 +245,31 @@ exit status: 0 no difference, 1 a difference, 2 bad usage
     }
 
     type Outcome = Result<(), Failure>;
+    /// A kind of random history.
+    type History<'a> = &'a dyn Fn(u64, &mut dyn Other, &mut Counts, Watch) -> Outcome;
 
     impl Run {
         fn all(&mut self, time: Duration) -> Outcome {
             let start = Instant::now();
             self.states = (0..STATES).map(|_| gen::made(&mut self.rng)).collect();
+            self.always()?;
+            while self.histories < 20 || start.elapsed() < time {
+                self.round()?;
+            }
+            Ok(())
+        }
+
+        /// What is done however few the seconds are.
+        fn always(&mut self) -> Outcome {
             for _ in 0..LENGTH_ROUNDS {
                 self.wrong_lengths()?;
+                self.wrong_registers()?;
+            }
+            for _ in 0..PANEL_HISTORIES {
+                self.panel_history()?;
+            }
+            for free in panel::LEFT_FREE {
+                self.many_copies_history(free)?;
             }
             for rule in Rule::ALL {
                 while self.damages_of(*rule) < DAMAGES_OF_EACH_RULE {
@@ -257,20 +287,27 @@ exit status: 0 no difference, 1 a difference, 2 bad usage
             for _ in 0..GROUP_HISTORIES {
                 self.group_history()?;
             }
-            while self.histories < 20 || start.elapsed() < time {
-                self.history()?;
-                self.group_history()?;
-                for _ in 0..5 {
-                    self.damaged(None)?;
-                    self.twisted()?;
-                    self.scattered()?;
-                }
-                let rule = self.rng.pick(Rule::ALL);
-                self.broken_alone(rule)?;
-                if self.rng.percent(10) {
-                    self.new_state();
-                    self.wrong_lengths()?;
-                }
+            Ok(())
+        }
+
+        /// Some more of everything.
+        fn round(&mut self) -> Outcome {
+            self.history()?;
+            self.group_history()?;
+            self.panel_history()?;
+            for _ in 0..5 {
+                self.damaged(None)?;
+                self.twisted()?;
+                self.scattered()?;
+            }
+            let rule = self.rng.pick(Rule::ALL);
+            self.broken_alone(rule)?;
+            if self.rng.percent(10) {
+                self.new_state();
+                self.wrong_lengths()?;
+                self.wrong_registers()?;
+                let free = self.rng.pick(&panel::LEFT_FREE);
+                self.many_copies_history(free)?;
             }
             Ok(())
         }
@@ -286,20 +323,34 @@ exit status: 0 no difference, 1 a difference, 2 bad usage
 
         /// (a) A whole random history.
         fn history(&mut self) -> Outcome {
-            let seed = self.rng.word();
             self.histories += 1;
-            self.trace.restart();
-            let trace = &mut self.trace;
-            any_history(seed, &mut Sweep, &mut self.counts, &mut |item| trace.line(item))
+            self.one_history(&any_history)
         }
 
         /// A short history with a family for writes by groups.
         fn group_history(&mut self) -> Outcome {
-            let seed = self.rng.word();
             self.group_histories += 1;
+            self.one_history(&group_history)
+        }
+
+        /// A short history with calls made through the panel.
+        fn panel_history(&mut self) -> Outcome {
+            self.panel_histories += 1;
+            self.one_history(&panel_history)
+        }
+
+        fn many_copies_history(&mut self, free: usize) -> Outcome {
+            self.many_copies += 1;
+            self.one_history(&|seed, other, counts, watch| {
+                many_copies_history(seed, free, other, counts, watch)
+            })
+        }
+
+        fn one_history(&mut self, history: History) -> Outcome {
+            let seed = self.rng.word();
             self.trace.restart();
             let trace = &mut self.trace;
-            group_history(seed, &mut Sweep, &mut self.counts, &mut |item| trace.line(item))
+            history(seed, &mut Sweep, &mut self.counts, &mut |item| trace.line(item))
         }
 
         /// (b) Damaged tables: every linked call on them.
@@ -326,11 +377,10 @@ exit status: 0 no difference, 1 a difference, 2 bad usage
             // A block count out of range, but as many pages.
             if rule == Some(Rule::BlockCount) && self.rng.percent(50) {
                 let length = State::unpack(bench.tables()).block_count * PAGE_BYTES;
-                let item = Item::Length { buffer: Buffer::Pages, length };
-                self.do_item(&mut bench, &mut script, item)?;
+                self.do_item(&mut bench, &mut script, length_of(Buffer::Pages, length))?;
             }
-            let calls = self.calls(&made.style, &made.beside);
-            self.calls_on(bench, script, calls)
+            let items = self.each_call(&made.style, &made.beside);
+            self.items_on(bench, script, items)
         }
 
         fn count_damage(&mut self, tables: &[u8], pages_length: usize) {
@@ -349,8 +399,8 @@ exit status: 0 no difference, 1 a difference, 2 bad usage
             let broke = gen::break_alone(&mut self.rng, rule);
             self.count_damage(&broke.tables, broke.pages.len());
             let script = script_to(&broke.made, &broke.tables, &broke.pages);
-            let calls = self.calls(&broke.made.style, &broke.made.beside);
-            self.calls_on(Bench::with(broke.tables, broke.pages), script, calls)
+            let items = self.each_call(&broke.made.style, &broke.made.beside);
+            self.items_on(Bench::with(broke.tables, broke.pages), script, items)
         }
 
         /// Entries in any records, and what the first part of the check does
@@ -361,8 +411,8 @@ exit status: 0 no difference, 1 a difference, 2 bad usage
             gen::scatter(&mut self.rng, &mut tables);
             self.count_damage(&tables, made.pages.len());
             let script = script_to(&made, &tables, &made.pages);
-            let calls = self.calls(&made.style, &made.beside);
-            self.calls_on(Bench::with(tables, made.pages), script, calls)
+            let items = self.each_call(&made.style, &made.beside);
+            self.items_on(Bench::with(tables, made.pages), script, items)
         }
 
         /// Well-formed stores that no history need reach: some linked calls on
@@ -374,22 +424,37 @@ exit status: 0 no difference, 1 a difference, 2 bad usage
             self.twists += 1;
             let script = script_to(&made, &tables, &pages);
             let beside = read_off(&State::unpack(&tables), &pages);
-            let mut calls = Vec::new();
+            let mut turns = Vec::new();
             for _ in 0..3 {
-                calls.extend(self.calls(&made.style, &beside));
-                calls.retain(|call| !matches!(call, Call::Format { .. }));
+                turns.extend(self.turns(&made.style, &beside));
             }
-            self.rng.shuffle(&mut calls);
-            self.calls_on(Bench::with(tables, pages), script, calls)
+            self.rng.shuffle(&mut turns);
+            self.items_on(Bench::with(tables, pages), script, turns.concat())
         }
 
-        /// One call of each linked kind, format last, with numbers in range
-        /// and out of it.
-        fn calls(&mut self, style: &Style, beside: &Beside) -> Vec<Call> {
+        /// A turn of each linked kind but format, in any order, with numbers in
+        /// range and out of it. Panel accesses sometimes find any bytes in the
+        /// registers.
+        fn turns(&mut self, style: &Style, beside: &Beside) -> Vec<Vec<Item>> {
             let mut style = style.clone();
             style.wild = self.rng.pick(&[0, 0, 10, 50, 100]);
-            let indices = (1..CALLS).chain([0]).filter(|index| linked(*index));
-            indices.map(|index| gen::call_of(&mut self.rng, &style, beside, index)).collect()
+            let indices = (1..CALLS).filter(|index| linked(*index));
+            let turn_of = |index| panel::turn_of(&mut self.rng, &style, beside, index);
+            let mut turns: Vec<Vec<Item>> = indices.map(turn_of).collect();
+            if self.rng.percent(30) {
+                turns.push(panel::any_registers(&mut self.rng));
+            }
+            self.rng.shuffle(&mut turns);
+            turns
+        }
+
+        /// Such turns one after the other, and a format last.
+        fn each_call(&mut self, style: &Style, beside: &Beside) -> Vec<Item> {
+            let mut items = self.turns(style, beside).concat();
+            if linked(0) {
+                items.extend(panel::turn_of(&mut self.rng, style, beside, 0));
+            }
+            items
         }
 
         /// (c) Wrong lengths of tables and pages, and the largest numbers.
@@ -408,32 +473,66 @@ exit status: 0 no difference, 1 a difference, 2 bad usage
                 let lengths = [(Buffer::Tables, tables_length), (Buffer::Pages, pages_length)];
                 for (buffer, length) in lengths {
                     if (tables_length, pages_length) != (TABLES_BYTES, right) {
-                        let item = Item::Length { buffer, length };
-                        self.do_item(&mut bench, &mut script, item)?;
+                        self.do_item(&mut bench, &mut script, length_of(buffer, length))?;
                     }
                 }
-                let mut calls = self.calls(&made.style, &made.beside);
-                calls.extend(self.calls(&made.style, &made.beside));
+                let mut items = self.each_call(&made.style, &made.beside);
+                items.extend(self.each_call(&made.style, &made.beside));
                 if linked(0) {
-                    calls.push(Call::Format { pages_length });
+                    items.push(Item::Call(Call::Format { pages_length }));
                 }
-                self.calls_on(bench, script, calls)?;
+                self.items_on(bench, script, items)?;
             }
             Ok(())
         }
 
-        fn calls_on(
+        /// Wrong lengths of registers and offsets that no register has, on tables
+        /// of right and of wrong length: every linked call of the panel.
+        fn wrong_registers(&mut self) -> Outcome {
+            let made = self.rng.pick(&self.states);
+            for registers_length in panel::WRONG_LENGTHS.into_iter().chain([16]) {
+                let script: Vec<Item> = made.calls.iter().cloned().map(Item::Call).collect();
+                let mut bench = Bench::with(made.tables.clone(), made.pages.clone());
+                bench.beside = Some(made.beside.clone());
+                let mut items = vec![length_of(Buffer::Registers, registers_length)];
+                for tables_length in [TABLES_BYTES, TABLES_BYTES - 1] {
+                    items.push(length_of(Buffer::Tables, tables_length));
+                    for offset in panel::WRONG_OFFSETS.into_iter().chain([0, 15]) {
+                        items.extend(self.panel_calls(offset));
+                    }
+                }
+                self.items_on(bench, script, items)?;
+            }
+            Ok(())
+        }
+
+        /// A call of each linked kind of the panel's, those with an offset at this
+        /// one.
+        fn panel_calls(&mut self, offset: u32) -> Vec<Item> {
+            let value = self.rng.pick(&[1, 4, 5, 6, 7, 0x11, 0xFF]);
+            let mut calls = vec![
+                Call::PanelWrite { offset, value },
+                Call::PanelRead { offset },
+                Call::PanelLine {},
+                Call::PanelReset {},
+            ];
+            self.rng.shuffle(&mut calls);
+            calls.retain(|call| linked(call.index()));
+            calls.into_iter().map(Item::Call).collect()
+        }
+
+        fn items_on(
             &mut self,
             mut bench: Bench,
             mut script: Vec<Item>,
-            calls: Vec<Call>,
+            items: Vec<Item>,
         ) -> Outcome {
             self.trace.restart();
             for item in &script {
                 self.trace.line(item);
             }
-            for call in calls {
-                self.do_item(&mut bench, &mut script, Item::Call(call))?;
+            for item in items {
+                self.do_item(&mut bench, &mut script, item)?;
             }
             Ok(())
         }
@@ -453,8 +552,9 @@ exit status: 0 no difference, 1 a difference, 2 bad usage
         fn show(&self) {
             let counts = &self.counts;
             println!(
-                "histories {}, short ones with writes by groups {}",
-                self.histories, self.group_histories
+                "histories {}, short ones with writes by groups {}, through the panel {}, \
+                with many copies {}",
+                self.histories, self.group_histories, self.panel_histories, self.many_copies
             );
             println!("well-formed stores changed by hand {}", self.twists);
             for (index, name) in CALL_NAMES.iter().enumerate() {
@@ -478,7 +578,12 @@ exit status: 0 no difference, 1 a difference, 2 bad usage
             println!("accepted reads compared with plain store and tally {}", counts.reads_beside);
             writes::show("the library", &counts.writes_linked);
             writes::show("plain store and tally", &counts.writes_beside);
+            accesses::show("the library", &counts.panel_linked);
         }
+    }
+
+    fn length_of(buffer: Buffer, length: usize) -> Item {
+        Item::Length { buffer, length }
     }
 
     /// The calls that made a store, and the lines that then make another of it.
@@ -493,7 +598,7 @@ exit status: 0 no difference, 1 a difference, 2 bad usage
     fn pokes(buffer: Buffer, before: &[u8], after: &[u8]) -> Vec<Item> {
         let mut items = Vec::new();
         if before.len() != after.len() {
-            items.push(Item::Length { buffer, length: after.len() });
+            items.push(length_of(buffer, after.len()));
         }
         for (at, value) in after.iter().enumerate() {
             if before.get(at).copied().unwrap_or(0) != *value {
