@@ -1,20 +1,21 @@
 /*
  * The sweep store: sets of files in a small block store, copied by sharing blocks (copy on write).
  *
- * The caller lends two buffers to each call (sweep_check_blocks wants the first alone), and the store keeps nothing between
- * calls:
+ * The caller lends two buffers to each call on the store (sweep_check_blocks wants the first alone), and the store keeps nothing
+ * between calls:
  *   tables  SWEEP_TABLES_BYTES bytes: header, bitmap, set records, file records;
  *   pages   the blocks, SWEEP_PAGE_BYTES bytes each, at least one and at most SWEEP_BLOCKS_MAX.
+ * The calls of the front panel are lent a third, its registers, SWEEP_PANEL_REGISTERS bytes; three of the four want it alone.
  * sweep_format makes a store of as many blocks as the pages buffer holds; every later call wants the same length.
  *
  * Rules for callers
  *   - A slice is a pointer and its length in bytes; that many bytes must be there. A pointer must not be null, also where
  *     the length is 0.
- *   - The buffers of one call (tables, pages, data or read buffer) do not overlap.
+ *   - The buffers of one call (tables, pages, data or read buffer, registers) do not overlap.
  *   - While a call runs nobody else writes to its buffers, and nobody else reads those that it may change (the ones
  *     without const).
  *   - Nothing else is asked: the buffers may hold any bytes and the numbers may be any. Each call tests for itself what it
- *     was given. A call that is refused gives one of the numbers 1 to 12 and zero counts, and every byte stays as it was.
+ *     was given. A call that is refused gives one of the numbers 1 to 13 and zero counts, and every byte stays as it was.
  */
 #ifndef SWEEP_H
 #define SWEEP_H
@@ -43,6 +44,7 @@ extern "C" {
 #define SWEEP_FILE_BYTES_MAX 32768u /* bytes of a file */
 #define SWEEP_GROUP_PAGES 8u        /* pages of a group, by which sweep_write copies: 0 to 7, 8 to 15, ... */
 #define SWEEP_LEVEL_MAX 5u          /* level of a set: the root has 0, a copy its parent's plus one */
+#define SWEEP_PANEL_REGISTERS 16u   /* registers of the front panel, a byte each, at offsets 0 to 15 */
 
 /* The number that a call gives: the lowest that applies */
 enum sweep_number {
@@ -58,7 +60,8 @@ enum sweep_number {
     SWEEP_PRESENT = 9,      /* create of a present file; make under a used number */
     SWEEP_TOO_DEEP = 10,    /* make from a set of level SWEEP_LEVEL_MAX */
     SWEEP_HAS_CHILDREN = 11, /* remove of a set with children */
-    SWEEP_ROOT = 12         /* remove of set 0 */
+    SWEEP_ROOT = 12,        /* remove of set 0 */
+    SWEEP_NO_REGISTER = 13  /* front panel: an offset over 15, or registers of another length; before all others */
 };
 
 /* What every call gives: a number of enum sweep_number, and three counts, all 0 unless the call says otherwise */
@@ -125,16 +128,63 @@ sweep_answer sweep_size(const uint8_t *tables, size_t tables_length, const uint8
 /* Counts: the free blocks, 0, 0. */
 sweep_answer sweep_free(const uint8_t *tables, size_t tables_length, const uint8_t *pages, size_t pages_length);
 
-/* The first part of the check that every other call but format begins with, on the tables alone. SWEEP_OK: their length is right;
- * the block count is 1 to SWEEP_BLOCKS_MAX and next start below it; no entry of any file record, used or not, has kind 3, or a
- * block unless it is stored; a bit of the bitmap is 1 exactly when one stored entry names its block; no block is named twice, or
- * is at or over the block count. Else SWEEP_BAD_TABLES. Nothing else counts: zero fields, set records, states and sizes may be
- * wrong, so SWEEP_OK does not say that the store can be used. sweep_check says that. */
+/* The first part of the check that every other call on the store but format begins with, a command of the front panel too, on the
+ * tables alone. SWEEP_OK: their length is right; the block count is 1 to SWEEP_BLOCKS_MAX and next start below it; no entry of any
+ * file record, used or not, has kind 3, or a block unless it is stored; a bit of the bitmap is 1 exactly when one stored entry
+ * names its block; no block is named twice, or is at or over the block count. Else SWEEP_BAD_TABLES. Nothing else counts: zero
+ * fields, set records, states and sizes may be wrong, so SWEEP_OK does not say that the store can be used. sweep_check says that. */
 sweep_answer sweep_check_blocks(const uint8_t *tables, size_t tables_length);
 
 /* The whole check: SWEEP_OK where the tables are well formed and the pages have the length that the tables tell; else
  * SWEEP_BAD_TABLES. What the pages hold does not matter. */
 sweep_answer sweep_check(const uint8_t *tables, size_t tables_length, const uint8_t *pages, size_t pages_length);
+
+/* THE FRONT PANEL: sixteen byte-wide registers, which the caller keeps and lends. Only the four calls below write them from a reset
+ * on. The register at each offset, and whether a write changes it: */
+enum sweep_panel_register {
+    SWEEP_PANEL_COMMAND = 0, /* a value written is run, not kept (enum sweep_panel_command); reads as 0 */
+    SWEEP_PANEL_NUMBER = 1,  /* the number that the last command run gave (enum sweep_number); ignores writes */
+    SWEEP_PANEL_CAUSE = 2,   /* bits of enum sweep_panel_cause; writing ones clears those bits */
+    SWEEP_PANEL_MASK = 3,    /* which bits of the cause raise the line; writable */
+    SWEEP_PANEL_SET = 4,     /* the set, of a making the parent; writable */
+    SWEEP_PANEL_FILE = 5,    /* the file; writable */
+    SWEEP_PANEL_OTHER = 6,   /* the set that is made; writable */
+    SWEEP_PANEL_FIRST = 7,   /* the last command's three counts, 255 where one is over 255; ignore writes */
+    SWEEP_PANEL_SECOND = 8,
+    SWEEP_PANEL_THIRD = 9    /* 10 to 15 are 0 from a reset on and ignore writes */
+};
+
+/* What a value written to SWEEP_PANEL_COMMAND runs, and the registers that it takes its numbers from. It ignores the others.
+ * Any other value runs nothing and adds SWEEP_PANEL_REFUSED to the cause. */
+enum sweep_panel_command {
+    SWEEP_PANEL_CREATE = 1,         /* sweep_create: set, file */
+    SWEEP_PANEL_DELETE = 4,         /* sweep_delete: set, file */
+    SWEEP_PANEL_MAKE_READ_ONLY = 5, /* sweep_make: set, other */
+    SWEEP_PANEL_MAKE_WRITEABLE = 6, /* sweep_make: set, other */
+    SWEEP_PANEL_REMOVE = 7          /* sweep_remove: set */
+};
+
+/* What a command adds to the cause. */
+enum sweep_panel_cause {
+    SWEEP_PANEL_ACCEPTED = 1, /* it was accepted */
+    SWEEP_PANEL_REFUSED = 2,  /* it was refused, or the value was no command */
+    SWEEP_PANEL_MARKED = 4    /* its third count is not 0: files were marked out of sync */
+};
+
+/* Sets every register to 0, whatever it held. */
+sweep_answer sweep_panel_reset(uint8_t *registers, size_t registers_length);
+
+/* Counts: the value of the register, 0, 0. */
+sweep_answer sweep_panel_read(const uint8_t *registers, size_t registers_length, uint32_t offset);
+
+/* Writes a register. Only a command looks at tables and pages, and only one that is accepted changes them. Gives SWEEP_OK and zero
+ * counts at every offset up to 15, also where the command is refused or the value is none: what a command gave is in the registers
+ * 1, 2 and 7 to 9. */
+sweep_answer sweep_panel_write(uint8_t *registers, size_t registers_length, uint8_t *tables, size_t tables_length,
+                               uint8_t *pages, size_t pages_length, uint32_t offset, uint8_t value);
+
+/* The interrupt line. Counts: 1 where cause and mask share a one, else 0; 0; 0. */
+sweep_answer sweep_panel_line(const uint8_t *registers, size_t registers_length);
 
 #ifdef __cplusplus
 }

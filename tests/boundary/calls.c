@@ -27,6 +27,10 @@ RUN(free, sweep_free(STORE))
 RUN(check_blocks, sweep_check_blocks(SLICE(TABLES)))
 RUN(check, sweep_check(STORE))
 RUN(write_narrow, sweep_write_narrow(STORE, N(0), N(1), N(2), SLICE(BYTES)))
+RUN(panel_reset, sweep_panel_reset(SLICE(REGISTERS)))
+RUN(panel_read, sweep_panel_read(SLICE(REGISTERS), N(0)))
+RUN(panel_write, sweep_panel_write(SLICE(REGISTERS), STORE, N(0), (uint8_t)N(1)))
+RUN(panel_line, sweep_panel_line(SLICE(REGISTERS)))
 
 /* The rows */
 
@@ -35,6 +39,7 @@ RUN(write_narrow, sweep_write_narrow(STORE, N(0), N(1), N(2), SLICE(BYTES)))
 #define SET {32, used_set}
 #define A_FILE {32, present_file}
 #define A_PLACE {32, place_in_file}
+#define A_REGISTER {32, panel_offset}
 
 static const struct function functions[CALLS] = {
     [FORMAT] = {.name = "format", .run = run_format, .lends = {STORE_CHANGED}, .prepare = pages_for_format},
@@ -54,9 +59,20 @@ static const struct function functions[CALLS] = {
     [CHECK] = {.name = "check", .run = run_check, .lends = {STORE_READ}},
     [WRITE_NARROW] = {.name = "write_narrow", .run = run_write_narrow, .lends = {STORE_CHANGED, [BYTES] = READ_ONLY},
                       .numbers = {SET, A_FILE, A_PLACE}, .copies = 1, .prepare = data_to_write},
+    [PANEL_RESET] = {.name = "panel_reset", .run = run_panel_reset, .lends = {[REGISTERS] = CHANGED}, .unchecked = 1},
+    [PANEL_READ] = {.name = "panel_read", .run = run_panel_read, .lends = {[REGISTERS] = READ_ONLY}, .numbers = {A_REGISTER},
+                    .unchecked = 1},
+    [PANEL_WRITE] = {.name = "panel_write", .run = run_panel_write, .lends = {STORE_CHANGED, [REGISTERS] = CHANGED},
+                     .numbers = {A_REGISTER, {8, panel_value}}, .unchecked = 1},
+    [PANEL_LINE] = {.name = "panel_line", .run = run_panel_line, .lends = {[REGISTERS] = READ_ONLY}, .unchecked = 1},
 };
 
 struct suite exported = {functions, CALLS, judge, {{{0}}, 0, 0}};
+
+int is_command(uint32_t value)
+{
+    return value == SWEEP_PANEL_CREATE || (value >= SWEEP_PANEL_DELETE && value <= SWEEP_PANEL_REMOVE);
+}
 
 sweep_answer call_plainly(const struct call *call)
 {

@@ -93,6 +93,48 @@ uint32_t yes_or_no(const struct buffers *world, const struct call *so_far, struc
     return next(cursor) % 3 * 0x7FFFFFFFu;
 }
 
+/* Mostly a register that a write can change; sometimes any, sometimes one that is not there. */
+uint32_t panel_offset(const struct buffers *world, const struct call *so_far, struct cursor *cursor)
+{
+    static const uint32_t out_of_range[] = {16, 17, 255, 256, 0x80000000, 0xFFFFFFFF};
+    static const uint32_t often[] = {0, 2, 3, 4, 5, 6};
+    (void)world;
+    (void)so_far;
+    uint8_t byte = next(cursor);
+    if (byte >= 248)
+        return PICK(out_of_range, byte);
+    return byte < 144 ? PICK(often, byte) : byte % SWEEP_PANEL_REGISTERS;
+}
+
+/* The commands, makings more often. */
+static const uint32_t commands[] = {SWEEP_PANEL_CREATE,         SWEEP_PANEL_DELETE,         SWEEP_PANEL_MAKE_READ_ONLY,
+                                    SWEEP_PANEL_MAKE_WRITEABLE, SWEEP_PANEL_MAKE_WRITEABLE, SWEEP_PANEL_REMOVE};
+
+/* Mostly a value that the register is for; the command's offset also gets values that are no command. Sometimes any byte. */
+uint32_t panel_value(const struct buffers *world, const struct call *so_far, struct cursor *cursor)
+{
+    static const uint32_t no_commands[] = {0, 2, 3, 8, 0x11, 0x41, 255};
+    static const uint32_t bits[] = {0, 1, 2, 3, 4, 5, 6, 7, 0xF8, 0xFF};
+    uint8_t byte = next(cursor);
+    if (byte >= 224)
+        return next(cursor);
+    switch (so_far->n[0]) {
+    case SWEEP_PANEL_COMMAND:
+        return byte < 176 ? PICK(commands, byte) : PICK(no_commands, byte);
+    case SWEEP_PANEL_CAUSE:
+    case SWEEP_PANEL_MASK:
+        return PICK(bits, byte);
+    case SWEEP_PANEL_SET:
+        return some_set(world, cursor, 1);
+    case SWEEP_PANEL_FILE:
+        return byte % 3;
+    case SWEEP_PANEL_OTHER:
+        return some_set(world, cursor, 0);
+    default:
+        return byte;
+    }
+}
+
 /* Buffers */
 
 static size_t some_length(struct cursor *cursor)
@@ -177,6 +219,23 @@ static void choose_lengths(struct buffers *world, struct cursor *cursor)
         *length = ROOM_BYTES;
 }
 
+/* Puts bytes into one register or into all, also such as no reset and no write leaves there. */
+static void change_registers(struct buffers *world, struct cursor *cursor)
+{
+    uint8_t byte = next(cursor);
+    if (byte < 128)
+        world->of[REGISTERS][byte % SWEEP_PANEL_REGISTERS] = next(cursor);
+    else
+        fill(world->of[REGISTERS], SWEEP_PANEL_REGISTERS, byte);
+}
+
+/* Gives the registers a length that is not theirs. */
+static void choose_registers(struct buffers *world, struct cursor *cursor)
+{
+    static const uint32_t lengths[] = {0, 1, 15, 17, 32};
+    world->length[REGISTERS] = PICK(lengths, next(cursor));
+}
+
 typedef void changes(struct buffers *world, struct cursor *cursor);
 
 /* Lists */
@@ -186,14 +245,16 @@ typedef void changes(struct buffers *world, struct cursor *cursor);
  * meaning. */
 struct kind {
     unsigned slots;
-    unsigned name;   /* of a call */
+    unsigned name;   /* of a call, or COMMAND */
     changes *change; /* or 0 */
 };
+enum { COMMAND = CALLS }; /* a command of the front panel, with the registers that it takes */
 static const struct kind kinds[] = {
     {36, WRITE_NARROW, 0}, {12, CREATE, 0}, {16, MAKE, 0},         {8, DELETE, 0},         {16, TRUNCATE, 0},
     {8, REMOVE, 0}, {12, READ, 0},         {4, SIZE, 0},          {4, FREE, 0},           {5, 0, damage_tables},
     {4, 0, change_a_page}, {2, 0, choose_lengths}, {1, FORMAT, 0},        {4, CHECK_BLOCKS, 0},   {4, CHECK, 0},
-    {36, WRITE, 0},
+    {36, WRITE, 0}, {10, PANEL_WRITE, 0}, {4, PANEL_READ, 0}, {3, PANEL_LINE, 0}, {1, PANEL_RESET, 0},
+    {16, COMMAND, 0}, {2, 0, change_registers}, {1, 0, choose_registers},
 };
 enum { KINDS = sizeof kinds / sizeof *kinds };
 
@@ -208,6 +269,15 @@ static const struct kind *some_kind(struct cursor *cursor)
     return &kinds[kind];
 }
 
+/* Does a call. After a 13 the registers have their length again. */
+static sweep_answer try_call(struct buffers *world, const struct call *call, caller how, unsigned turn)
+{
+    sweep_answer answer = do_call(&exported, how, world, call, turn);
+    if (answer.number == SWEEP_NO_REGISTER)
+        world->length[REGISTERS] = SWEEP_PANEL_REGISTERS;
+    return answer;
+}
+
 /* Chooses a call's numbers and buffers, and does it. */
 static sweep_answer one_call(struct buffers *world, unsigned name, struct cursor *cursor, caller how, unsigned turn)
 {
@@ -217,19 +287,35 @@ static sweep_answer one_call(struct buffers *world, unsigned name, struct cursor
         call.n[i] = function->numbers[i].choose(world, &call, cursor);
     if (function->prepare)
         function->prepare(world, &call, cursor);
-    return do_call(&exported, how, world, &call, turn);
+    return try_call(world, &call, how, turn);
 }
 
-/* A format of 1 to 80 blocks, then set 0 gets file 0. */
+/* A command of the front panel that can be accepted: its set, file and other are written to their registers before it. */
+static void one_command(struct buffers *world, struct cursor *cursor, caller how, unsigned turn)
+{
+    uint32_t command = PICK(commands, next(cursor)), set = some_set(world, cursor, 1);
+    uint32_t file = some_file(world, cursor, set, command != SWEEP_PANEL_CREATE), other = some_set(world, cursor, 0);
+    const uint32_t writes[][2] = {{SWEEP_PANEL_SET, set}, {SWEEP_PANEL_FILE, file}, {SWEEP_PANEL_OTHER, other},
+                                  {SWEEP_PANEL_COMMAND, command}};
+    for (int i = 0; i < 4; i++) {
+        const struct call call = {PANEL_WRITE, {writes[i][0], writes[i][1]}, {{0, 0}}};
+        try_call(world, &call, how, turn);
+    }
+}
+
+/* A format of 1 to 80 blocks, then set 0 gets file 0; and a reset of registers that hold any bytes. */
 static void begin(struct buffers *world, struct cursor *cursor, caller how)
 {
-    const struct call format = {FORMAT, {0}, {{0, 0}}}, create = {CREATE, {0}, {{0, 0}}};
+    const struct call format = {FORMAT, {0}, {{0, 0}}}, create = {CREATE, {0}, {{0, 0}}}, reset = {PANEL_RESET, {0}, {{0, 0}}};
     memset(world->length, 0, sizeof world->length);
     memset(world->of[TABLES], 0x5A, ROOM_BYTES);
+    memset(world->of[REGISTERS], 0x5A, ROOM_BYTES);
     world->length[TABLES] = SWEEP_TABLES_BYTES;
+    world->length[REGISTERS] = SWEEP_PANEL_REGISTERS;
     choose_pages(world, cursor);
     do_call(&exported, how, world, &format, 0);
     do_call(&exported, how, world, &create, 1);
+    do_call(&exported, how, world, &reset, 2);
 }
 
 void run_list(const uint8_t *data, size_t length, caller how)
@@ -242,6 +328,10 @@ void run_list(const uint8_t *data, size_t length, caller how)
         const struct kind *kind = some_kind(&cursor);
         if (kind->change) {
             kind->change(&world, &cursor);
+            continue;
+        }
+        if (kind->name == COMMAND) { /* accepted writes, whatever the tables hold: the store is not put back, and not kept */
+            one_command(&world, &cursor, how, turn);
             continue;
         }
         sweep_answer answer = one_call(&world, kind->name, &cursor, how, turn);

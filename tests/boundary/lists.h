@@ -9,13 +9,13 @@ struct cursor {
     const uint8_t *at, *end;
 };
 
-/* Reads a list off the bytes and does it after a format and a create. */
+/* Reads a list off the bytes and does it after a format, a create and a reset of the registers. */
 void run_list(const uint8_t *data, size_t length, caller how);
 
 /* Choose a number of a call: mostly one with which the call can be accepted, sometimes one out of range. A file is one of the
  * set that is the call's first number. */
 typedef uint32_t chooses(const struct buffers *world, const struct call *so_far, struct cursor *cursor);
-chooses used_set, unused_set, present_file, absent_file, place_in_file, yes_or_no;
+chooses used_set, unused_set, present_file, absent_file, place_in_file, yes_or_no, panel_offset, panel_value;
 
 /* Give buffers lengths and contents. */
 typedef void prepares(struct buffers *world, const struct call *call, struct cursor *cursor);

@@ -1,6 +1,7 @@
 /* The two parts of the check, rule by rule: stores in which one rule is broken, and no other where that can be; the judge makes
  * them. A rule of the first part: both checks refuse. A rule of the second part: sweep_check_blocks accepts, sweep_check
- * refuses. Either way every other call but a format refuses with 1. All calls are compared with the judge too.
+ * refuses. Either way every other call on the store but a format refuses with 1, and so does a command of the front panel, in its
+ * register. All calls are compared with the judge too.
  * Exit status: 0 all well, 1 not. */
 #include <stdbool.h>
 #include <stdio.h>
@@ -22,15 +23,34 @@ extern bool break_rule(uint32_t rule, uint64_t seed, const struct slice *buffers
 
 static int wrong;
 
+static struct buffers now; /* what a call leaves of a store */
+
+static uint32_t number_of(const struct buffers *world, const struct call *call, unsigned turn)
+{
+    copy_buffers(&now, world);
+    return do_call(&exported, call_plainly, &now, call, turn).number;
+}
+
 static void expect(const struct buffers *world, const char *rule, unsigned name, uint32_t number, unsigned turn)
 {
-    static struct buffers now;
     const struct call call = {name, {0}, {{0, 0}}};
-    copy_buffers(&now, world);
-    sweep_answer answer = do_call(&exported, call_plainly, &now, &call, turn);
-    if (answer.number == number)
+    uint32_t given = number_of(world, &call, turn);
+    if (given == number)
         return;
-    printf("parts: %s is broken: %s gave %u, not %u\n", rule, exported.functions[name].name, answer.number, number);
+    printf("parts: %s is broken: %s gave %u, not %u\n", rule, exported.functions[name].name, given, number);
+    wrong = 1;
+}
+
+/* The write of a command is accepted; the registers, which were all 0, tell the command's number and the cause. */
+static void expect_of_command(const struct buffers *world, const char *rule, uint32_t command, uint32_t number, unsigned turn)
+{
+    const struct call call = {PANEL_WRITE, {SWEEP_PANEL_COMMAND, command}, {{0, 0}}};
+    uint32_t given = number_of(world, &call, turn);
+    unsigned told = now.of[REGISTERS][SWEEP_PANEL_NUMBER], cause = now.of[REGISTERS][SWEEP_PANEL_CAUSE];
+    if (given == SWEEP_OK && told == number && cause == SWEEP_PANEL_REFUSED)
+        return;
+    printf("parts: %s is broken: panel command %u gave %u, number %u, not %u, cause %u, not %u\n", rule, command, given, told,
+           number, cause, (unsigned)SWEEP_PANEL_REFUSED);
     wrong = 1;
 }
 
@@ -38,8 +58,12 @@ static void try_store(const struct buffers *world, const struct broken *made, un
 {
     expect(world, made->name, CHECK_BLOCKS, made->first_part ? SWEEP_BAD_TABLES : SWEEP_OK, turn);
     for (unsigned name = 0; name < CALLS; name++)
-        if (name != CHECK_BLOCKS && name != FORMAT)
+        if (name != FORMAT && !exported.functions[name].unchecked)
             expect(world, made->name, name, SWEEP_BAD_TABLES, turn);
+    for (uint32_t value = 0; value <= 8; value++) {
+        uint32_t number = is_command(value) ? SWEEP_BAD_TABLES : SWEEP_OK;
+        expect_of_command(world, made->name, value, number, turn);
+    }
 }
 
 int main(void)
@@ -48,6 +72,7 @@ int main(void)
     const struct slice buffers[] = {{world.of[TABLES], ROOM_BYTES}, {world.of[PAGES], ROOM_BYTES}};
     static struct broken made;
     unsigned first[2] = {0, 0}, second[2] = {0, 0}; /* rules broken with others in some store, and those always broken alone */
+    world.length[REGISTERS] = SWEEP_PANEL_REGISTERS;
     for (uint32_t rule = 0; break_rule(rule, 0, buffers, &made); rule++) {
         int alone = 1;
         for (unsigned seed = 0; seed < STORES_OF_EACH_RULE; seed++) {

@@ -4,6 +4,7 @@
 #define _DEFAULT_SOURCE
 #include <stdio.h>
 #include <stdlib.h>
+#include <string.h>
 #include <sys/wait.h>
 #include <unistd.h>
 #include "calls.h"
@@ -30,10 +31,10 @@ void change_past(struct slice lent)
 
 #define IS(which) (done->call->name == which)
 
-static void look_past_tables(struct done *done) { look(END(TABLES)); }
-static void look_before_tables(struct done *done) { look(START(TABLES) - 1); }
-static void look_past_pages(struct done *done) { look(END(PAGES)); }
-static void look_before_pages(struct done *done) { look(START(PAGES) - 1); }
+static void look_past_tables(struct done *done) { if (START(TABLES)) look(END(TABLES)); }
+static void look_before_tables(struct done *done) { if (START(TABLES)) look(START(TABLES) - 1); }
+static void look_past_pages(struct done *done) { if (START(PAGES)) look(END(PAGES)); }
+static void look_before_pages(struct done *done) { if (START(PAGES)) look(START(PAGES) - 1); }
 static void look_past_bytes(struct done *done) { if (START(BYTES)) look(END(BYTES)); }
 static void look_before_bytes(struct done *done) { if (START(BYTES)) look(START(BYTES) - 1); }
 static void touch_tables_in_free(struct done *done) { if (IS(FREE)) touch(START(TABLES)); }
@@ -55,8 +56,11 @@ static void check_the_first_part_alone(struct done *done)
         done->answer = sweep_check_blocks(START(TABLES), LENT(TABLES).length);
 }
 
-/* The write of the other kind is done (call_with_fault). */
+/* Another call is done (call_made): the write of the other kind, the making of the other kind, the command that the four low
+ * bits of a value are. */
 static void exchange_writes(struct done *done) { (void)done; }
+static void exchange_makings(struct done *done) { (void)done; }
+static void cut_the_command(struct done *done) { (void)done; }
 
 static void change_a_bit(struct done *done) { if (IS(TRUNCATE)) START(TABLES)[5] ^= 1; }
 static void change_beside_tables(struct done *done) { if (IS(DELETE)) change_before(LENT(TABLES)); }
@@ -69,6 +73,70 @@ static void change_the_buffers_end(struct done *done)
         END(BYTES)[-1] ^= 1;
 }
 
+/* The front panel: its registers before the call, and after it where the call was accepted. */
+static uint8_t before[SWEEP_PANEL_REGISTERS];
+#define REG(which) START(REGISTERS)[SWEEP_PANEL_##which]
+#define TOLD(place) (done->call->n[place])
+#define PANEL(which) (IS(which) && done->answer.number == SWEEP_OK)
+#define WROTE(offset) (PANEL(PANEL_WRITE) && TOLD(0) == (offset))
+#define RAN (WROTE(SWEEP_PANEL_COMMAND) && is_command(TOLD(1)))
+
+static void look_past_registers(struct done *done) { if (START(REGISTERS)) look(END(REGISTERS)); }
+static void look_before_registers(struct done *done) { if (START(REGISTERS)) look(START(REGISTERS) - 1); }
+static void change_before_registers(struct done *done) { if (IS(PANEL_WRITE)) change_before(LENT(REGISTERS)); }
+static void change_past_registers(struct done *done) { if (IS(PANEL_RESET)) change_past(LENT(REGISTERS)); }
+static void touch_registers_in_read(struct done *done) { if (PANEL(PANEL_READ)) touch(&REG(COMMAND)); }
+static void touch_registers_in_line(struct done *done) { if (PANEL(PANEL_LINE)) touch(&REG(MASK)); }
+static void answer_the_commands_number(struct done *done) { if (RAN) done->answer.number = REG(NUMBER); }
+static void answer_the_commands_copies(struct done *done) { if (RAN) done->answer.second = REG(SECOND); }
+static void show_a_copy_more(struct done *done) { if (RAN && REG(SECOND)) REG(SECOND)++; }
+static void show_marks_without_any(struct done *done) { if (RAN && !REG(THIRD)) REG(CAUSE) |= SWEEP_PANEL_MARKED; }
+static void show_no_marks(struct done *done) { if (RAN && REG(THIRD)) REG(CAUSE) &= (uint8_t)~SWEEP_PANEL_MARKED; }
+static void show_every_command_accepted(struct done *done) { if (RAN) REG(CAUSE) |= SWEEP_PANEL_ACCEPTED; }
+static void keep_the_cause(struct done *done) { if (WROTE(SWEEP_PANEL_CAUSE)) REG(CAUSE) = before[SWEEP_PANEL_CAUSE]; }
+static void clear_the_whole_cause(struct done *done) { if (WROTE(SWEEP_PANEL_CAUSE)) REG(CAUSE) &= (uint8_t)~TOLD(1); }
+static void keep_the_command(struct done *done) { if (WROTE(SWEEP_PANEL_COMMAND)) REG(COMMAND) = (uint8_t)TOLD(1); }
+static void read_the_command(struct done *done) { if (PANEL(PANEL_READ) && TOLD(0) == 0) done->answer.first = REG(COMMAND); }
+static void write_a_zero_register(struct done *done) { if (WROTE(12)) START(REGISTERS)[12] = (uint8_t)TOLD(1); }
+static void write_the_number(struct done *done) { if (WROTE(SWEEP_PANEL_NUMBER)) REG(NUMBER) = (uint8_t)TOLD(1); }
+static void change_register_15(struct done *done) { if (RAN) START(REGISTERS)[15] ^= 1; }
+static void turn_the_line_over(struct done *done) { if (PANEL(PANEL_LINE)) done->answer.first ^= 1; }
+
+/* The cause has this command's bits alone. */
+static void forget_the_cause(struct done *done)
+{
+    if (RAN)
+        REG(CAUSE) = REG(NUMBER) ? SWEEP_PANEL_REFUSED : (uint8_t)(SWEEP_PANEL_ACCEPTED | (REG(THIRD) ? SWEEP_PANEL_MARKED : 0));
+}
+
+static void clear_the_number_without_a_command(struct done *done)
+{
+    if (WROTE(SWEEP_PANEL_COMMAND) && !RAN)
+        REG(NUMBER) = 0;
+}
+
+static void keep_the_counts_of_the_command_before(struct done *done)
+{
+    if (RAN && REG(NUMBER))
+        memcpy(&REG(FIRST), &before[SWEEP_PANEL_FIRST], 3);
+}
+
+static void reset_all_but_the_mask(struct done *done) { if (PANEL(PANEL_RESET)) REG(MASK) = before[SWEEP_PANEL_MASK]; }
+
+static void change_tables_for_a_register(struct done *done)
+{
+    if (WROTE(SWEEP_PANEL_SET) && LENT(TABLES).length > 5)
+        START(TABLES)[5] ^= 1;
+}
+
+/* Number 1 before 13. */
+static void check_tables_before_registers(struct done *done)
+{
+    if (IS(PANEL_WRITE) && done->answer.number == SWEEP_NO_REGISTER)
+        if (sweep_check(START(TABLES), LENT(TABLES).length, START(PAGES), LENT(PAGES).length).number == SWEEP_BAD_TABLES)
+            done->answer.number = SWEEP_BAD_TABLES;
+}
+
 static const struct fault faults[] = {
     {"none", 0}, FAULT(look_past_tables), FAULT(look_before_tables), FAULT(look_past_pages), FAULT(look_before_pages),
     FAULT(look_past_bytes), FAULT(look_before_bytes), FAULT(touch_tables_in_free), FAULT(touch_pages_in_read),
@@ -77,15 +145,36 @@ static const struct fault faults[] = {
     FAULT(refuse_every_first_part), FAULT(check_the_first_part_alone), FAULT(look_at_no_map), FAULT(look_at_one_map_more),
     FAULT(look_at_one_map_less), FAULT(change_beside_tables),
     FAULT(change_beside_pages), FAULT(change_a_bit), FAULT(change_a_page), FAULT(change_the_buffers_end),
+    FAULT(look_past_registers), FAULT(look_before_registers), FAULT(change_before_registers), FAULT(change_past_registers),
+    FAULT(touch_registers_in_read), FAULT(touch_registers_in_line), FAULT(answer_the_commands_number),
+    FAULT(answer_the_commands_copies), FAULT(show_a_copy_more), FAULT(show_marks_without_any), FAULT(show_no_marks),
+    FAULT(show_every_command_accepted), FAULT(keep_the_cause), FAULT(clear_the_whole_cause), FAULT(forget_the_cause),
+    FAULT(keep_the_command), FAULT(read_the_command), FAULT(write_a_zero_register), FAULT(write_the_number),
+    FAULT(change_register_15), FAULT(turn_the_line_over), FAULT(clear_the_number_without_a_command),
+    FAULT(keep_the_counts_of_the_command_before), FAULT(reset_all_but_the_mask), FAULT(change_tables_for_a_register),
+    FAULT(check_tables_before_registers), FAULT(exchange_makings), FAULT(cut_the_command),
 };
 enum { FAULTS = sizeof faults / sizeof *faults };
 static void (*fault)(struct done *done);
 
-static sweep_answer call_with_fault(const struct call *call)
+static struct call call_made(const struct call *call)
 {
     struct call made = *call;
+    uint32_t *value = call->name == PANEL_WRITE && call->n[0] == SWEEP_PANEL_COMMAND ? &made.n[1] : 0;
     if (fault == exchange_writes && (call->name == WRITE || call->name == WRITE_NARROW))
         made.name = WRITE + WRITE_NARROW - call->name;
+    if (fault == exchange_makings && value && (*value == SWEEP_PANEL_MAKE_READ_ONLY || *value == SWEEP_PANEL_MAKE_WRITEABLE))
+        *value = SWEEP_PANEL_MAKE_READ_ONLY + SWEEP_PANEL_MAKE_WRITEABLE - *value;
+    if (fault == cut_the_command && value)
+        *value &= 15;
+    return made;
+}
+
+static sweep_answer call_with_fault(const struct call *call)
+{
+    const struct call made = call_made(call);
+    if (call->lent[REGISTERS].length == sizeof before)
+        memcpy(before, call->lent[REGISTERS].at, sizeof before);
     struct done done = {call, call_plainly(&made)};
     if (fault)
         fault(&done);

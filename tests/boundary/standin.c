@@ -1,12 +1,12 @@
-/* Stand-in functions, to try on the harness what no exported function has yet: registers, a spare page, second tables, five
- * numbers of two widths, numbers of answers over 12, and bytes that an accepted call leaves free. They are judged by a
- * stand-in judge, which does the same in another way. */
+/* Stand-in functions, to try on the harness what no exported function has yet: a spare page, second tables, five numbers,
+ * numbers of answers over 13, and bytes that an accepted call leaves free; registers are lent with them. They are judged by
+ * a stand-in judge, which does the same in another way. */
 #include <stdlib.h>
 #include <string.h>
 #include "faults.h"
 
 enum { EXCHANGE, SUM, STANDINS };
-enum { REGISTERS_BYTES = 16, BLOCKS = 4, LAST = (BLOCKS - 1) * SWEEP_PAGE_BYTES };
+enum { BLOCKS = 4, LAST = (BLOCKS - 1) * SWEEP_PAGE_BYTES };
 enum { BAD_SPARE = 16, BAD_REGISTERS = 17 };
 
 static sweep_answer answer(uint32_t number, uint32_t first, uint32_t second, uint32_t third)
@@ -24,14 +24,14 @@ static sweep_answer exchange(uint8_t *registers, size_t registers_length, uint8_
 {
     if (spare_length != SWEEP_PAGE_BYTES)
         return answer(BAD_SPARE, 0, 0, 0);
-    if (registers_length != REGISTERS_BYTES)
+    if (registers_length != SWEEP_PANEL_REGISTERS)
         return answer(BAD_REGISTERS, 0, 0, 0);
     uint8_t *other = pages + page % (BLOCKS - 1) * SWEEP_PAGE_BYTES;
     memcpy(spare, pages, SWEEP_PAGE_BYTES);
     memmove(pages, other, SWEEP_PAGE_BYTES);
     memcpy(other, spare, SWEEP_PAGE_BYTES);
     memcpy(pages + pages_length - SWEEP_PAGE_BYTES, pages, SWEEP_PAGE_BYTES);
-    registers[which % REGISTERS_BYTES] = value;
+    registers[which % SWEEP_PANEL_REGISTERS] = value;
     tables[at % tables_length] ^= second[from % second_length];
     return answer(SWEEP_OK, page, at + from, value);
 }
@@ -53,14 +53,14 @@ static sweep_answer judge_exchange(const uint32_t *n, const struct slice *lent)
 {
     if (lent[SPARE].length != SWEEP_PAGE_BYTES)
         return answer(BAD_SPARE, 0, 0, 0);
-    if (lent[REGISTERS].length != REGISTERS_BYTES)
+    if (lent[REGISTERS].length != SWEEP_PANEL_REGISTERS)
         return answer(BAD_REGISTERS, 0, 0, 0);
     for (uint32_t i = 0; i < SWEEP_PAGE_BYTES; i++) {
         uint8_t *one = lent[PAGES].at + i, *other = one + n[0] % (BLOCKS - 1) * SWEEP_PAGE_BYTES, kept = *one;
         *one = *other;
         *other = kept;
     }
-    lent[REGISTERS].at[n[3] % REGISTERS_BYTES] = (uint8_t)n[4];
+    lent[REGISTERS].at[n[3] % SWEEP_PANEL_REGISTERS] = (uint8_t)n[4];
     lent[TABLES].at[n[1] % lent[TABLES].length] ^= lent[SECOND].at[n[2] % lent[SECOND].length];
     return answer(SWEEP_OK, n[0], n[1] + n[2], n[4]);
 }
@@ -109,23 +109,17 @@ static struct suite standins = {functions, STANDINS, judge_standins, {{{0}}, 0, 
 #define EXCHANGED (done->call->name == EXCHANGE)
 #define ACCEPTED (EXCHANGED && done->answer.number == SWEEP_OK)
 
-static void look_past_registers(struct done *done) { look(END(REGISTERS)); }
-static void look_before_registers(struct done *done) { look(START(REGISTERS) - 1); }
 static void look_past_spare(struct done *done) { if (EXCHANGED) look(END(SPARE)); }
 static void look_before_spare(struct done *done) { if (EXCHANGED) look(START(SPARE) - 1); }
 static void look_past_second(struct done *done) { if (EXCHANGED) look(END(SECOND)); }
 static void look_before_second(struct done *done) { if (EXCHANGED) look(START(SECOND) - 1); }
 static void touch_second(struct done *done) { if (EXCHANGED) touch(START(SECOND)); }
-static void touch_registers_in_sum(struct done *done) { if (!EXCHANGED) touch(START(REGISTERS)); }
-static void change_a_register(struct done *done) { if (ACCEPTED) START(REGISTERS)[15] ^= 1; }
 static void change_a_table(struct done *done) { if (ACCEPTED) START(TABLES)[0] ^= 1; }
 static void change_a_used_page(struct done *done) { if (ACCEPTED) START(PAGES)[LAST - 1] ^= 1; }
 static void change_spare_though_refused(struct done *done) { if (EXCHANGED && !ACCEPTED) START(SPARE)[0] ^= 1; }
 static void give_another_number(struct done *done) { if (done->answer.number == BAD_REGISTERS) done->answer.number++; }
 static void forget_the_fifth_number(struct done *done) { if (ACCEPTED) done->answer.third = 0; }
 
-static void change_before_registers(struct done *done) { if (EXCHANGED) change_before(LENT(REGISTERS)); }
-static void change_past_registers(struct done *done) { if (EXCHANGED) change_past(LENT(REGISTERS)); }
 static void change_before_spare(struct done *done) { if (EXCHANGED) change_before(LENT(SPARE)); }
 static void change_past_spare(struct done *done) { if (EXCHANGED) change_past(LENT(SPARE)); }
 
@@ -140,12 +134,10 @@ static void look_at_spare_in_sum(struct done *done)
 }
 
 const struct fault standin_faults[] = {
-    {"no fault of a stand-in", 0}, FAULT(look_past_registers), FAULT(look_before_registers), FAULT(look_past_spare),
-    FAULT(look_before_spare), FAULT(look_past_second), FAULT(look_before_second), FAULT(touch_second),
-    FAULT(touch_registers_in_sum), FAULT(change_a_register), FAULT(change_a_table), FAULT(change_a_used_page),
+    {"no fault of a stand-in", 0}, FAULT(look_past_spare), FAULT(look_before_spare), FAULT(look_past_second),
+    FAULT(look_before_second), FAULT(touch_second), FAULT(change_a_table), FAULT(change_a_used_page),
     FAULT(change_spare_though_refused), FAULT(give_another_number), FAULT(forget_the_fifth_number),
-    FAULT(change_before_registers), FAULT(change_past_registers), FAULT(change_before_spare), FAULT(change_past_spare),
-    FAULT(look_at_spare_in_sum),
+    FAULT(change_before_spare), FAULT(change_past_spare), FAULT(look_at_spare_in_sum),
 };
 const int standin_fault_count = sizeof standin_faults / sizeof *standin_faults;
 static void (*fault)(struct done *done);
@@ -188,7 +180,7 @@ void run_standins(void (*does)(struct done *done))
     world.length[PAGES] = BLOCKS * SWEEP_PAGE_BYTES;
     for (unsigned turn = 0; turn < 500; turn++) {
         struct call call = {word() % STANDINS, {word(), word(), word(), word(), word()}, {{0, 0}}};
-        world.length[REGISTERS] = near(REGISTERS_BYTES);
+        world.length[REGISTERS] = near(SWEEP_PANEL_REGISTERS);
         world.length[SPARE] = near(SWEEP_PAGE_BYTES);
         world.length[SECOND] = 1 + word() % 100;
         world.of[PAGES][word() % LAST] = (uint8_t)turn;
