@@ -8,10 +8,11 @@
  *   bench loop N store|twin COUNT   runs case N so often and prints nothing: for a profiler
  *
  * Method. All cases are gone through several times. Each time a case is run in short batches, store and twin in turn, the copy
- * of the tables (memcpy of 17,436 bytes) among them; the best batch of each counts. A call that changes nothing is repeated in a row under one reading of the clock. A call
- * that changes the tables is timed by itself: the tables are put back before it, outside the time, and the cost of reading
- * the clock is taken off. Pages are not put back: what they hold decides nothing. Before the timing each case is done once by
- * both, and answer, tables, pages and read buffer must be the same.
+ * of the tables (memcpy of 17,436 bytes) among them; the best batch of each counts. A call that changes nothing, or registers
+ * alone, is repeated in a row under one reading of the clock. A call that changes the tables is timed by itself: tables and
+ * registers are put back before it, outside the time, and the cost of reading the clock is taken off. Pages are not put back:
+ * what they hold decides nothing. Before the timing each case is done once by both, and answer, tables, pages, read buffer and
+ * registers must be the same.
  */
 #define _GNU_SOURCE
 #include "twin.h"
@@ -25,6 +26,7 @@
 #include <x86intrin.h>
 
 enum { TABLES = SWEEP_TABLES_BYTES, PAGE = SWEEP_PAGE_BYTES, MAX_BLOCKS = SWEEP_BLOCKS_MAX, FILE_BYTES = SWEEP_FILE_BYTES_MAX };
+enum { REGISTERS = SWEEP_PANEL_REGISTERS };
 enum { PASSES = 5, ROUNDS = 300 };
 
 /* ---- the two implementations ---- */
@@ -44,11 +46,16 @@ struct calls {
     sweep_answer (*free)(const uint8_t *, size_t, const uint8_t *, size_t);
     sweep_answer (*check_blocks)(const uint8_t *, size_t);
     sweep_answer (*check)(const uint8_t *, size_t, const uint8_t *, size_t);
+    sweep_answer (*panel_reset)(uint8_t *, size_t);
+    sweep_answer (*panel_read)(const uint8_t *, size_t, uint32_t);
+    sweep_answer (*panel_write)(uint8_t *, size_t, uint8_t *, size_t, uint8_t *, size_t, uint32_t, uint8_t);
+    sweep_answer (*panel_line)(const uint8_t *, size_t);
 };
 
 #define ALL(prefix)                                                                                                    \
     prefix##_format, prefix##_create, prefix##_write, prefix##_write_narrow, prefix##_read, prefix##_truncate,         \
-        prefix##_delete, prefix##_make, prefix##_remove, prefix##_size, prefix##_free, prefix##_check_blocks, prefix##_check
+        prefix##_delete, prefix##_make, prefix##_remove, prefix##_size, prefix##_free, prefix##_check_blocks,          \
+        prefix##_check, prefix##_panel_reset, prefix##_panel_read, prefix##_panel_write, prefix##_panel_line
 static const struct calls store = { "store", ALL(sweep) };
 static const struct calls twin = { "twin", ALL(twin) };
 
@@ -56,6 +63,7 @@ static const struct calls twin = { "twin", ALL(twin) };
 
 static _Alignas(4096) uint8_t tables[TABLES];          /* what the calls are given */
 static _Alignas(4096) uint8_t kept[TABLES];            /* the tables before the call */
+static _Alignas(64) uint8_t registers[REGISTERS], registers_kept[REGISTERS];
 static _Alignas(4096) uint8_t pages[MAX_BLOCKS * PAGE];
 static _Alignas(4096) uint8_t pages_kept[MAX_BLOCKS * PAGE];
 static _Alignas(4096) uint8_t data[FILE_BYTES];
@@ -85,11 +93,20 @@ static void must(sweep_answer a)
 }
 
 #define LENT tables, TABLES, pages, length
+#define PANEL registers, REGISTERS
+
+/* Tables and registers as they were before the call. */
+static void put_back(void)
+{
+    memcpy(tables, kept, TABLES);
+    memcpy(registers, registers_kept, REGISTERS);
+}
 
 /* ---- the stores ---- */
 
 static void empty(unsigned blocks)
 {
+    memset(registers, 0, REGISTERS);
     random_state = 88172645463325252u;
     length = (size_t)blocks * PAGE;
     must(twin_format(LENT));
@@ -251,10 +268,32 @@ static void chain(unsigned blocks)
         must(twin_make(LENT, s - 1, s, 1));
 }
 
+/* Such stores, with the front panel's registers set for a command; else they are 0. */
+#define FOR_COMMAND(name, build, set, file, other)                                                                     \
+    static void name(unsigned blocks)                                                                                  \
+    {                                                                                                                  \
+        build(blocks);                                                                                                 \
+        memcpy(registers + SWEEP_PANEL_SET, (const uint8_t[]){ set, file, other }, 3);                                 \
+    }
+FOR_COMMAND(file_1, full_file, 0, 1, 0)
+FOR_COMMAND(set_1, full_file, 0, 0, 1)
+FOR_COMMAND(child_1, one_child, 1, 0, 0)
+FOR_COMMAND(child_7, typical, 7, 0, 0)
+
+/* An empty store, with registers that hold something: the line is on. */
+static void line_on(unsigned blocks)
+{
+    empty(blocks);
+    for (unsigned i = 0; i < REGISTERS; i++)
+        registers[i] = (uint8_t)(i * 7 + 1);
+}
+
 /* ---- the cases ---- */
 
+/* Each of the two is called from a place of its own: one call instruction with two targets is slower for one of them, by as
+ * much as a call takes that only looks at registers. */
 #define CASE(name, call)                                                                                               \
-    static sweep_answer name(const struct calls *c) { return c->call; }
+    static sweep_answer name(const struct calls *c) { return c == &store ? store.call : twin.call; }
 CASE(check, check(LENT))
 CASE(check_blocks, check_blocks(tables, TABLES))
 CASE(free_of, free(LENT))
@@ -283,6 +322,17 @@ CASE(remove_1, remove(LENT, 1))
 CASE(remove_7, remove(LENT, 7))
 CASE(create_1, create(LENT, 0, 1))
 CASE(format_it, format(LENT))
+CASE(panel_reset, panel_reset(PANEL))
+CASE(panel_read, panel_read(PANEL, SWEEP_PANEL_OTHER))
+CASE(panel_line, panel_line(PANEL))
+CASE(panel_mask, panel_write(PANEL, LENT, SWEEP_PANEL_MASK, 0x5a))
+CASE(panel_clear, panel_write(PANEL, LENT, SWEEP_PANEL_CAUSE, 0xff))
+CASE(panel_nothing, panel_write(PANEL, LENT, SWEEP_PANEL_COMMAND, 0x11))
+#define COMMAND(name, value) CASE(name, panel_write(PANEL, LENT, SWEEP_PANEL_COMMAND, value))
+COMMAND(panel_create, SWEEP_PANEL_CREATE)
+COMMAND(panel_delete, SWEEP_PANEL_DELETE)
+COMMAND(panel_make, SWEEP_PANEL_MAKE_WRITEABLE)
+COMMAND(panel_remove, SWEEP_PANEL_REMOVE)
 
 /* File 0 of set 0 rewritten from front to back, a page a call; gives the counts of all, and the first number that is not 0. */
 #define REWRITE(name, call)                                                                                            \
@@ -378,6 +428,22 @@ static const struct bench_case cases[] = {
     { "remove", "set 7", "typical", remove_7, typical, true, 0, { 64, 4096 }, { 0, 0 } },
     { "create", "", "one file", create_1, full_file, true, 0, { 64, 4096 }, { 3, 3 } },
     { "format", "", "empty", format_it, empty, true, 0, { 64, 4096 }, { 0, 0 } },
+    { "panel", "reset", "-", panel_reset, line_on, false, 0, { 64, 0 }, { 0, 0 } },
+    { "panel", "read", "-", panel_read, line_on, false, 0, { 64, 0 }, { 0, 0 } },
+    { "panel", "line", "-", panel_line, line_on, false, 0, { 64, 0 }, { 0, 0 } },
+    { "panel", "write: mask", "-", panel_mask, line_on, false, 0, { 64, 0 }, { 0, 0 } },
+    { "panel", "write: cause", "-", panel_clear, line_on, false, 0, { 64, 0 }, { 0, 0 } },
+    { "panel", "write: no command", "-", panel_nothing, line_on, false, 0, { 64, 0 }, { 0, 0 } },
+    { "panel", "make", "one file", panel_make, set_1, true, 0, { 64, 4096 }, { 0, 0 } },
+    { "panel", "remove", "one child", panel_remove, child_1, true, 0, { 64, 4096 }, { 0, 0 } },
+    { "panel", "remove, set 7", "typical", panel_remove, child_7, true, 0, { 64, 4096 }, { 0, 0 } },
+    { "panel", "create", "one file", panel_create, file_1, true, 0, { 64, 4096 }, { 0, 0 } },
+    { "panel", "create, refused", "one file", panel_create, full_file, false, 0, { 64, 4096 }, { 0, 0 } },
+    { "panel", "delete", "one file", panel_delete, full_file, true, 0, { 64, 4096 }, { 0, 0 } },
+    { "panel", "delete, 64 handed", "one child", panel_delete, one_child, true, 0, { 64, 4096 }, { 0, 0 } },
+    { "panel", "delete, 384 copies", "seven children", panel_delete, seven_children, true, 0, { 1024, 4096 }, { 0, 0 } },
+    { "panel", "delete, marks", "seven children", panel_delete, seven_children, true, 0, { 64, 0 }, { 0, 0 } },
+    { "panel", "delete", "typical", panel_delete, typical, true, 0, { 64, 4096 }, { 0, 0 } },
 };
 enum { CASES = sizeof cases / sizeof cases[0] };
 
@@ -385,6 +451,7 @@ static void build(const struct bench_case *k, unsigned blocks)
 {
     k->build(blocks);
     memcpy(kept, tables, TABLES);
+    memcpy(registers_kept, registers, REGISTERS);
     if (k->changes)
         memcpy(pages_kept, pages, length);
 }
@@ -392,22 +459,26 @@ static void build(const struct bench_case *k, unsigned blocks)
 /* Both do the case once; answer and every byte must be the same. */
 static void compare(const struct bench_case *k)
 {
-    static uint8_t after[TABLES], read[FILE_BYTES];
+    static uint8_t after[TABLES], read[FILE_BYTES], panel[REGISTERS];
     memset(buffer, 0xaa, FILE_BYTES);
     sweep_answer a = k->run(&store);
     memcpy(after, tables, TABLES);
     memcpy(other, pages, length);
     memcpy(read, buffer, FILE_BYTES);
-    memcpy(tables, kept, TABLES);
+    memcpy(panel, registers, REGISTERS);
+    put_back();
     if (k->changes)
         memcpy(pages, pages_kept, length);
     memset(buffer, 0xaa, FILE_BYTES);
     sweep_answer b = k->run(&twin);
     if (a.number != k->number || a.number != b.number || a.first != b.first || a.second != b.second || a.third != b.third)
         fail("store and twin give different answers");
-    if (memcmp(after, tables, TABLES) || memcmp(other, pages, length) || memcmp(read, buffer, FILE_BYTES))
+    if (memcmp(after, tables, TABLES) || memcmp(other, pages, length) || memcmp(read, buffer, FILE_BYTES) ||
+        memcmp(panel, registers, REGISTERS))
         fail("store and twin leave different bytes");
-    memcpy(tables, kept, TABLES);
+    if (k->changes && registers[SWEEP_PANEL_NUMBER] != 0)
+        fail("a command of the front panel was refused");
+    put_back();
 }
 
 /* ---- time ---- */
@@ -462,7 +533,7 @@ static double batch(const struct bench_case *k, const struct calls *c, unsigned 
     }
     double sum = 0;
     for (unsigned i = 0; i < n; i++) {
-        memcpy(tables, kept, TABLES);
+        put_back();
         uint64_t t = begin_time();
         k->run(c);
         sum += (double)(end_time() - t) - clock_cost;
@@ -502,7 +573,7 @@ static void measure(const struct bench_case *k, struct times *m)
         m->twin = least(m->twin, batch(k, &twin, n));
         m->copy = least(m->copy, copy_batch(c));
     }
-    memcpy(tables, kept, TABLES);
+    put_back();
 }
 
 static bool wanted(unsigned i, const char *only)
@@ -575,8 +646,8 @@ static __attribute__((noinline)) void on_painted_stack(void)
 static size_t stack_of(const struct bench_case *k, const struct calls *c)
 {
     volatile size_t most = 0;
-    for (unsigned paint = 0x55; paint <= 0xaa; paint += 0x55) {
-        memcpy(tables, kept, TABLES);
+    for (volatile unsigned paint = 0x55; paint <= 0xaa; paint += 0x55) {
+        put_back();
         memset(stack, (int)paint, sizeof stack);
         getcontext(&painted);
         painted.uc_stack.ss_sp = stack;
@@ -592,7 +663,7 @@ static size_t stack_of(const struct bench_case *k, const struct calls *c)
         size_t used = (size_t)(top - (stack + i));
         most = used > most ? used : most;
     }
-    memcpy(tables, kept, TABLES);
+    put_back();
     return most;
 }
 
@@ -648,7 +719,7 @@ int main(int argc, char **argv)
         build(&cases[i / 2], cases[i / 2].blocks[i % 2]);
         for (long n = atol(argv[4]); n > 0; n--) {
             if (cases[i / 2].changes)
-                memcpy(tables, kept, TABLES);
+                put_back();
             cases[i / 2].run(!strcmp(argv[3], "twin") ? &twin : &store);
         }
         return 0;

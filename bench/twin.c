@@ -924,3 +924,80 @@ sweep_answer twin_delete(uint8_t *t, size_t tl, uint8_t *p, size_t pl, uint32_t 
     zero_bytes(r, RECORD);
     return finish(&c);
 }
+
+/* ---- the front panel ---- */
+
+enum { REGISTERS = 16 };
+static const uint8_t reset_value[REGISTERS] = { 0 };
+static const uint8_t writable[REGISTERS] = { 0x00, 0x00, 0x07, 0xff, 0xff, 0xff, 0xff };
+
+sweep_answer twin_panel_reset(uint8_t *r, size_t rl)
+{
+    if (rl != REGISTERS)
+        return refused(SWEEP_NO_REGISTER);
+    memcpy(r, reset_value, REGISTERS);
+    return refused(0);
+}
+
+sweep_answer twin_panel_read(const uint8_t *r, size_t rl, uint32_t offset)
+{
+    if (rl != REGISTERS || offset >= REGISTERS)
+        return refused(SWEEP_NO_REGISTER);
+    return answer(0, offset == SWEEP_PANEL_COMMAND ? reset_value[offset] : r[offset], 0, 0);
+}
+
+sweep_answer twin_panel_line(const uint8_t *r, size_t rl)
+{
+    if (rl != REGISTERS)
+        return refused(SWEEP_NO_REGISTER);
+    return answer(0, (r[SWEEP_PANEL_CAUSE] & r[SWEEP_PANEL_MASK]) != 0, 0, 0);
+}
+
+static inline uint8_t shown(uint32_t count) { return count > 255 ? 255 : (uint8_t)count; }
+
+/* Runs the command and shows what it gave; a value that is no command leaves all but the cause. */
+static void run_command(uint8_t *r, uint8_t *t, size_t tl, uint8_t *p, size_t pl, uint8_t value)
+{
+    uint32_t set = r[SWEEP_PANEL_SET], file = r[SWEEP_PANEL_FILE], other = r[SWEEP_PANEL_OTHER];
+    sweep_answer a;
+    switch (value) {
+    case SWEEP_PANEL_CREATE:
+        a = twin_create(t, tl, p, pl, set, file);
+        break;
+    case SWEEP_PANEL_DELETE:
+        a = twin_delete(t, tl, p, pl, set, file);
+        break;
+    case SWEEP_PANEL_MAKE_READ_ONLY:
+    case SWEEP_PANEL_MAKE_WRITEABLE:
+        a = twin_make(t, tl, p, pl, set, other, value == SWEEP_PANEL_MAKE_WRITEABLE);
+        break;
+    case SWEEP_PANEL_REMOVE:
+        a = twin_remove(t, tl, p, pl, set);
+        break;
+    default:
+        r[SWEEP_PANEL_CAUSE] |= SWEEP_PANEL_REFUSED;
+        return;
+    }
+    r[SWEEP_PANEL_NUMBER] = (uint8_t)a.number;
+    r[SWEEP_PANEL_FIRST] = shown(a.first);
+    r[SWEEP_PANEL_SECOND] = shown(a.second);
+    r[SWEEP_PANEL_THIRD] = shown(a.third);
+    r[SWEEP_PANEL_CAUSE] |= a.number ? SWEEP_PANEL_REFUSED : SWEEP_PANEL_ACCEPTED;
+    if (a.third)
+        r[SWEEP_PANEL_CAUSE] |= SWEEP_PANEL_MARKED;
+}
+
+sweep_answer twin_panel_write(uint8_t *r, size_t rl, uint8_t *t, size_t tl, uint8_t *p, size_t pl, uint32_t offset,
+                              uint8_t value)
+{
+    if (rl != REGISTERS || offset >= REGISTERS)
+        return refused(SWEEP_NO_REGISTER);
+    uint8_t mask = writable[offset];
+    if (offset == SWEEP_PANEL_COMMAND)
+        run_command(r, t, tl, p, pl, value);
+    else if (offset == SWEEP_PANEL_CAUSE)
+        r[offset] &= (uint8_t) ~(value & mask);
+    else
+        r[offset] = (uint8_t)((r[offset] & ~mask) | (value & mask));
+    return refused(0);
+}

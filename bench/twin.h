@@ -25,5 +25,10 @@ sweep_answer twin_size(const uint8_t *tables, size_t tables_length, const uint8_
 sweep_answer twin_free(const uint8_t *tables, size_t tables_length, const uint8_t *pages, size_t pages_length);
 sweep_answer twin_check_blocks(const uint8_t *tables, size_t tables_length);
 sweep_answer twin_check(const uint8_t *tables, size_t tables_length, const uint8_t *pages, size_t pages_length);
+sweep_answer twin_panel_reset(uint8_t *registers, size_t registers_length);
+sweep_answer twin_panel_read(const uint8_t *registers, size_t registers_length, uint32_t offset);
+sweep_answer twin_panel_write(uint8_t *registers, size_t registers_length, uint8_t *tables, size_t tables_length,
+                              uint8_t *pages, size_t pages_length, uint32_t offset, uint8_t value);
+sweep_answer twin_panel_line(const uint8_t *registers, size_t registers_length);
 
 #endif
