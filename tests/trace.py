@@ -386,7 +386,7 @@ class Uses:
 
 # notions of the kit that every reader knows, or that the prelude has
 PLAIN = set(
-    "Bool true false not _&&_ _||_ List [] _∷_ _++_ Option none some ℕ zero suc _+_ _*_ _/_ _%_ _^_ _<_ _≤_ _≡_ _↔_ min max".split()
+    "Bool true false not _&&_ _||_ List [] _∷_ _++_ Option none some ℕ zero suc _+_ _*_ _/_ _%_ _^_ _<_ _≤_ _≡_ _↔_ _⊎_ min max".split()
 )
 
 
