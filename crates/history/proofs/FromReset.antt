@@ -21,7 +21,7 @@ use Rattle.packing.specs.Bitmap.{isOne}
 use Rattle.packing.specs.Bits.{bit, bit-mod}
 use Rattle.rules.specs.Numbers.{Answer, Call, noCounts}
 use Rattle.tables.proofs.NumberFits.{answer-low}
-use Rattle.tables.proofs.Registers.{cause-low, cause-masked, reset-zero, written-byte, written-full, written-none}
+use Rattle.tables.proofs.Registers.{cause-low, cause-masked, offset-told, reset-zero, written-byte, written-full, written-none}
 use Rattle.tables.specs.Calls.{callOn}
 use Rattle.tables.specs.Panel.{answered, callRun, causeAdded, causeOf, commandIn, commanded, entered, noRegister, panelLineOn, panelReadOn, panelResetOn, panelWriteOn, resetValues, shown, written}
 
@@ -308,10 +308,6 @@ module _ (v : ℕ) (x : Since) (r : List ℕ) (s : Stands x r) where
     cause = beside r 0 2 _ (λ e. absurd (omega arith)) ∙ s .cause;
     writable = λ k a b. beside r 0 k _ (λ e. absurd (omega arith)) ∙ s .writable k a b;
   }
-
-offset-told : (o : ℕ) (r : List ℕ) → length r ≡ 16 → noRegister o r ≡ ltb 15 o
-unfolding noRegister
-offset-told o r l = rw (eq-eqb (length r) 16 l) refl
 
 write-stands : (o v : ℕ) (x : Since) (h : Held) → Stands x (h .registers) → Stands (sinceAfter (panelWrite o v) h x) (eventOn (panelWrite o v) h .registers)
 unfolding panelWriteOn callRun

@@ -14,7 +14,7 @@ use Rattle.calls.specs.Outcomes.{answerMeant, outcome}
 use Rattle.calls.specs.declared.answer.Answer as declared
 use Rattle.panel.specs.Commands.{callNamed, isCommand}
 use Rattle.panel.specs.Outcomes.{panelOutcome}
-use Rattle.rules.specs.Numbers.{Answer, Call, noCounts, refusal}
+use Rattle.rules.specs.Numbers.{Answer, Call, noCounts}
 use Rattle.tables.proofs.NumberFits.{answer-low}
 use Rattle.tables.specs.Calls.{Outcome, callOn}
 use Rattle.tables.specs.Panel.{answered, causeAdded, commandIn, commandOf, commanded, entered, noRegister, panelLeft, panelWriteOn, written}
@@ -69,13 +69,7 @@ ran-call z op s f o r r′ t t′ p p′ a ez h es ef eo e q =
 pub number-fits : (a : declared.Answer) (c : Call) (t t′ p p′ : List ℕ) → outcome a t′ p′ [] ≡ callOn c t p → a .number < 256
 number-fits a c t t′ p p′ e = let q : a .number ≡ callOn c t p .answer .number = ap (λ (x : Outcome). x .answer .number) e in omega (arith, answer-low c t p)
 
--- ---- a write by its cases: no such register, a register that is no command, the command
-
-pub write-refused : (a : declared.Answer) (b : Bool) (o v : ℕ) (r t p : List ℕ) → answerMeant a ≡ refusal 13 → b ≡ noRegister o r → b ≡ true → panelOutcome a r t p ≡ panelWriteOn callOn o v r t p
-unfolding panelWriteOn
-write-refused a b o v r t p ea e h =
-    let q : noRegister o r ≡ true = sym e ∙ h in
-    ap (λ (x : Answer). panelLeft x r t p) ea ∙ (rw q refl)
+-- ---- an accepted write by its cases: a register that is no command, the command
 
 pub write-entered : (a : declared.Answer) (b : Bool) (o v : ℕ) (r r′ t p : List ℕ) → answerMeant a ≡ noCounts → b ≡ noRegister o r → b ≡ false → (o ≡ 0 → ⊥)
     → r′ ≡ entered o v r → panelOutcome a r′ t p ≡ panelWriteOn callOn o v r t p

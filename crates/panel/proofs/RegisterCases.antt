@@ -1,30 +1,25 @@
 -- The registers: when there are none, the reset of all sixteen, what a command notes. Assumes nothing.
-use mathlib.Core.Bool.{Bool, false, true}
+use mathlib.Core.Bool.{Bool, cond, false, true}
 use mathlib.Core.List.{List, []}
 use mathlib.Core.Path.{ap, ap₂, refl, sym, _∙_, _≡_}
 use Prim.Native.Nat.{_+_, _<_, ℕ, _≤_}
 use native.Mathlib.Nat.{min-eq-left}
 use native.Mathlib.Omega.{arith}
-use lib.Dec.{ltb}
 use lib.ListN.{getD, length, set}
 use lib.Seq.{ext-getD, getD-set-other, getD-set-same}
-use borrow.Author.Tests.{eq-eqb, ne-eqb}
+use borrow.Author.Tests.{ne-eqb}
 use Rattle.base.specs.Logic.{same?}
 use Rattle.calls.specs.Outcomes.{answerMeant}
 use Rattle.calls.specs.declared.answer.Answer as declared
 use Rattle.panel.specs.Outcomes.{panelOutcome}
 use Rattle.rules.specs.Numbers.{Answer, noCounts, refusal}
 use Rattle.tables.proofs.Registers.{register-there, values-count}
-use Rattle.tables.specs.Panel.{answered, causeOf, causeAdded, lineOf, noRegister, panelLeft, panelLineOn, panelReadOn, panelResetOn, resetValues, shown, valueGiven, valueRead}
+use Rattle.tables.specs.Panel.{PanelOutcome, answered, causeOf, causeAdded, lineOf, noRegister, panelLeft, panelLineOn, panelReadOn, panelResetOn, resetValues, shown, valueGiven, valueRead}
 
--- other lengths; sixteen registers and an offset
+-- other lengths; sixteen registers
 pub none-there : (o : ℕ) (r : List ℕ) → (length r ≡ 16 → ⊥) → true ≡ noRegister o r
 unfolding noRegister
 none-there o r h = rw (ne-eqb (length r) 16 h) refl
-
-pub offset-told : (o : ℕ) (r : List ℕ) → length r ≡ 16 → ltb 15 o ≡ noRegister o r
-unfolding noRegister
-offset-told o r h = rw (eq-eqb (length r) 16 h) refl
 
 pub sixteen : (b : Bool) (o : ℕ) (r : List ℕ) → b ≡ noRegister o r → b ≡ false → (length r ≡ 16) × (o < 16)
 sixteen b o r e h = register-there o r (sym e ∙ h)
@@ -52,33 +47,23 @@ pub noted : (a : Answer) (r r′ : List ℕ) (x n f s t : ℕ) → a .number < 2
 unfolding answered
 noted a r r′ x n f s t h ex er en ef es et = rw (er, ex, en, shown-low (a .number) h, ef, es, et) refl
 
--- ---- read, line and reset by their cases
+-- ---- a call that is refused, whatever it does otherwise
 
-pub read-refused : (a : declared.Answer) (b : Bool) (o : ℕ) (r : List ℕ) → answerMeant a ≡ refusal 13 → b ≡ noRegister o r → b ≡ true → panelOutcome a r [] [] ≡ panelReadOn o r
-unfolding panelReadOn
-read-refused a b o r ea e h =
+pub refused-call : (a : declared.Answer) (b : Bool) (o : ℕ) (r t p : List ℕ) (x : PanelOutcome) → answerMeant a ≡ refusal 13 → b ≡ noRegister o r → b ≡ true
+    → panelOutcome a r t p ≡ cond (noRegister o r) (panelLeft (refusal 13) r t p) x
+refused-call a b o r t p x ea e h =
     let q : noRegister o r ≡ true = sym e ∙ h in
-    ap (λ (x : Answer). panelLeft x r [] []) ea ∙ (rw q refl)
+    ap (λ (y : Answer). panelLeft y r t p) ea ∙ (rw q refl)
+
+-- ---- read, line and reset that are accepted
 
 pub value-told : (b : Bool) (o v : ℕ) (r : List ℕ) → b ≡ noRegister o r → b ≡ false → v ≡ valueRead o r → panelLeft (valueGiven v) r [] [] ≡ panelReadOn o r
 unfolding panelReadOn
 value-told b o v r e h d = let q : noRegister o r ≡ false = sym e ∙ h in ap (λ x. panelLeft (valueGiven x) r [] []) d ∙ (rw q refl)
 
-pub line-refused : (a : declared.Answer) (b : Bool) (r : List ℕ) → answerMeant a ≡ refusal 13 → b ≡ noRegister 0 r → b ≡ true → panelOutcome a r [] [] ≡ panelLineOn r
-unfolding panelLineOn
-line-refused a b r ea e h =
-    let q : noRegister 0 r ≡ true = sym e ∙ h in
-    ap (λ (x : Answer). panelLeft x r [] []) ea ∙ (rw q refl)
-
 pub line-told : (b : Bool) (v : ℕ) (r : List ℕ) → b ≡ noRegister 0 r → b ≡ false → v ≡ lineOf (getD r 2 0) (getD r 3 0) → panelLeft (valueGiven v) r [] [] ≡ panelLineOn r
 unfolding panelLineOn
 line-told b v r e h d = let q : noRegister 0 r ≡ false = sym e ∙ h in ap (λ x. panelLeft (valueGiven x) r [] []) d ∙ (rw q refl)
-
-pub reset-refused : (a : declared.Answer) (b : Bool) (r : List ℕ) → answerMeant a ≡ refusal 13 → b ≡ noRegister 0 r → b ≡ true → panelOutcome a r [] [] ≡ panelResetOn r
-unfolding panelResetOn
-reset-refused a b r ea e h =
-    let q : noRegister 0 r ≡ true = sym e ∙ h in
-    ap (λ (x : Answer). panelLeft x r [] []) ea ∙ (rw q refl)
 
 pub reset-done : (a : declared.Answer) (b : Bool) (r r′ : List ℕ) → answerMeant a ≡ noCounts → b ≡ noRegister 0 r → b ≡ false → r′ ≡ resetValues → panelOutcome a r′ [] [] ≡ panelResetOn r
 unfolding panelResetOn

@@ -21,6 +21,11 @@ register-there o r h =
     let m = or-right-false (not (eqb (length r) 16)) (ltb 15 o) h in
     (eqb-true (length r) 16 (not-false (eqb (length r) 16) n), omega (arith, ltb-false 15 o m))
 
+-- of sixteen registers the offset decides
+pub offset-told : (o : ℕ) (r : List ℕ) → length r ≡ 16 → noRegister o r ≡ ltb 15 o
+unfolding noRegister
+offset-told o r l = rw (eq-eqb (length r) 16 l) refl
+
 -- ---- the table, at every offset at once, by computing
 
 unfoldable bitsAt : ℕ → ℕ

@@ -1,12 +1,14 @@
 -- `panel::line` meets its contract. Assumes nothing.
 use native.Mathlib.Omega.{arith}
 use borrow.Author.Needs.{needs}
-use Rattle.panel.proofs.RegisterCases.{line-refused, line-told, sixteen}
+use Rattle.panel.proofs.RegisterCases.{line-told, refused-call, sixteen}
 use Rattle.panel.proofs.line.Statement.{statement}
 use Rattle.panel.proofs.line.Tie as tie
+use Rattle.tables.specs.Panel.{panelLineOn}
 
 returns : tie.Need-returns
-returns c = line-refused _ _ _ (c .counts-0 .ensures) (c .before .before .no-register .ensures) (c .before .if1 .taken)
+unfolding panelLineOn
+returns c = refused-call _ _ _ _ _ _ _ (c .counts-0 .ensures) (c .before .before .no-register .ensures) (c .before .if1 .taken)
 
 shared-slice-read-line-of : tie.Need-shared-slice-read-line-of
 shared-slice-read-line-of c = omega (arith, sixteen _ _ _ (c .before .before .no-register .ensures) (c .before .if1 .left) .0)

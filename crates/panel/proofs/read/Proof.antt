@@ -1,11 +1,13 @@
 -- `panel::read` meets its contract. Assumes nothing.
 use borrow.Author.Needs.{needs}
-use Rattle.panel.proofs.RegisterCases.{read-refused, sixteen, value-told}
+use Rattle.panel.proofs.RegisterCases.{refused-call, sixteen, value-told}
 use Rattle.panel.proofs.read.Statement.{statement}
 use Rattle.panel.proofs.read.Tie as tie
+use Rattle.tables.specs.Panel.{panelReadOn}
 
 returns : tie.Need-returns
-returns c = read-refused _ _ _ _ (c .counts-0 .ensures) (c .before .before .no-register .ensures) (c .before .if1 .taken)
+unfolding panelReadOn
+returns c = refused-call _ _ _ _ _ _ _ (c .counts-0 .ensures) (c .before .before .no-register .ensures) (c .before .if1 .taken)
 
 value-read-requires : tie.Need-value-read-requires
 value-read-requires c κs = sixteen _ _ _ (c .before .no-register .ensures) (c .if1 .left)

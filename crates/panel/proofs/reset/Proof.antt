@@ -1,11 +1,13 @@
 -- `panel::reset` meets its contract. Assumes nothing.
 use borrow.Author.Needs.{needs}
-use Rattle.panel.proofs.RegisterCases.{reset-done, reset-refused, sixteen}
+use Rattle.panel.proofs.RegisterCases.{refused-call, reset-done, sixteen}
 use Rattle.panel.proofs.reset.Statement.{statement}
 use Rattle.panel.proofs.reset.Tie as tie
+use Rattle.tables.specs.Panel.{panelResetOn}
 
 returns : tie.Need-returns
-returns c = reset-refused _ _ _ (c .counts-0 .ensures) (c .before .before .no-register .ensures) (c .before .if1 .taken)
+unfolding panelResetOn
+returns c = refused-call _ _ _ _ _ _ _ (c .counts-0 .ensures) (c .before .before .no-register .ensures) (c .before .if1 .taken)
 
 reset-all-requires : tie.Need-reset-all-requires
 reset-all-requires c κs = sixteen _ _ _ (c .before .before .no-register .ensures) (c .before .if1 .left) .0

@@ -1,12 +1,14 @@
 -- `panel::write` meets its contract. Assumes nothing.
 use borrow.Author.Needs.{needs}
-use Rattle.panel.proofs.CommandCases.{entered-length, write-command, write-entered, write-refused}
-use Rattle.panel.proofs.RegisterCases.{sixteen}
+use Rattle.panel.proofs.CommandCases.{entered-length, write-command, write-entered}
+use Rattle.panel.proofs.RegisterCases.{refused-call, sixteen}
 use Rattle.panel.proofs.write.Statement.{statement}
 use Rattle.panel.proofs.write.Tie as tie
+use Rattle.tables.specs.Panel.{panelWriteOn}
 
 returns : tie.Need-returns
-returns c = write-refused _ _ _ _ _ _ _ (c .counts-0 .ensures) (c .before .before .no-register .ensures) (c .before .if1 .taken)
+unfolding panelWriteOn
+returns c = refused-call _ _ _ _ _ _ _ (c .counts-0 .ensures) (c .before .before .no-register .ensures) (c .before .if1 .taken)
 
 enter-requires : tie.Need-enter-requires
 enter-requires c κs = let i = c .before in sixteen _ _ _ (i .before .no-register .ensures) (i .if1 .left)
