@@ -98,6 +98,17 @@ unfolding count
 count-not zero f = refl
 count-not (suc n) f = test? (f n) (λ e. rw e (omega (arith, count-not n f))) (λ e. rw e (omega (arith, count-not n f)))
 
+-- where each that passed still passes: those, and the ones that pass newly
+pub count-new : (n : ℕ) (f g : ℕ → Bool) → ((x : ℕ) → f x ≡ true → g x ≡ true) → count n g ≡ count n f + count n (λ x. g x && not (f x))
+unfolding count
+count-new zero f g h = refl
+count-new (suc n) f g h =
+    let r = count-new n f g h in
+    test? (f n) (λ a. rw (a, h n a) (omega arith)) (λ a. test? (g n) (λ b. rw (a, b) (omega arith)) (λ b. rw (a, b) (omega arith)))
+
+pub count-new-none : (n : ℕ) (f : ℕ → Bool) → count n (λ x. f x && not (f x)) ≡ 0
+count-new-none n f = count-none n _ (λ x l. test? (f x) (λ e. rw e) (λ e. rw e))
+
 pub all-at : (n : ℕ) (f : ℕ → Bool) → all n f ≡ true → (x : ℕ) → x < n → f x ≡ true
 unfolding all
 all-at zero f h x l = absurd (omega arith)

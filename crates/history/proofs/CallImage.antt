@@ -1,6 +1,6 @@
 -- A call on the image of a store in order is the call on the store. Assumes nothing.
 use mathlib.Core.Bool.{Bool, true}
-use mathlib.Core.List.{List, _∷_, []}
+use mathlib.Core.List.{List, []}
 use mathlib.Core.Option.{some}
 use mathlib.Core.Path.{ap, ap₂, refl, subst, sym, _∙_, _≡_}
 use Prim.Native.Nat.{_%_, _*_, _/_, suc, zero, ℕ, _≤_}
@@ -10,10 +10,11 @@ use borrow.Author.Tests.{le-leb}
 use Rattle.history.proofs.Image.{image-formed, image-length, image-store, imageOf}
 use Rattle.history.specs.Demand3.{MarksRightly}
 use Rattle.history.specs.Image.{after, gave, storeIn}
+use Rattle.rules.proofs.Whole.Accepted.{accepted-number}
 use Rattle.rules.proofs.Whole.Order.{InOrder, order-step}
 use Rattle.rules.proofs.Whole.OrderMarks.{step-marks}
 use Rattle.rules.specs.Agreement.{bufferAfter, bufferOf, front, storeGive, tallyIn}
-use Rattle.rules.specs.Calls.{Store, accepted, blankMemory, readInto, resultOf, step, tablesOf, viewOf, worked}
+use Rattle.rules.specs.Calls.{Store, accepted, blankMemory, readInto, resultOf, step, tablesOf, viewOf}
 use Rattle.rules.specs.Marking.{BecomesMarked}
 use Rattle.rules.specs.Numbers.{Call, Look, View, bytesAsked, create, delete, format, lookOf, make, noneAsked, numberOf, read, refusal, remove, sizeAsked, tellFree, tellSize, truncate, write}
 use Rattle.rules.specs.State.{isMarked}
@@ -22,7 +23,7 @@ use Rattle.tables.proofs.PackWords.{length-pack}
 use Rattle.tables.specs.Calls.{Outcome, acceptedOn, bufferIn, callOn, formatLengths, freshOf, lookedAt, outcomeOf, repacked, storeOf, viewOn}
 use Rattle.tables.specs.Layout.{tableBytes}
 
-lengths-of : (B : ℕ) → 1 ≤ B → B ≤ 4096 → formatLengths tableBytes (B * 512) ≡ true
+pub lengths-of : (B : ℕ) → 1 ≤ B → B ≤ 4096 → formatLengths tableBytes (B * 512) ≡ true
 unfolding formatLengths
 lengths-of B l m =
     let q : B * 512 % 512 ≡ 0 = omega arith in
@@ -81,21 +82,6 @@ module _ (B : ℕ) (least : 1 ≤ B) (most : B ≤ 4096) (r : Store real) (o : I
   refused-buffer (sizeAsked s f) n = refl
   refused-buffer noneAsked n = refl
 
-  -- an accepted call gives the number 0
-  accepted-number : (c : Call) → accepted real (blankMemory B) c r .answer .number ≡ 0
-  unfolding accepted worked
-  accepted-number format = refl
-  accepted-number (create s f) = refl
-  accepted-number (write g s f off []) = refl
-  accepted-number (write g s f off (x ∷ bs)) = refl
-  accepted-number (read s f off buffer) = refl
-  accepted-number (truncate s f n) = refl
-  accepted-number (delete s f) = refl
-  accepted-number (make s c w) = refl
-  accepted-number (remove s) = refl
-  accepted-number (tellSize s f) = refl
-  accepted-number tellFree = refl
-
   images-as : (n : ℕ) (c : Call) → outcomeOf n c (imageOf r .tables) (imageOf r .pages) ≡ record {
     answer = resultOf real n (blankMemory B) c r .answer;
     tables = imageOf (resultOf real n (blankMemory B) c r .store) .tables;
@@ -103,7 +89,7 @@ module _ (B : ℕ) (least : 1 ≤ B) (most : B ≤ 4096) (r : Store real) (o : I
     buffer = bufferAfter c (resultOf real n (blankMemory B) c r .answer .number) r;
   }
   unfolding outcomeOf resultOf
-  images-as zero c = rw (accepted-number c) (accepted-image c)
+  images-as zero c = rw (accepted-number (blankMemory B) c r) (accepted-image c)
   images-as (suc n) c = ap (lookedAt (refusal (suc n)) (imageOf r .tables) (imageOf r .pages)) (refused-buffer (lookOf c) n)
 
   -- A CALL on the image is the call on the store

@@ -5,6 +5,7 @@ use Rattle.history.proofs.Formed.{formed-after, formed-marks}
 use Rattle.history.proofs.FromReset.{from-reset}
 use Rattle.history.proofs.Others.{others}
 use Rattle.history.proofs.Panel.{counts}
+use Rattle.history.proofs.Room.{room}
 use Rattle.history.specs.Claims.{Claims}
 use Rattle.rules.proofs.Whole.Rows.{rows-hold}
 use Rattle.tables.proofs.BlocksAlone.{blocks-alone}
@@ -25,5 +26,6 @@ claims = record {
   panel-rows = panel-rows;
   from-reset = from-reset;
   counts = counts;
+  room = room;
   rows = rows-hold;
 }

@@ -43,7 +43,7 @@ pages-packed p n e =
     tab-of 0 (n * 512) _ p e (λ i h. let q : i / 512 * 512 + i % 512 ≡ i = omega arith in rw (lt-ltb (i % 512) 512 (omega arith)) (ap (λ j. getD p j 0) (sym q)))
 
 module _ (t p : List ℕ) (h : wellFormed t (length p) ≡ true) where
-  formed : FormedStore t p
+  pub formed : FormedStore t p
   formed = formed-store t p h
 
   pub order-of : InOrder (unpack t .blocks) (storeOf t p)

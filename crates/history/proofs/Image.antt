@@ -13,7 +13,7 @@ use Rattle.base.specs.Tabulate.{getD-tab, length-tab}
 use Rattle.history.specs.Image.{Image}
 use Rattle.rules.proofs.Tree.SetsOk.{SetsOk, first-used, next-used, parent-below, used-below}
 use Rattle.rules.proofs.Formed.Shape.{FileFits}
-use Rattle.rules.proofs.Whole.Order.{InOrder, order-blocks, order-sets, order-state}
+use Rattle.rules.proofs.Whole.Order.{InOrder, no-bit, order-blocks, order-sets, order-state}
 use Rattle.rules.specs.Calls.{Store, tablesOf, treeIn}
 use Rattle.rules.specs.State.{Entry, File, absentFile, hole, isAbsent, noSet, stored, unmapped}
 use Rattle.rules.specs.Storage.{PageData, real}
@@ -103,11 +103,7 @@ module _ (B : ℕ) (most : B ≤ 4096) (r : Store real) (o : InOrder B r) where
   block-in (stored b) h = h b refl
 
   bit-out : (b : ℕ) → 4096 ≤ b → r .memory .bits b ≡ false
-  bit-out b h = test? (r .memory .bits b)
-      (λ e. let n = o .kept .blocks-ok .only b e in
-      let u = o .kept .blocks-ok .used (n .file) (n .set) (n .page) b (n .names) in
-      absurd (omega (arith, u .below, o .kept .blocks)))
-      (λ e. e)
+  bit-out b h = no-bit B r o b (omega arith)
 
   image-fits : Fits (tablesOf r)
   image-fits = record {

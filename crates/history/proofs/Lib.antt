@@ -6,4 +6,6 @@ pub mod Formed
 pub mod Demand3
 pub mod Others
 pub mod FromReset
+pub mod RoomExamples
+pub mod Room
 pub mod Claims

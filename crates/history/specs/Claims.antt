@@ -8,6 +8,7 @@ use Rattle.history.specs.Events.{Event, eventsOn, listedAll, runsAll}
 use Rattle.history.specs.Image.{Held, Image}
 use Rattle.history.specs.Others.{OthersClaim}
 use Rattle.history.specs.Panel.{CountsClaim, FromResetClaim}
+use Rattle.history.specs.Room.{RoomClaim}
 use Rattle.packing.specs.Words.{Bytes}
 use Rattle.rules.specs.Numbers.{Call}
 use Rattle.rules.specs.Rows.{RowsClaim}
@@ -38,4 +39,6 @@ pub record Claims : Type 0 where
   pub panel-rows : PanelRowsClaim
   pub from-reset : FromResetClaim
   pub counts : CountsClaim
+  -- document 02, Ask 7: how much room a write can take
+  pub room : RoomClaim
   pub rows : RowsClaim

@@ -7,3 +7,4 @@ pub mod Blocks
 pub mod Tally
 pub mod Marking
 pub mod Whole
+pub mod Room

@@ -49,7 +49,7 @@ module _ (ta : Tally) (f s taken : ℕ) (x : Turn) (z : TallyFile) (m : ℕ) whe
   unfolding tallyLeaves
   leaves-there y n = ap (λ (g : TallyFiles). g y) (upd-same (ta .files) f _) ∙ upd-other (x .files) s z y n
 
-  leaves-other : (g : ℕ) → (f ≡ g → ⊥) → tallyLeaves ta f s taken x z m .tally .files g ≡ ta .files g
+  pub leaves-other : (g : ℕ) → (f ≡ g → ⊥) → tallyLeaves ta f s taken x z m .tally .files g ≡ ta .files g
   unfolding tallyLeaves
   leaves-other g n = upd-other (ta .files) f _ g n
 

@@ -8,7 +8,7 @@ use native.Mathlib.Nat.{add-zero, zero-add}
 use native.Mathlib.Omega.{arith}
 use lib.Dec.{eqb}
 use lib.ListN.{length}
-use Rattle.base.specs.Count.{count, count-none, count-same}
+use Rattle.base.specs.Count.{count, count-new, count-new-none, count-none, count-same}
 use Rattle.base.specs.Logic.{and-false, and-left, and-right, test?}
 use Rattle.rules.proofs.Marking.Marking.{finds-none, findsNone, marked-down, turn-test}
 use Rattle.rules.proofs.Marking.MarkingCalls.{last-marks, settle-marks, truncate-cases, turnsStart}
@@ -21,20 +21,13 @@ use Rattle.rules.specs.Numbers.{delete, truncate, write}
 use Rattle.rules.specs.State.{Tree, hole, isMarked, isStored, isUnmapped, live, setCount, stored, unmapped}
 use Rattle.rules.specs.Tally.{Kind, Tally, TallyFile, TallyFiles, Turn, childPage, childTurn, holdsByte, isExtra, kindAt, markedWith, neededCopy, partPage, takenOver, tallyCall, tallyCut, tallyDelete, tallyGive, tallyGrow, tallyLeaves, tallySize, tallyTold, tallyTurns, tallyWrite, truncateTouches}
 
--- numbers that pass one test or another, none both; and those that pass the one and not the other
+-- numbers that pass one test or another, none both
 count-or : (n : ℕ) (f g : ℕ → Bool) → ((y : ℕ) → f y ≡ true → g y ≡ true → ⊥) → count n (λ y. f y || g y) ≡ count n f + count n g
 unfolding count
 count-or zero f g h = refl
 count-or (suc n) f g h =
     let r = count-or n f g h in
     test? (f n) (λ a. test? (g n) (λ b. absurd (h n a b)) (λ b. rw (a, b) (omega arith))) (λ a. test? (g n) (λ b. rw (a, b) (omega arith)) (λ b. rw (a, b) (omega arith)))
-
-count-new : (n : ℕ) (f g : ℕ → Bool) → ((y : ℕ) → f y ≡ true → g y ≡ true) → count n g ≡ count n f + count n (λ y. g y && not (f y))
-unfolding count
-count-new zero f g h = refl
-count-new (suc n) f g h =
-    let r = count-new n f g h in
-    test? (f n) (λ a. rw (a, h n a) (omega arith)) (λ a. test? (g n) (λ b. rw (a, b) (omega arith)) (λ b. rw (a, b) (omega arith)))
 
 count-if : (n : ℕ) (b : Bool) (f : ℕ → Bool) → count n (λ y. b && f y) ≡ cond b (count n f) 0
 count-if n true f = refl
@@ -94,11 +87,7 @@ module _ (t : Tree) (proper : ProperTree t) (shallow : (x : ℕ) → t .level x 
 
 -- A CHANGING CALL
 newly-none : (fs : TallyFiles) → newlyMarked fs fs ≡ 0
-newly-none fs = count-none setCount _ (λ y l. go (isMarked (fs y .state)))
-  where
-    go : (b : Bool) → (b && not b) ≡ false
-    go true = refl
-    go false = refl
+newly-none fs = count-new-none setCount (λ y. isMarked (fs y .state))
 
 new-same : (a b was : Bool) → (was ≡ false → a ≡ b) → (a && not was) ≡ (b && not was)
 new-same a b true h = and-false a ∙ sym (and-false b)

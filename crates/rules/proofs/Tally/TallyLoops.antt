@@ -7,6 +7,7 @@ use Prim.Native.Nat.{_%_, _+_, _-_, _/_, _<_, min, suc, zero, ℕ, _≤_}
 use native.Mathlib.Nat.{add-zero, zero-add}
 use native.Mathlib.Omega.{arith}
 use lib.Dec.{eqb, leb, ltb}
+use lib.ListN.{length}
 use borrow.Author.Tests.{eq-eqb, le-leb, lt-leb, lt-ltb, ltb-false, ltb-true, ne-eqb}
 use Rattle.base.specs.Count.{count, sum}
 use Rattle.base.specs.Logic.{and-both, and-false, and-left, and-right, and-true, same?, test?}
@@ -44,6 +45,11 @@ module _ {W : Type 0} (g : ℕ → W → W) where
   unfolding each from
   from-last zero a w = let e : a + 0 ≡ a = omega arith in rw e
   from-last (suc n) a w = let e : suc a + n ≡ a + suc n = omega arith in from-last n (suc a) (g a w) ∙ rw e
+
+pub from-length : (n a : ℕ) → length (from a n) ≡ n
+unfolding from
+from-length zero a = refl
+from-length (suc n) a = rw (from-length n (suc a))
 
 pub page-inv : {W : Type 0} (f : ℕ → W → W) (I : W → Type 0) (n : ℕ) → ((p : ℕ) (w : W) → p < n → I w → I (f p w)) → (w : W) → I w → I (eachPage f n w)
 unfolding eachPage
@@ -154,6 +160,12 @@ pub count-same-in : (ps : List ℕ) (h k : ℕ → Bool) → ((p : ℕ) → List
 unfolding countIn
 count-same-in [] h k e = refl
 count-same-in (p ∷ ps) h k e = rw (e p (List·Memᴰ·head refl), count-same-in ps h k (λ q m. e q (List·Memᴰ·tail m)))
+
+-- of a list at most all pass
+pub count-most : (ps : List ℕ) (h : ℕ → Bool) → countIn ps h ≤ length ps
+unfolding countIn
+count-most [] h = omega arith
+count-most (p ∷ ps) h = let l = count-most ps h in test? (h p) (λ e. rw e (omega arith)) (λ e. rw e (omega arith))
 
 -- another test that says the same
 pages-same : {ps : List ℕ} {f g : ℕ → Bool} → PagesOf ps f → ((p : ℕ) → g p ≡ f p) → PagesOf ps g

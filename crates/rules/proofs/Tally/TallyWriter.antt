@@ -67,13 +67,14 @@ pub record Quiet (g : Turn → Turn) : Type 0 where
 pub nothing-quiet : Quiet (λ x. x)
 nothing-quiet = record { state = λ x y. refl; marks = λ x. refl }
 
+-- no state of a file changes between x and z, and nothing is marked
+abbrev pub SameStates : Turn → Turn → Type 0
+SameStates x z = ((y : ℕ) → z .files y .state ≡ x .files y .state) × (z .marks ≡ x .marks)
+
 -- THE TURNS AT EXTRA PAGES are such
 module _ (t : Tree) (s : ℕ) where
-  abbrev SameStates : Turn → Turn → Type 0
-  SameStates x z = ((y : ℕ) → z .files y .state ≡ x .files y .state) × (z .marks ≡ x .marks)
-
   -- with a block free, or at a hole
-  turn-quiet : (k : Kind) (p c : ℕ) (x : Turn) → (isStored k && eqb (x .free) 0) ≡ false → SameStates x (childPage t k p c x)
+  pub turn-quiet : (k : Kind) (p c : ℕ) (x : Turn) → (isStored k && eqb (x .free) 0) ≡ false → SameStates x (childPage t k p c x)
   unfolding childPage neededCopy tallyKind
   turn-quiet unmapped p c x h = (λ y. refl, refl)
   turn-quiet hole p c x h = (λ y. upd-keeps (λ (z : TallyFile). z .state) (x .files) c _ refl y, refl)

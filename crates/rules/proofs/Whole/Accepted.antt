@@ -2,15 +2,17 @@
 use mathlib.Core.Bool.{_&&_, Bool, false, not, true, true≢false}
 use mathlib.Core.List.{List, _∷_, []}
 use mathlib.Core.Path.{refl, sym, _≡_}
-use Prim.Native.Nat.{_+_, _<_, suc, ℕ, _≤_}
+use Prim.Native.Nat.{_+_, _<_, suc, zero, ℕ, _≤_}
 use native.Mathlib.Omega.{arith}
 use lib.Dec.{ltb}
 use lib.ListN.{length}
 use borrow.Author.Tests.{eqb-false, le-ltb, leb-false, lt-ltb, ltb-false, ltb-true, not-false}
 use Rattle.base.specs.Logic.{and-left, and-right, or-left-false, or-right-false}
 use Rattle.rules.proofs.Steps.States.{live-of, live-present, live-unmarked}
-use Rattle.rules.specs.Numbers.{View, conditions, create, delete, endOver, fileAbsent, fileMarked, isNil, lowest, make, needOver, noSuchFile, noSuchSet, notFormed, numberOf, read, readOnly, remove, tellSize, truncate, write}
+use Rattle.rules.specs.Calls.{Store, accepted, resultOf, step, viewOf, worked}
+use Rattle.rules.specs.Numbers.{Call, View, conditions, create, delete, endOver, fileAbsent, fileMarked, format, isNil, lowest, make, needOver, noSuchFile, noSuchSet, notFormed, numberOf, read, readOnly, remove, tellFree, tellSize, truncate, write}
 use Rattle.rules.specs.State.{isAbsent, live}
+use Rattle.rules.specs.Storage.{Memory, real}
 
 -- the first condition does not apply, nor does one of the others
 pass : (b : Bool) (n : ℕ) (xs : List (Bool × ℕ)) → lowest ((b, suc n) ∷ xs) ≡ 0 → (b ≡ false) × (lowest xs ≡ 0)
@@ -178,3 +180,27 @@ module _ (v : View) where
         le-ltb 32768 (off + length bs) (w .end-in),
         le-ltb (v .free) (v .writeNeed s f off (length bs)) (w .room),
       )
+
+-- an accepted call gives the number 0
+pub accepted-number : (m : Memory) (c : Call) (r : Store real) → accepted real m c r .answer .number ≡ 0
+unfolding accepted worked
+accepted-number m format r = refl
+accepted-number m (create s f) r = refl
+accepted-number m (write g s f off []) r = refl
+accepted-number m (write g s f off (x ∷ bs)) r = refl
+accepted-number m (read s f off buffer) r = refl
+accepted-number m (truncate s f n) r = refl
+accepted-number m (delete s f) r = refl
+accepted-number m (make s c w) r = refl
+accepted-number m (remove s) r = refl
+accepted-number m (tellSize s f) r = refl
+accepted-number m tellFree r = refl
+
+-- so the number that a call gives is that of the table
+pub number-given : (m : Memory) (c : Call) (r : Store real) → step real m c r .answer .number ≡ numberOf (viewOf real true true r) c
+unfolding step resultOf
+number-given m c r = go (numberOf (viewOf real true true r) c)
+  where
+    go : (n : ℕ) → resultOf real n m c r .answer .number ≡ n
+    go zero = accepted-number m c r
+    go (suc n) = refl

@@ -1,9 +1,9 @@
 -- A STORE IN ORDER: blocks, sets and files as well-formed tables have them, whatever calls made them. One call keeps it, and goes with the tally that the store shows. Assumes nothing.
-use mathlib.Core.Bool.{true}
+use mathlib.Core.Bool.{false, true}
 use mathlib.Core.Path.{ap, refl, subst, sym, _∙_, _≡_}
 use Prim.Native.Nat.{suc, zero, ℕ, _≤_}
 use native.Mathlib.Omega.{arith}
-use Rattle.base.specs.Logic.{and-both}
+use Rattle.base.specs.Logic.{and-both, test?}
 use Rattle.rules.proofs.Blocks.RealCalls.{Stands, kept-format, step-same}
 use Rattle.rules.proofs.Blocks.RealSim.{pagesSeen}
 use Rattle.rules.proofs.Blocks.RealStore.{RealKept}
@@ -115,8 +115,16 @@ module _ (B : ℕ) (some : 1 ≤ B) (r : Store real) (o : InOrder B r) (c : Call
     pub answer-tally : step real (blankMemory B) c r .answer ≡ bothStep B c pl ta .answer
     answer-tally = sym (count-tally .answer ∙ model-count .answer ∙ real-model .answer)
 
--- the rules of well formed
 module _ (B : ℕ) (r : Store real) (o : InOrder B r) where
+  -- the bitmap has no one past the blocks
+  pub no-bit : (b : ℕ) → B ≤ b → r .memory .bits b ≡ false
+  no-bit b h = test? (r .memory .bits b)
+      (λ e. let n = o .kept .blocks-ok .only b e in
+      let u = o .kept .blocks-ok .used (n .file) (n .set) (n .page) b (n .names) in
+      absurd (omega (arith, u .below, o .kept .blocks)))
+      (λ e. e)
+
+  -- the rules of well formed
   pub order-blocks : B ≤ 4096 → blocksFormed (tablesOf r) ≡ true
   order-blocks most =
       let e = o .kept .blocks in

@@ -27,12 +27,16 @@ kind-of g unmapped = refl
 kind-of g hole = refl
 kind-of g (stored b) = refl
 
-shown-tallies : (r : Store real) → Tallies (countOf (modelOf r)) (tallyIn r)
+pub shown-tallies : (r : Store real) → Tallies (countOf (modelOf r)) (tallyIn r)
 shown-tallies r = record {
   tree = refl;
   files = λ f i s. record { state = r .files f s .state; size = r .files f s .size; map = λ p. kind-of (r .memory .pages) (r .files f s .map p) i };
   free = refl;
 }
+
+-- a plain store of which only the sets are looked at
+abbrev pub onlySets : Store real → Plain
+onlySets r = record { tree = treeIn real r; files = λ f s. none }
 
 -- an accepted call gives the number 0 on the tally
 tally-number : (blocks : ℕ) (c : Call) (ta : Tally) → tallyCall blocks c ta .answer .number ≡ 0
@@ -50,9 +54,8 @@ tally-number blocks (tellSize s f) ta = refl
 tally-number blocks tellFree ta = refl
 
 module _ (B : ℕ) (least : 1 ≤ B) (r : Store real) (o : InOrder B r) where
-  -- only the sets of the plain store are looked at
   abbrev pl : Plain
-  pl = record { tree = treeIn real r; files = λ f s. none }
+  pl = onlySets r
 
   marks-as : (n : ℕ) (c : Call) (f s : ℕ) → isMarked (r .files f s .state) ≡ false →
       (isMarked (bothAs n B c pl (tallyIn r) .tally .files f s .state) ≡ true) ↔ ((bothAs n B c pl (tallyIn r) .answer .number ≡ 0) × BecomesMarked (tallyIn r) c f s)

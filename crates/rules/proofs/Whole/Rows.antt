@@ -19,9 +19,9 @@ use Rattle.rules.specs.State.{chain, childrenOf, live}
 use Rattle.rules.specs.Storage.{freeBlocks, overlay, takeBlock, zeroFrom}
 
 -- the definitions that are computed
-unfoldable rules : Unit {0}
+unfoldable pub computed : Unit {0}
 unfolding rows groupRows scattered lastAnswer readLooks sumIn looks looksUp step resultOf accepted numberOf lowest conditions formatted created made removed worked writeFile truncateFile truncateAs deleteFile deleteAs eraseFile change settle settleFile settleAs each reserve reserveAs takeOwn takeBlock firstFree searchFrom freeBlocks count countIn giveAll givePage hand handOver partPages extraPages give supply mark copy enter enterAs resize dropPage freeEntry freeMap pageOf ownNeed truncateNeed touched cutPages keptPages droppedPages from resolve sizeByReading walk needs dependent someUnmapped dependsOn reaches markDown markFile holes putEntry overlay zeroFrom upd appendSet linkLast linkBehind unlinkSet rootAlone childrenOf chain
-rules = tt
+computed = tt
 
 -- M1 for any write that ends at 32,768: whatever the store, with room enough it is accepted
 any-length : (v : View) (g s f off : ℕ) (bs : List ℕ) → v .formed ≡ true → s < 8 → v .tree .used s ≡ true → f < 16 → v .tree .writeable s ≡ true
@@ -31,7 +31,7 @@ any-length v g s f off bs formed low used file wr al end room =
 
 -- THEOREM
 pub rows-hold : RowsClaim
-unfolding rules
+unfolding computed
 rows-hold = record {
   table = (refl, (refl, (refl, (refl, (refl, (refl, (refl, (refl, (refl, (refl, (refl, (refl, (refl, (refl, (refl, tt)))))))))))))));
   groups = (refl, (refl, (refl, (refl, (refl, (refl, (refl, (refl, (refl, (refl, (refl, (refl, (refl, (refl, (refl, (refl, (refl, (refl, (refl, (refl, (refl, (refl, (refl, (refl, (refl, (refl, (refl, (refl, (refl, (refl, (refl, (refl, (refl, (refl, tt))))))))))))))))))))))))))))))))));
