@@ -1,7 +1,8 @@
 //! Runs scripts. After every call it compares: with plain store and tally
 //! ("Demand 3"), with what the panel's registers must show since a reset, with
 //! the promise that a refused call changes nothing, and with another
-//! implementation where there is one, byte for byte.
+//! implementation where there is one, byte for byte. Every write is judged by the
+//! room it takes.
 
 use crate::accesses::{Access, Accesses};
 use crate::agree::agree;
@@ -11,6 +12,7 @@ use crate::judge::{format_blocks, Beside};
 use crate::lent::{check_unchanged, Buffer::*, Buffers, Guarded};
 use crate::panel::REGISTERS;
 use crate::panel_judge::{self, Since};
+use crate::room::{self, Judged, Taken};
 use crate::state::{Kind, State};
 use crate::store;
 use crate::writes::{ByKind, Written};
@@ -104,6 +106,8 @@ pub struct Counts {
     pub panel_linked: Accesses,
     /// Panel accesses compared with what is demanded of them.
     pub panel_judged: Accesses,
+    /// Writes judged by the room they take.
+    pub room: Judged,
     pub damages: BTreeMap<Rule, u64>,
     pub flips: u64,
 }
@@ -344,6 +348,8 @@ impl Bench {
         Ok(())
     }
 
+    /// Compares with the other implementation, if it has the call. A write is judged
+    /// by its room as this implementation did it, else as the oracle did.
     fn compare_other(
         &mut self,
         call: &Call,
@@ -353,14 +359,46 @@ impl Bench {
         other: &mut dyn Other,
     ) -> Result<(), String> {
         if !other.has(call.index()) {
-            return Ok(());
+            return self.judge_room(call, answer, before, &after[Tables], false);
         }
         let mut lent = Guarded::new(before);
         let found = other.run(call.index(), &call.numbers(), lent.lend());
         self.counts.linked[call.index()] += 1;
-        compare_answers(answer, &found)?;
-        self.counts.reads_linked.count(call, answer);
-        lent.compare(call.row(), answer.number == 0, after)
+        let room = self.judge_room(call, &found, before, lent.found(Tables), true);
+        let same = compare_answers(answer, &found).and_then(|_| {
+            self.counts.reads_linked.count(call, answer);
+            lent.compare(call.row(), answer.number == 0, after)
+        });
+        both(same, room)
+    }
+
+    /// Ask 7 of document 02, "How much room a write can take", for one write.
+    fn judge_room(
+        &mut self,
+        call: &Call,
+        answer: &Answer,
+        before: &Buffers,
+        tables_after: &[u8],
+        is_linked: bool,
+    ) -> Result<(), String> {
+        let Some(write) = call.as_write() else { return Ok(()) };
+        let judgement = room::judge(&Taken {
+            write,
+            answer: *answer,
+            before: &before[Tables],
+            after: tables_after,
+            pages_length: before[Pages].len(),
+        });
+        self.counts.room.count(&judgement, is_linked);
+        judgement.outcome()
+    }
+}
+
+/// Two outcomes as one, with the texts of both.
+fn both(one: Result<(), String>, other: Result<(), String>) -> Result<(), String> {
+    match (one, other) {
+        (Err(text), Err(more)) => Err(format!("{text}; {more}")),
+        (one, other) => one.and(other),
     }
 }
 

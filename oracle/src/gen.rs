@@ -9,6 +9,7 @@ use crate::check::{check_state, rules_broken, Rule};
 use crate::judge::Beside;
 use crate::maps::Resolved;
 use crate::rng::Rng;
+use crate::room::{self, Taken};
 use crate::state::*;
 use crate::store;
 use crate::tally::{Condition, TallyKind};
@@ -63,8 +64,8 @@ pub struct Style {
 pub struct Start {
     pub style: Style,
     pub calls: Vec<Call>,
-    /// Then calls that drop pages of a family or write them by groups, or reads
-    /// through a line, if one was made.
+    /// Then calls that drop pages of a family or write them, or reads through a
+    /// line, if one was made.
     pub then: Vec<Call>,
 }
 
@@ -124,6 +125,14 @@ pub fn start(rng: &mut Rng, block_count: usize) -> Start {
 pub fn group_start(rng: &mut Rng, block_count: usize) -> Start {
     let style = style(rng, block_count);
     let (more, then) = group_calls(rng, &style);
+    begin(style, more, then)
+}
+
+/// A format, and calls that make a family for the room that a write can take (see
+/// `room_calls`).
+pub fn room_start(rng: &mut Rng, block_count: usize) -> Start {
+    let style = style(rng, block_count);
+    let (more, then) = room_calls(rng, &style);
     begin(style, more, then)
 }
 
@@ -415,6 +424,102 @@ fn write_near(rng: &mut Rng, scene: &mut Scene, set: u32) {
     let index = rng.pick(&[WRITE, WRITE, WRITE_NARROW, WRITE_GROUPS, WRITE_GROUPS]);
     let target = (set, scene.file);
     scene.add(write_call(rng, index, target, offset, length));
+}
+
+/// Calls that make a family for the room that a write can take: stored pages that
+/// follow each other, mostly read by a set through its parent, and up to seven
+/// children of this set, most of which need them. So a write of k of these pages, c
+/// being the children, can take k own blocks and k x c copies. The blocks free are as
+/// many, or some more or fewer. Then this write, accepted or not, and some others.
+fn room_calls(rng: &mut Rng, style: &Style) -> (Vec<Call>, Vec<Call>) {
+    let mut scene = Scene::new(rng, style);
+    scene.pages = run_of_pages(rng, style.block_count);
+    let set = make_reader(rng, &mut scene);
+    let children = rng.pick(&[0, 1, 1, 1, 2, 2, 3, 4, 6, 7]);
+    if rng.percent(70) {
+        for _ in 0..children {
+            scene.make(set, rng.pick(&[0, 1]));
+        }
+    } else {
+        make_children(rng, &mut scene, set, children);
+    }
+    let write = write_of_run(rng, &scene, set);
+    let leave = room_to_leave(rng, &scene, &write);
+    fill_up(rng, &mut scene, leave);
+    let calls = std::mem::take(&mut scene.calls);
+    scene.beside.step(&write);
+    scene.calls.push(write);
+    for _ in 0..rng.below(3) {
+        write_near(rng, &mut scene, set);
+    }
+    (calls, scene.calls)
+}
+
+/// One to eight pages that follow each other, mostly a whole group of as many; in a
+/// small store not many.
+fn run_of_pages(rng: &mut Rng, block_count: usize) -> Vec<usize> {
+    let count = rng.pick(&[1, 2, 2, 3, 4, 5, 8, 8, 8]).min(block_count.div_ceil(4));
+    let groups = PAGES / count;
+    let first = match rng.below(10) {
+        0..=7 => count * rng.pick(&[0, 0, 0, 1, groups - 1]),
+        _ => rng.pick(&[1, 6, 30, 59]),
+    };
+    (first..PAGES.min(first + count)).collect()
+}
+
+/// The pages are written in set 0, and sets are made one from the other; gives the
+/// last of them, mostly not set 0. Sometimes it has a page of its own.
+fn make_reader(rng: &mut Rng, scene: &mut Scene) -> u32 {
+    let mut set = 0;
+    scene.add(Call::Create { set, file: scene.file });
+    for page in scene.pages.clone() {
+        scene.write(rng, set, (page * PAGE_BYTES) as u32);
+    }
+    for _ in 0..rng.pick(&[0, 0, 1, 1, 1, 1, 1, 2, 3, 4]) {
+        set = scene.make(set, 1).expect("an unused number");
+    }
+    if rng.percent(20) {
+        scene.write_a_page(rng, set);
+    }
+    set
+}
+
+/// A write of any kind of some of the scene's pages, mostly few of them; often they are
+/// its whole groups.
+fn write_of_run(rng: &mut Rng, scene: &Scene, set: u32) -> Call {
+    let run = scene.pages.len();
+    let first = rng.below(run);
+    let count = rng.pick(&[1, 1, 2, 3, run]).min(run - first);
+    let within = rng.pick(&[0, 0, 100, 511]);
+    let in_last = if count == 1 { PAGE_BYTES - within } else { PAGE_BYTES };
+    // The bytes end in the last of the pages, somewhere.
+    let end = (scene.pages[first + count - 1] + 1) * PAGE_BYTES - rng.below(in_last);
+    let start = scene.pages[first] * PAGE_BYTES + within;
+    let (target, offset, length) = ((set, scene.file), start as u32, end - start);
+    let index = rng.pick(&[WRITE, WRITE, WRITE_NARROW, WRITE_NARROW, WRITE_GROUPS, WRITE_GROUPS]);
+    let mut call = write_call(rng, index, target, offset, length);
+    if let Call::WriteGroups { group, .. } = &mut call {
+        *group = Group::new(run).filter(|_| rng.percent(80)).unwrap_or(*group);
+    }
+    call
+}
+
+/// How many blocks are left free for a write: often just as many as it can take for
+/// its touched pages or for all pages of its groups, or as it needs itself, and often
+/// one less.
+fn room_to_leave(rng: &mut Rng, scene: &Scene, write: &Call) -> usize {
+    let write = write.as_write().expect("a write");
+    let first = write.offset as usize / PAGE_BYTES;
+    let last = (write.offset as usize + write.length - 1) / PAGE_BYTES;
+    let touched = last + 1 - first;
+    let groups = first / write.group..last / write.group + 1;
+    let in_groups = PAGES.min(groups.end * write.group) - groups.start * write.group;
+    let children = scene.beside.tally.set(write.set as usize).children.len();
+    let enough = touched + touched * children;
+    let with_others = touched + in_groups * children;
+    let wanted = rng.pick(&[enough, enough, with_others, with_others, with_others, touched]);
+    let more = rng.pick(&[0, 0, 0, 0, 1, 2]);
+    (wanted + more).saturating_sub(rng.pick(&[0, 0, 0, 0, 1, 1, 1, 2]))
 }
 
 /// A page up to seven pages before or after this one.
@@ -964,9 +1069,20 @@ impl Made {
         }
         let write = call.as_write();
         let mut bytes = write.map_or(Vec::new(), |write| data_bytes(write.length, write.seed));
+        let before = self.tables.clone();
         let lent = Lent::store(&mut self.tables, &mut self.pages, &mut bytes);
-        store::run(call.index(), &call.numbers(), lent);
+        let answer = store::run(call.index(), &call.numbers(), lent);
+        if let Some(write) = write {
+            self.judge_room(write, answer, &before);
+        }
         self.calls.push(call);
+    }
+
+    /// A write is judged by the room it takes here too.
+    fn judge_room(&self, write: AnyWrite, answer: Answer, before: &[u8]) {
+        let (after, pages_length) = (self.tables.as_slice(), self.pages.len());
+        let judgement = room::judge(&Taken { write, answer, before, after, pages_length });
+        judgement.outcome().unwrap_or_else(|text| panic!("{write:?}: {text}"));
     }
 }
 

@@ -47,6 +47,19 @@ pub fn group_history(
     history(&mut rng, start, 10, other, counts, watch)
 }
 
+/// A short history that begins with a family for the room that a write can take.
+pub fn room_history(
+    seed: u64,
+    other: &mut dyn Other,
+    counts: &mut Counts,
+    watch: Watch,
+) -> Result<(), Failure> {
+    let mut rng = Rng::new(seed);
+    let block_count = if rng.percent(80) { 64 } else { rng.between(2, 24) };
+    let start = gen::room_start(&mut rng, block_count);
+    history(&mut rng, start, 5, other, counts, watch)
+}
+
 /// A short history that begins with calls made through the panel.
 pub fn panel_history(
     seed: u64,
@@ -126,7 +139,8 @@ fn turn(rng: &mut Rng, style: &gen::Style, beside: &Beside, other: &dyn Other) -
 }
 
 /// A random history with a random store size and length. Now and then it begins
-/// with calls made through the panel, seldom with a delete of many copies.
+/// with calls made through the panel or with a family for the room that a write can
+/// take, seldom with a delete of many copies.
 pub fn any_history(
     seed: u64,
     other: &mut dyn Other,
@@ -142,6 +156,7 @@ pub fn any_history(
             many_copies_history(seed, free, other, counts, watch)
         }
         2..=9 => panel_history(seed, other, counts, watch),
+        10..=17 => room_history(seed, other, counts, watch),
         _ => random_history(seed, block_count, length, other, counts, watch),
     }
 }

@@ -162,7 +162,8 @@ impl Guarded {
         }))
     }
 
-    fn found(&self, buffer: Buffer) -> &[u8] {
+    /// What a call left in a buffer.
+    pub fn found(&self, buffer: Buffer) -> &[u8] {
         let bytes = &self.all[buffer as usize];
         &bytes[inside(bytes)]
     }

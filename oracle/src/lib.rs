@@ -1,11 +1,11 @@
 //! A second implementation of the sweep store, written from document 01, Asks 1
-//! to 6 of document 02 and their readings (docs/DECISIONS.md) alone. Clarity
+//! to 7 of document 02 and their readings (docs/DECISIONS.md) alone. Clarity
 //! goes before speed: each call unpacks the tables to a plain state, does the
 //! paper's steps, and packs.
 //!
 //! The words are those of the documents: set, file, page, block, own, virgin,
 //! marked, hole, stored, unmapped, next start, needs, hand over, group, extra
-//! page, register, command, cause, mask, line.
+//! page, register, command, cause, mask, line, room.
 
 // The remainder is what document 01 speaks of.
 #![allow(clippy::manual_is_multiple_of)]
@@ -27,6 +27,7 @@ pub mod panel;
 pub mod panel_judge;
 pub mod plain;
 pub mod rng;
+pub mod room;
 pub mod rows;
 pub mod session;
 pub mod state;

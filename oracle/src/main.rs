@@ -1,6 +1,6 @@
 //! The program `oracle`: checks a table file, runs a session, shows the rows,
-//! and runs random histories against plain store and tally, and what the panel's
-//! registers must show.
+//! and runs random histories against plain store and tally, what the panel's
+//! registers must show, and the room that a write can take.
 
 use oracle::bench::{report, Counts, NoOther};
 use oracle::call::*;
@@ -21,7 +21,8 @@ usage:
   oracle session                   the session program, from standard input to output
   oracle rows                      rows M1 to M12 and their results
   oracle random SEED COUNT         COUNT random histories against plain store and tally,
-                                   and what the panel's registers must show
+                                   what the panel's registers must show, and the room
+                                   that a write can take
   oracle help                      this text
 exit status: 0 well, 1 a broken table, row or history, 2 bad usage
 ";
@@ -125,6 +126,7 @@ fn show_counts(counts: &Counts) {
     println!("copies {}, files marked {}", counts.copies, counts.files_marked);
     println!("blocks handed over {} in {} calls", counts.handed_over, counts.handing_calls);
     println!("accepted reads compared {}", counts.reads_beside);
+    println!("writes judged by the room they take {}", counts.room);
     writes::show("plain store and tally", &counts.writes_beside);
     accesses::show("what is demanded", &counts.panel_judged);
 }

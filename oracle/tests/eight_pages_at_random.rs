@@ -9,6 +9,7 @@ use oracle::call::*;
 use oracle::gen::GROUP_SIZES;
 use oracle::maps::block_range;
 use oracle::rng::Rng;
+use oracle::room::{self, Taken};
 use oracle::state::*;
 use oracle::store;
 use oracle::writes::{ByKind, Written, CASES};
@@ -30,12 +31,17 @@ struct Done {
 }
 
 /// The write of a call, done by groups of this size on the store that the call
-/// found.
+/// found. It is judged by the room it takes.
 fn done(seen: &Seen, write: &AnyWrite, group: usize) -> Done {
-    let (mut tables, mut pages) = (seen.before.packed(), seen.pages_before.to_vec());
+    let before = seen.before.packed();
+    let (mut tables, mut pages) = (before.clone(), seen.pages_before.to_vec());
     let data = data_bytes(write.length, write.seed);
     let AnyWrite { set, file, offset, .. } = *write;
     let answer = store::write_groups(&mut tables, &mut pages, group, set, file, offset, &data);
+    let write = AnyWrite { group, ..*write };
+    let (before, after, pages_length) = (before.as_slice(), tables.as_slice(), pages.len());
+    let judgement = room::judge(&Taken { write, answer, before, after, pages_length });
+    assert_eq!(judgement.outcome(), Ok(()), "{write:?}");
     Done { answer, state: State::unpack(&tables), tables, pages }
 }
 

@@ -1,5 +1,6 @@
-//! The program `compare`: runs the C library libsweep.a beside the oracle and
-//! compares answers and every byte. The library is linked when SWEEP_LIB (its
+//! The program `compare`: runs the C library libsweep.a beside the oracle,
+//! compares answers and every byte, and judges the library's writes by the room
+//! they take. The library is linked when SWEEP_LIB (its
 //! folder) is set at build time; SWEEP_CALLS says which calls it has.
 
 use std::process::ExitCode;
@@ -102,7 +103,7 @@ mod linked {
     use oracle::check::{rules_broken, Rule};
     use oracle::gen::{self, panel, Made, Style};
     use oracle::history::{any_history, group_history, many_copies_history, panel_history};
-    use oracle::history::{Failure, Watch};
+    use oracle::history::{room_history, Failure, Watch};
     use oracle::judge::Beside;
     use oracle::rng::Rng;
     use oracle::state::State;
@@ -118,7 +119,7 @@ usage:
                                      library that ends the program
   compare replay FILE                run the script in FILE
   compare help                       this text
-exit status: 0 no difference, 1 a difference, 2 bad usage
+exit status: 0 no difference, 1 a difference or a case that no write met, 2 bad usage
 ";
 
     /// Each elementary rule is broken at least so many times.
@@ -128,6 +129,7 @@ exit status: 0 no difference, 1 a difference, 2 bad usage
     const SCATTERED: usize = 200;
     const GROUP_HISTORIES: usize = 100;
     const PANEL_HISTORIES: usize = 100;
+    const ROOM_HISTORIES: usize = 300;
     const STATES: usize = 60;
     const LENGTH_ROUNDS: usize = 15;
 
@@ -210,6 +212,7 @@ exit status: 0 no difference, 1 a difference, 2 bad usage
             histories: 0,
             group_histories: 0,
             panel_histories: 0,
+            room_histories: 0,
             many_copies: 0,
             twists: 0,
             by_first_part: [0; 2],
@@ -217,14 +220,7 @@ exit status: 0 no difference, 1 a difference, 2 bad usage
         };
         let outcome = run.all(Duration::from_secs(seconds));
         run.show();
-        match outcome {
-            Ok(()) => println!("compare: ok"),
-            Err(ref failure) => {
-                println!("compare: DIFFERENCE: {}", failure.text);
-                println!("shortened: {}", report(&failure.script, &mut Sweep));
-            }
-        }
-        Ok(outcome.is_ok())
+        Ok(run.ends_well(outcome))
     }
 
     struct Run {
@@ -235,6 +231,7 @@ exit status: 0 no difference, 1 a difference, 2 bad usage
         histories: u64,
         group_histories: u64,
         panel_histories: u64,
+        room_histories: u64,
         /// Histories in which a panel command can make more than 255 copies.
         many_copies: u64,
         twists: u64,
@@ -287,6 +284,9 @@ exit status: 0 no difference, 1 a difference, 2 bad usage
             for _ in 0..GROUP_HISTORIES {
                 self.group_history()?;
             }
+            for _ in 0..ROOM_HISTORIES {
+                self.room_history()?;
+            }
             Ok(())
         }
 
@@ -295,6 +295,7 @@ exit status: 0 no difference, 1 a difference, 2 bad usage
             self.history()?;
             self.group_history()?;
             self.panel_history()?;
+            self.room_history()?;
             for _ in 0..5 {
                 self.damaged(None)?;
                 self.twisted()?;
@@ -337,6 +338,12 @@ exit status: 0 no difference, 1 a difference, 2 bad usage
         fn panel_history(&mut self) -> Outcome {
             self.panel_histories += 1;
             self.one_history(&panel_history)
+        }
+
+        /// A short history with a family for the room that a write can take.
+        fn room_history(&mut self) -> Outcome {
+            self.room_histories += 1;
+            self.one_history(&room_history)
         }
 
         fn many_copies_history(&mut self, free: usize) -> Outcome {
@@ -553,8 +560,12 @@ exit status: 0 no difference, 1 a difference, 2 bad usage
             let counts = &self.counts;
             println!(
                 "histories {}, short ones with writes by groups {}, through the panel {}, \
-                with many copies {}",
-                self.histories, self.group_histories, self.panel_histories, self.many_copies
+                with many copies {}, for the room of a write {}",
+                self.histories,
+                self.group_histories,
+                self.panel_histories,
+                self.many_copies,
+                self.room_histories
             );
             println!("well-formed stores changed by hand {}", self.twists);
             for (index, name) in CALL_NAMES.iter().enumerate() {
@@ -576,9 +587,31 @@ exit status: 0 no difference, 1 a difference, 2 bad usage
             println!("damaged tables that the first part accepts {accepted}, refuses {refused}");
             println!("accepted reads compared with the library {}", counts.reads_linked);
             println!("accepted reads compared with plain store and tally {}", counts.reads_beside);
+            println!("writes judged by the room they take {}", counts.room);
             writes::show("the library", &counts.writes_linked);
             writes::show("plain store and tally", &counts.writes_beside);
             accesses::show("the library", &counts.panel_linked);
+        }
+
+        /// Says how the run ended: well, if there was no difference and some write met
+        /// each case of the room that a write can take.
+        fn ends_well(&self, outcome: Outcome) -> bool {
+            let unmet = self.counts.room.unmet();
+            match outcome {
+                Err(failure) => {
+                    println!("compare: DIFFERENCE: {}", failure.text);
+                    println!("shortened: {}", report(&failure.script, &mut Sweep));
+                    false
+                }
+                Ok(()) if !unmet.is_empty() => {
+                    println!("compare: NOT MET by any write: {}", unmet.join("; "));
+                    false
+                }
+                Ok(()) => {
+                    println!("compare: ok");
+                    true
+                }
+            }
         }
     }
 

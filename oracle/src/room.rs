@@ -1,0 +1,401 @@
+//! How much room a write can take (Ask 7 of document 02): "Planners size a store by
+//! it." A write is judged from its arguments, its answer and the bytes of the tables
+//! before and after it: "State it of the counts and of the bitmap before and
+//! after." The bytes are read here anew, and no code of a write is used.
+//!
+//! In the comments k, p and c are the three numbers of `Room`.
+
+use crate::bits::field;
+use crate::call::*;
+use crate::check::is_well_formed;
+use std::fmt;
+use std::ops::Range;
+
+/// Where the parts of the tables begin, and how long their records are: "header, 4
+/// bytes", "bitmap, 512 bytes", "8 set records, 3 bytes each", "128 file records,
+/// 132 bytes each".
+const BITMAP: usize = 4;
+const SET_RECORDS: usize = 516;
+const SET_BYTES: usize = 3;
+const FILE_RECORDS: usize = 540;
+const FILE_BYTES: usize = 132;
+/// "State: ... 3 marked out of sync."
+const MARKED: u8 = 3;
+/// 8: "own need over the free blocks".
+const NO_ROOM: u32 = 8;
+/// In groups of eight at most seven pages stand before the first touched page in its
+/// group, and seven after the last.
+const OTHERS_BY_EIGHTS: usize = 14;
+
+/// A write that was done, with the bytes of the tables before and after it.
+#[derive(Clone, Copy)]
+pub struct Taken<'a> {
+    pub write: AnyWrite,
+    pub answer: Answer,
+    pub before: &'a [u8],
+    pub after: &'a [u8],
+    /// The length of the pages buffer, which well-formed tables agree with.
+    pub pages_length: usize,
+}
+
+/// What a write finds, by its arguments and the tables before it.
+#[derive(Clone, Copy, PartialEq, Eq, Debug)]
+pub struct Room {
+    /// k: the touched pages, 0 for a write of length 0.
+    pub touched: usize,
+    /// p: the pages of the touched groups.
+    pub in_groups: usize,
+    /// c: all children of the set, whether or not they have the file.
+    pub children: usize,
+    /// The free blocks.
+    pub free: usize,
+}
+
+impl Room {
+    /// Reads it off well-formed tables.
+    pub fn of(write: &AnyWrite, tables: &[u8]) -> Room {
+        let touched = touched_pages(write);
+        Room {
+            touched: touched.len(),
+            in_groups: pages_of_groups(&touched, write.group),
+            children: children(tables, write.set),
+            free: free_blocks(tables),
+        }
+    }
+
+    /// "k + k x c blocks".
+    pub fn enough(&self) -> usize {
+        self.touched + self.touched * self.children
+    }
+
+    pub fn has_enough(&self) -> bool {
+        self.free >= self.enough()
+    }
+}
+
+/// A write touches "the pages that hold its bytes".
+fn touched_pages(write: &AnyWrite) -> Range<usize> {
+    let (start, end) = (write.offset as usize, write.offset as usize + write.length);
+    if write.length == 0 {
+        0..0
+    } else {
+        start / PAGE_BYTES..(end - 1) / PAGE_BYTES + 1
+    }
+}
+
+/// How many of the 64 pages are in a group with a touched page: "any group size from
+/// 1 to 64, the last group ending at page 63".
+fn pages_of_groups(touched: &Range<usize>, group: usize) -> usize {
+    let is_touched = |page: usize| touched.clone().any(|other| other / group == page / group);
+    (0..PAGES).filter(|page| is_touched(*page)).count()
+}
+
+/// The used sets whose parent this set is: "used 1, writeable 1, level 3, parent 4".
+/// In well-formed tables they are those of its chain.
+fn children(tables: &[u8], set: u32) -> usize {
+    let is_child = |other: &usize| {
+        let record = &tables[SET_RECORDS + SET_BYTES * other..][..SET_BYTES];
+        field(record, 0, 1) == 1 && field(record, 5, 4) == set
+    };
+    (0..SETS).filter(is_child).count()
+}
+
+/// "bit b is 1 when block b is used"; the most significant bit of a byte is first.
+fn is_used(tables: &[u8], block: usize) -> bool {
+    tables[BITMAP + block / 8] >> (7 - block % 8) & 1 == 1
+}
+
+/// The blocks below B, the "block count B 13", whose bit is 0.
+fn free_blocks(tables: &[u8]) -> usize {
+    let block_count = (field(tables, 0, 13) as usize).min(MOST_BLOCKS);
+    (0..block_count).filter(|block| !is_used(tables, *block)).count()
+}
+
+/// Whether the file with this record is marked; its place is "set x 16 + file", and
+/// its state the first two bits.
+fn is_marked(tables: &[u8], place: usize) -> bool {
+    tables[FILE_RECORDS + FILE_BYTES * place] >> 6 == MARKED
+}
+
+/// What a write can break.
+#[derive(Clone, Copy, PartialEq, Eq, PartialOrd, Ord, Debug)]
+pub enum Bound {
+    /// First count <= k.
+    OwnBlocks,
+    /// Second count <= p x c.
+    Copies,
+    /// First + second <= free before.
+    FreeBefore,
+    /// Narrow: first + second <= k + k x c.
+    Narrow,
+    /// By eights: first + second <= k + (k + 14) x c.
+    ByEights,
+    /// Free after + first + second = free before.
+    FreeAfter,
+    /// No bit that was 1 is 0 after.
+    BitsStay,
+    /// Exactly first + second bits are newly 1.
+    BitsNewlyOne,
+    /// With k + k x c free: the number is not 8.
+    NoRefusal,
+    /// With k + k x c free: the third count is 0.
+    ThirdCount,
+    /// With k + k x c free: no file becomes marked.
+    NoMark,
+    /// A write that is refused, or finds tables that are not well formed, has counts
+    /// of 0.
+    NoCounts,
+    /// And it leaves the tables as they were.
+    SameBytes,
+}
+
+impl Bound {
+    pub const ALL: [Bound; 13] = [
+        Bound::OwnBlocks,
+        Bound::Copies,
+        Bound::FreeBefore,
+        Bound::Narrow,
+        Bound::ByEights,
+        Bound::FreeAfter,
+        Bound::BitsStay,
+        Bound::BitsNewlyOne,
+        Bound::NoRefusal,
+        Bound::ThirdCount,
+        Bound::NoMark,
+        Bound::NoCounts,
+        Bound::SameBytes,
+    ];
+}
+
+/// A bound that was broken, in words and numbers.
+#[derive(Clone, PartialEq, Eq, Debug)]
+pub struct Broken {
+    pub bound: Bound,
+    pub text: String,
+}
+
+/// The bound, unless it holds.
+fn unless(holds: bool, bound: Bound, text: impl FnOnce() -> String) -> Option<Broken> {
+    (!holds).then(|| Broken { bound, text: text() })
+}
+
+/// What the judge says of a write.
+pub struct Judgement {
+    /// None where it is judged only that the write took nothing.
+    pub room: Option<Room>,
+    pub broken: Vec<Broken>,
+    /// Whether each of `CASES` was met.
+    pub cases: [bool; CASES.len()],
+}
+
+impl Judgement {
+    /// An error says every bound that was broken.
+    pub fn outcome(&self) -> Result<(), String> {
+        if self.broken.is_empty() {
+            return Ok(());
+        }
+        let texts: Vec<&str> = self.broken.iter().map(|broken| broken.text.as_str()).collect();
+        Err(format!("room: {}", texts.join("; ")))
+    }
+}
+
+/// Judges a write by all bounds.
+pub fn judge(taken: &Taken) -> Judgement {
+    let room = taken.room();
+    let mut broken = Vec::new();
+    match room {
+        Some(room) if taken.answer.number == 0 => {
+            broken.extend(taken.by_counts(&room));
+            broken.extend(taken.by_bitmap(&room));
+        }
+        _ => broken.extend(taken.took_nothing()),
+    }
+    if let Some(room) = room.filter(Room::has_enough) {
+        broken.extend(taken.with_enough(&room));
+    }
+    let cases = room.map_or([false; CASES.len()], |room| taken.cases(&room));
+    Judgement { room, broken, cases }
+}
+
+impl Taken<'_> {
+    /// The first and the second count.
+    fn counts(&self) -> (usize, usize) {
+        (self.answer.first as usize, self.answer.second as usize)
+    }
+
+    /// None for a write that is refused with another number than 8, and for tables
+    /// that are not well formed.
+    fn room(&self) -> Option<Room> {
+        let is_of_room = matches!(self.answer.number, 0 | NO_ROOM);
+        let formed = is_of_room && is_well_formed(self.before, self.pages_length);
+        formed.then(|| Room::of(&self.write, self.before))
+    }
+
+    /// The bounds of an accepted write's counts.
+    fn by_counts(&self, room: &Room) -> Vec<Broken> {
+        let Room { touched: k, in_groups: p, children: c, free } = *room;
+        let (first, second) = self.counts();
+        let total = first + second;
+        let is_narrow = self.write.group == NARROW_GROUP;
+        let by_eights = self.write.group == WRITE_GROUP;
+        let most = k + (k + OTHERS_BY_EIGHTS) * c;
+        let found = [
+            // Own blocks are taken for touched pages alone.
+            unless(first <= k, Bound::OwnBlocks, || {
+                format!("the first count is {first}, over the {k} touched pages")
+            }),
+            // "For a grouped write the copied pages are at most those of the touched
+            // groups, times c." Of a narrow write they are the touched pages.
+            unless(second <= p * c, Bound::Copies, || {
+                format!("the second count is {second}, over {p} pages of groups times {c} children")
+            }),
+            // "and never more than were free"
+            unless(total <= free, Bound::FreeBefore, || {
+                format!("{first} + {second} blocks taken are over the {free} that were free")
+            }),
+            // "An accepted narrow write of k touched pages in a set with c children
+            // takes at most k + k x c blocks".
+            unless(!is_narrow || total <= room.enough(), Bound::Narrow, || {
+                format!("{first} + {second} blocks taken narrowly are over {k} + {k} x {c}")
+            }),
+            unless(!by_eights || total <= most, Bound::ByEights, || {
+                format!("{first} + {second} blocks taken by eights are over {k} + ({k} + 14) x {c}")
+            }),
+        ];
+        found.into_iter().flatten().collect()
+    }
+
+    /// The same "of the bitmap before and after", all 4,096 bits of it.
+    fn by_bitmap(&self, room: &Room) -> Vec<Broken> {
+        let (first, second) = self.counts();
+        let (free, left) = (room.free, free_blocks(self.after));
+        let [before, after] =
+            [self.before, self.after].map(|tables| move |block: &usize| is_used(tables, *block));
+        let gone = (0..MOST_BLOCKS).find(|block| before(block) && !after(block));
+        let new = (0..MOST_BLOCKS).filter(|block| !before(block) && after(block)).count();
+        let found = [
+            unless(left + first + second == free, Bound::FreeAfter, || {
+                format!("{first} + {second} blocks taken of {free} free leave {left} free")
+            }),
+            unless(gone.is_none(), Bound::BitsStay, || {
+                format!("the bit of block {} was 1 and is 0", gone.unwrap_or_default())
+            }),
+            unless(new == first + second, Bound::BitsNewlyOne, || {
+                format!(
+                    "{new} bits are newly 1, and {first} + {second} blocks are said to be taken"
+                )
+            }),
+        ];
+        found.into_iter().flatten().collect()
+    }
+
+    /// "With k + k x c blocks free, neither kind marks a file or is refused with 8."
+    fn with_enough(&self, room: &Room) -> Vec<Broken> {
+        let Room { touched: k, children: c, free, .. } = *room;
+        let Answer { number, third, .. } = self.answer;
+        let though = || format!("though {free} blocks were free and {k} + {k} x {c} are enough");
+        let newly =
+            |place: &usize| !is_marked(self.before, *place) && is_marked(self.after, *place);
+        let marked = (0..SETS * FILES).find(newly);
+        let found = [
+            unless(number != NO_ROOM, Bound::NoRefusal, || format!("refused with 8, {}", though())),
+            unless(third == 0, Bound::ThirdCount, || {
+                format!("the third count is {third}, {}", though())
+            }),
+            unless(marked.is_none(), Bound::NoMark, || {
+                let place = marked.unwrap_or_default();
+                let (set, file) = (place / FILES, place % FILES);
+                format!("set {set} file {file} became marked, {}", though())
+            }),
+        ];
+        found.into_iter().flatten().collect()
+    }
+
+    /// "returned (counts 0, nothing changed)". On tables that are not well formed no
+    /// write may take anything, whatever it answers.
+    fn took_nothing(&self) -> Vec<Broken> {
+        let Answer { first, second, third, .. } = self.answer;
+        let length = self.before.len();
+        let differs = |at: &usize| self.before.get(*at) != self.after.get(*at);
+        let found = [
+            unless([first, second, third] == [0; 3], Bound::NoCounts, || {
+                format!("nothing may be taken, and the answer is {}", self.answer)
+            }),
+            unless(self.before == self.after, Bound::SameBytes, || {
+                let at = (0..length).find(differs).unwrap_or(length);
+                format!("nothing may be taken, and the tables changed at byte {at}")
+            }),
+        ];
+        found.into_iter().flatten().collect()
+    }
+
+    /// Whether each of `CASES` was met; a write without touched pages meets none.
+    fn cases(&self, room: &Room) -> [bool; CASES.len()] {
+        let Room { touched: k, in_groups: p, children: c, free } = *room;
+        let (first, second) = self.counts();
+        let (total, enough) = (first + second, room.enough());
+        let accepted = self.answer.number == 0;
+        let is_narrow = self.write.group == NARROW_GROUP;
+        let cases = [
+            room.has_enough(),
+            free == enough,
+            free + 1 == enough,
+            accepted && first == k,
+            accepted && is_narrow && c > 0 && total == enough,
+            accepted && p > k && c > 0 && second == p * c,
+            accepted && total > 0 && total == free,
+            free < enough && self.answer.third > 0,
+            free < enough && !accepted,
+            accepted && !is_narrow && total > enough,
+        ];
+        cases.map(|met| met && k > 0)
+    }
+}
+
+/// The cases that a write can meet, if it touches a page and is accepted or refused
+/// with 8.
+pub const CASES: [&str; 10] = [
+    "k + k x c blocks free or more",
+    "just k + k x c free",
+    "one less free",
+    "first = k",
+    "narrow, first + second = k + k x c, c > 0",
+    "by groups, second = p x c, p > k, c > 0",
+    "first + second = free, over 0",
+    "fewer than k + k x c free, a file marked",
+    "fewer than k + k x c free, refused with 8",
+    "by groups, first + second over k + k x c",
+];
+
+/// Writes that were judged.
+#[derive(Default, Clone, PartialEq, Eq, Debug)]
+pub struct Judged {
+    pub writes: u64,
+    /// Those that were judged by the answer and the bytes of another implementation.
+    pub linked: u64,
+    /// How often each of `CASES` was met.
+    pub met: [u64; CASES.len()],
+}
+
+impl Judged {
+    pub fn count(&mut self, judgement: &Judgement, is_linked: bool) {
+        self.writes += 1;
+        self.linked += u64::from(is_linked);
+        for (count, met) in self.met.iter_mut().zip(judgement.cases) {
+            *count += u64::from(met);
+        }
+    }
+
+    /// The cases that no write met.
+    pub fn unmet(&self) -> Vec<&'static str> {
+        let cases = CASES.iter().zip(self.met);
+        cases.filter(|(_, met)| *met == 0).map(|(case, _)| *case).collect()
+    }
+}
+
+impl fmt::Display for Judged {
+    fn fmt(&self, f: &mut fmt::Formatter) -> fmt::Result {
+        write!(f, "{}, of the library {}", self.writes, self.linked)?;
+        CASES.iter().zip(self.met).try_for_each(|(case, met)| write!(f, "; {case}: {met}"))
+    }
+}
