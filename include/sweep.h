@@ -84,12 +84,15 @@ sweep_answer sweep_create(uint8_t *tables, size_t tables_length, uint8_t *pages,
  * free for a copy, the child's file is marked. Then the other pages of each touched group of SWEEP_GROUP_PAGES pages go to the
  * children that still read them through this set, in the same way, but a copy is made only if a block is free: this marks nothing,
  * and later writes of those pages need no copy for these children. SWEEP_FULL does not see such extra copies.
+ * With k touched pages and c children of the set: it takes at most k own blocks and makes at most (k + 14) x c copies, together never
+ * more than were free; with k + k x c blocks free it is not refused with SWEEP_FULL and marks no file.
  * Counts: own blocks taken, copies with the extra ones, files newly marked. */
 sweep_answer sweep_write(uint8_t *tables, size_t tables_length, uint8_t *pages, size_t pages_length,
                          uint32_t set, uint32_t file, uint32_t offset, const uint8_t *data, size_t data_length);
 
 /* A narrow write: the same without the extra copies, so that no block is taken that this write does not need. (Only sweep_write goes
- * by groups.) Counts: own blocks taken, copies, files newly marked. */
+ * by groups.) With k touched pages and c children of the set it takes at most k + k x c blocks in all.
+ * Counts: own blocks taken, copies, files newly marked. */
 sweep_answer sweep_write_narrow(uint8_t *tables, size_t tables_length, uint8_t *pages, size_t pages_length,
                                 uint32_t set, uint32_t file, uint32_t offset, const uint8_t *data, size_t data_length);
 
