@@ -91,7 +91,8 @@ sweep_answer sweep_write(uint8_t *tables, size_t tables_length, uint8_t *pages, 
                          uint32_t set, uint32_t file, uint32_t offset, const uint8_t *data, size_t data_length);
 
 /* A narrow write: the same without the extra copies, so that no block is taken that this write does not need. (Only sweep_write goes
- * by groups.) With k touched pages and c children of the set it takes at most k + k x c blocks in all.
+ * by groups.) With k touched pages and c children of the set it takes at most k + k x c blocks in all, never more than were free; with
+ * k + k x c free it is not refused with SWEEP_FULL and marks no file.
  * Counts: own blocks taken, copies, files newly marked. */
 sweep_answer sweep_write_narrow(uint8_t *tables, size_t tables_length, uint8_t *pages, size_t pages_length,
                                 uint32_t set, uint32_t file, uint32_t offset, const uint8_t *data, size_t data_length);

@@ -34,43 +34,42 @@ pub fn random_history(
     history(&mut rng, start, length, other, counts, watch)
 }
 
-/// A short history that begins with a family for writes by groups.
-pub fn group_history(
-    seed: u64,
-    other: &mut dyn Other,
-    counts: &mut Counts,
-    watch: Watch,
-) -> Result<(), Failure> {
-    let mut rng = Rng::new(seed);
-    let block_count = if rng.percent(20) { 64 } else { rng.between(3, 16) };
-    let start = gen::group_start(&mut rng, block_count);
-    history(&mut rng, start, 10, other, counts, watch)
+/// What a short history begins with.
+#[derive(Clone, Copy, PartialEq, Eq, Debug)]
+pub enum Short {
+    /// A family for writes by groups.
+    Groups,
+    /// Calls made through the panel.
+    Panel,
+    /// A family for the room that a write can take.
+    Room,
 }
 
-/// A short history that begins with a family for the room that a write can take.
-pub fn room_history(
-    seed: u64,
-    other: &mut dyn Other,
-    counts: &mut Counts,
-    watch: Watch,
-) -> Result<(), Failure> {
-    let mut rng = Rng::new(seed);
-    let block_count = if rng.percent(80) { 64 } else { rng.between(2, 24) };
-    let start = gen::room_start(&mut rng, block_count);
-    history(&mut rng, start, 5, other, counts, watch)
+impl Short {
+    /// Of a hundred stores so many have 64 blocks, and the others have from so many to
+    /// so many; how the history begins; the turns after it.
+    fn form(self) -> (usize, (usize, usize), fn(&mut Rng, usize) -> Start, usize) {
+        match self {
+            Short::Groups => (20, (3, 16), gen::group_start, 10),
+            Short::Panel => (20, (1, 12), panel::panel_start, 10),
+            Short::Room => (80, (2, 24), gen::room_start, 5),
+        }
+    }
 }
 
-/// A short history that begins with calls made through the panel.
-pub fn panel_history(
+/// A short history that begins in this way.
+pub fn short_history(
+    short: Short,
     seed: u64,
     other: &mut dyn Other,
     counts: &mut Counts,
     watch: Watch,
 ) -> Result<(), Failure> {
+    let (large, (least, most), start, length) = short.form();
     let mut rng = Rng::new(seed);
-    let block_count = if rng.percent(20) { 64 } else { rng.between(1, 12) };
-    let start = panel::panel_start(&mut rng, block_count);
-    history(&mut rng, start, 10, other, counts, watch)
+    let block_count = if rng.percent(large) { 64 } else { rng.between(least, most) };
+    let start = start(&mut rng, block_count);
+    history(&mut rng, start, length, other, counts, watch)
 }
 
 /// A short history in which a delete through the panel can make more than 255
@@ -155,8 +154,8 @@ pub fn any_history(
             let free = rng.pick(&panel::LEFT_FREE);
             many_copies_history(seed, free, other, counts, watch)
         }
-        2..=9 => panel_history(seed, other, counts, watch),
-        10..=17 => room_history(seed, other, counts, watch),
+        2..=9 => short_history(Short::Panel, seed, other, counts, watch),
+        10..=17 => short_history(Short::Room, seed, other, counts, watch),
         _ => random_history(seed, block_count, length, other, counts, watch),
     }
 }

@@ -9,7 +9,7 @@ use oracle::bench::{Bench, Counts, NoOther};
 use oracle::call::*;
 use oracle::check::is_well_formed;
 use oracle::gen::{self, panel, Made, Start};
-use oracle::history::{many_copies_history, panel_history};
+use oracle::history::{many_copies_history, short_history, Short};
 use oracle::panel_judge;
 use oracle::rng::Rng;
 
@@ -247,7 +247,8 @@ fn histories_of_compare_meet_every_case() {
     let mut seeds = Rng::new(SEED);
     let mut counts = Counts::default();
     for _ in 0..100 {
-        let outcome = panel_history(seeds.word(), &mut NoOther, &mut counts, &mut |_| {});
+        let outcome =
+            short_history(Short::Panel, seeds.word(), &mut NoOther, &mut counts, &mut |_| {});
         assert!(outcome.is_ok(), "{}", outcome.err().unwrap().text);
     }
     for free in panel::LEFT_FREE {

@@ -10,7 +10,7 @@
 use oracle::bench::{Bench, Counts, NoOther};
 use oracle::call::*;
 use oracle::gen::{self, Start};
-use oracle::history::room_history;
+use oracle::history::{short_history, Short};
 use oracle::maps::Resolved;
 use oracle::rng::Rng;
 use oracle::room::{self, Judged, Judgement, Room, Taken, CASES};
@@ -310,7 +310,8 @@ fn histories_of_compare_meet_every_case() {
         let mut seeds = Rng::new(SEED ^ seed);
         let mut counts = Counts::default();
         for _ in 0..300 {
-            let outcome = room_history(seeds.word(), &mut NoOther, &mut counts, &mut |_| {});
+            let outcome =
+                short_history(Short::Room, seeds.word(), &mut NoOther, &mut counts, &mut |_| {});
             assert!(outcome.is_ok(), "{}", outcome.err().unwrap().text);
         }
         println!("{}", counts.room);

@@ -102,8 +102,8 @@ mod linked {
     use oracle::call::*;
     use oracle::check::{rules_broken, Rule};
     use oracle::gen::{self, panel, Made, Style};
-    use oracle::history::{any_history, group_history, many_copies_history, panel_history};
-    use oracle::history::{room_history, Failure, Watch};
+    use oracle::history::{any_history, many_copies_history, short_history};
+    use oracle::history::{Failure, Short, Watch};
     use oracle::judge::Beside;
     use oracle::rng::Rng;
     use oracle::state::State;
@@ -210,9 +210,7 @@ exit status: 0 no difference, 1 a difference or a case that no write met, 2 bad 
             counts: Counts::default(),
             states: Vec::new(),
             histories: 0,
-            group_histories: 0,
-            panel_histories: 0,
-            room_histories: 0,
+            short_histories: [0; 3],
             many_copies: 0,
             twists: 0,
             by_first_part: [0; 2],
@@ -229,9 +227,8 @@ exit status: 0 no difference, 1 a difference or a case that no write met, 2 bad 
         /// Well-formed states to damage.
         states: Vec<Made>,
         histories: u64,
-        group_histories: u64,
-        panel_histories: u64,
-        room_histories: u64,
+        /// In the order of `Short`.
+        short_histories: [u64; 3],
         /// Histories in which a panel command can make more than 255 copies.
         many_copies: u64,
         twists: u64,
@@ -263,7 +260,7 @@ exit status: 0 no difference, 1 a difference or a case that no write met, 2 bad 
                 self.wrong_registers()?;
             }
             for _ in 0..PANEL_HISTORIES {
-                self.panel_history()?;
+                self.short_history(Short::Panel)?;
             }
             for free in panel::LEFT_FREE {
                 self.many_copies_history(free)?;
@@ -282,10 +279,10 @@ exit status: 0 no difference, 1 a difference or a case that no write met, 2 bad 
                 self.scattered()?;
             }
             for _ in 0..GROUP_HISTORIES {
-                self.group_history()?;
+                self.short_history(Short::Groups)?;
             }
             for _ in 0..ROOM_HISTORIES {
-                self.room_history()?;
+                self.short_history(Short::Room)?;
             }
             Ok(())
         }
@@ -293,9 +290,9 @@ exit status: 0 no difference, 1 a difference or a case that no write met, 2 bad 
         /// Some more of everything.
         fn round(&mut self) -> Outcome {
             self.history()?;
-            self.group_history()?;
-            self.panel_history()?;
-            self.room_history()?;
+            for short in [Short::Groups, Short::Panel, Short::Room] {
+                self.short_history(short)?;
+            }
             for _ in 0..5 {
                 self.damaged(None)?;
                 self.twisted()?;
@@ -328,22 +325,12 @@ exit status: 0 no difference, 1 a difference or a case that no write met, 2 bad 
             self.one_history(&any_history)
         }
 
-        /// A short history with a family for writes by groups.
-        fn group_history(&mut self) -> Outcome {
-            self.group_histories += 1;
-            self.one_history(&group_history)
-        }
-
-        /// A short history with calls made through the panel.
-        fn panel_history(&mut self) -> Outcome {
-            self.panel_histories += 1;
-            self.one_history(&panel_history)
-        }
-
-        /// A short history with a family for the room that a write can take.
-        fn room_history(&mut self) -> Outcome {
-            self.room_histories += 1;
-            self.one_history(&room_history)
+        /// A short history that begins in this way.
+        fn short_history(&mut self, short: Short) -> Outcome {
+            self.short_histories[short as usize] += 1;
+            self.one_history(&|seed, other, counts, watch| {
+                short_history(short, seed, other, counts, watch)
+            })
         }
 
         fn many_copies_history(&mut self, free: usize) -> Outcome {
@@ -558,14 +545,11 @@ exit status: 0 no difference, 1 a difference or a case that no write met, 2 bad 
 
         fn show(&self) {
             let counts = &self.counts;
+            let [groups, panel, room] = self.short_histories;
             println!(
-                "histories {}, short ones with writes by groups {}, through the panel {}, \
-                with many copies {}, for the room of a write {}",
-                self.histories,
-                self.group_histories,
-                self.panel_histories,
-                self.many_copies,
-                self.room_histories
+                "histories {}, short ones with writes by groups {groups}, through the panel {panel}, \
+                with many copies {}, for the room of a write {room}",
+                self.histories, self.many_copies
             );
             println!("well-formed stores changed by hand {}", self.twists);
             for (index, name) in CALL_NAMES.iter().enumerate() {

@@ -9,7 +9,7 @@ use Rattle.base.specs.Logic.{same?, test?}
 use Rattle.base.specs.Update.{upd, upd-other, upd-same}
 use Rattle.rules.proofs.Steps.StepFour.{each-inv}
 use Rattle.rules.specs.Reading.{needs, resolve}
-use Rattle.rules.specs.Rules.{Work, change, copied, copy, dropPage, each, enter, enterAs, extra, extraPages, give, giveAll, givePage, handed, mark, pageOf, reserve, reserveAs, resize, settle, supply, takeOwn, touched, writeFile}
+use Rattle.rules.specs.Rules.{Giving, Work, change, copied, copy, dropPage, each, enter, enterAs, extra, extraPages, give, giveAll, givePage, handed, mark, pageOf, reserve, reserveAs, resize, settle, supply, takeOwn, touched, writeFile}
 use Rattle.rules.specs.State.{Entry, Tree, hole, stored, unmapped}
 use Rattle.rules.specs.Storage.{Memory, PageData, real, takeBlock}
 
@@ -53,13 +53,11 @@ module _ (t : Tree) (s b : ℕ) where
   page-stays : (must : Bool) (p : ℕ) (w : Work real) → Used w → Used (each (give real t must s p) (t .children s) w)
   page-stays must p w h = each-inv (give real t must s p) Used (t .children s) (λ c v m. give-stays must p c v) w h
 
-  copied-stays : (ps : List ℕ) (w : Work real) → Used w → Used (giveAll real t copied s ps w)
-  unfolding giveAll givePage
-  copied-stays ps w h = each-inv (givePage real t copied s) Used ps (λ p v m. page-stays true p v) w h
-
-  extra-stays : (ps : List ℕ) (w : Work real) → Used w → Used (giveAll real t extra s ps w)
-  unfolding giveAll givePage
-  extra-stays ps w h = each-inv (givePage real t extra s) Used ps (λ p v m. page-stays false p v) w h
+  -- all pages of a list, where each child has a turn at each
+  pages-stay : (how : Giving) (must : Bool) → ((p : ℕ) (w : Work real) → givePage real t how s p w ≡ each (give real t must s p) (t .children s) w)
+      → (ps : List ℕ) (w : Work real) → Used w → Used (giveAll real t how s ps w)
+  unfolding giveAll
+  pages-stay how must e ps w h = each-inv (givePage real t how s) Used ps (λ p v m i. rw (e p v) (page-stays must p v i)) w h
 
   -- step 5
   enter-stays : (lay : ℕ → PageData → PageData) (p : ℕ) (w : Work real) → Used w → Used (enter real t s lay p w)
@@ -82,7 +80,7 @@ module _ (t : Tree) (s b : ℕ) where
 
   -- A WRITE
   pub write-stays : (g off : ℕ) (bs : List ℕ) (w : Work real) → Used w → Used (writeFile real t g s off bs w)
-  unfolding writeFile change resize settle
+  unfolding writeFile change resize settle givePage
   write-stays g off bs w h =
       let ps : List ℕ = touched off (length bs) in
       let es : List ℕ = extraPages g off (length bs) in
@@ -93,6 +91,6 @@ module _ (t : Tree) (s b : ℕ) where
       let w₅ : Work real = each (enter real t s (real .over off bs)) ps w₄ in
       let h₁ : Used w₁ = each-inv (settle real t) Used (s ∷ t .children s) (λ c v m i. i) w h in
       let h₂ : Used w₂ = each-inv (reserve real t s) Used ps (λ p v m. reserve-stays p v) w₁ h₁ in
-      let h₃ : Used w₃ = subst Used (sym (handed-none (giveAll real t copied s ps w₂))) (copied-stays ps w₂ h₂) in
-      let h₅ : Used w₅ = each-inv (enter real t s (real .over off bs)) Used ps (λ p v m. enter-stays (real .over off bs) p v) w₄ (extra-stays es w₃ h₃) in
+      let h₃ : Used w₃ = subst Used (sym (handed-none (giveAll real t copied s ps w₂))) (pages-stay copied true (λ p v. refl) ps w₂ h₂) in
+      let h₅ : Used w₅ = each-inv (enter real t s (real .over off bs)) Used ps (λ p v m. enter-stays (real .over off bs) p v) w₄ (pages-stay extra false (λ p v. refl) es w₃ h₃) in
       subst Used (sym (drop-none w₅)) h₅
