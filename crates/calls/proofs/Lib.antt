@@ -4,3 +4,4 @@ pub mod ChangedRecords
 pub mod Told
 pub mod Checked
 pub mod WorkedOn
+pub mod TermCases

@@ -2,6 +2,8 @@
 pub mod answer;
 pub mod changes;
 pub mod checks;
+pub mod convert;
 pub mod format;
 pub mod looks;
 pub mod records;
+pub mod terms;

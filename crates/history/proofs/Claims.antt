@@ -1,4 +1,5 @@
 -- The claims. Assumes nothing.
+use Rattle.history.proofs.Conversion.{conversion, goes-on}
 use Rattle.history.proofs.Demand3.{demand3}
 use Rattle.history.proofs.Events.{listed-run}
 use Rattle.history.proofs.Formed.{formed-after, formed-marks}
@@ -6,7 +7,9 @@ use Rattle.history.proofs.FromReset.{from-reset}
 use Rattle.history.proofs.Others.{others}
 use Rattle.history.proofs.Panel.{counts}
 use Rattle.history.proofs.Room.{room}
+use Rattle.history.proofs.TermAside.{term-set}
 use Rattle.history.specs.Claims.{Claims}
+use Rattle.rules.proofs.Terms.Claims.{terms-claim}
 use Rattle.rules.proofs.Whole.Rows.{rows-hold}
 use Rattle.tables.proofs.BlocksAlone.{blocks-alone}
 use Rattle.tables.proofs.OneReading.{one-reading}
@@ -28,4 +31,8 @@ claims = record {
   counts = counts;
   room = room;
   rows = rows-hold;
+  terms = terms-claim;
+  term-set = term-set;
+  goes-on = goes-on;
+  conversion = conversion;
 }

@@ -8,9 +8,11 @@ use Rattle.history.proofs.CallImage.{after-image, gave-image, marks-ima
 use Rattle.history.proofs.Image.{image-store, imageOf}
 use Rattle.history.specs.Demand3.{MarksRightly}
 use Rattle.history.proofs.Panel.{afterAny, write-image}
-use Rattle.history.specs.Events.{Event, check, checkBlocks, eventOn, eventsOn, gaveAll, gaveBy, listOf, listed, listedAll, panelLine, panelRead, panelReset, panelWrite, runs, runsAll}
+use Rattle.history.specs.Events.{Event, check, checkBlocks, convert, current, eventOn, eventsOn, gaveAll, gaveBy, listOf, listed, listedAll, panelLine, panelRead, panelReset, panelWrite, runs, runsAll, setTerm}
 use Rattle.history.specs.Image.{Held, Image, after, gave, withImage}
+use Rattle.history.proofs.TermSet.{left}
 use Rattle.rules.proofs.Storages.CountCalls.{modelOf}
+use Rattle.rules.proofs.Storages.MapBlocks.{mapFiles}
 use Rattle.rules.proofs.Whole.Holds.{Holds, holds-quiet, holds-step}
 use Rattle.rules.proofs.Whole.HoldsMeans.{given-step}
 use Rattle.rules.proofs.Whole.HoldsRun.{both-append, given-append}
@@ -19,9 +21,10 @@ use Rattle.rules.specs.Agreement.{Given, bothGive, bothGiven, bothRun}
 use Rattle.rules.specs.Calls.{Store, blankMemory, step, treeIn}
 use Rattle.rules.specs.Numbers.{Call}
 use Rattle.rules.specs.Plain.{Plain}
-use Rattle.rules.specs.State.{isMarked}
+use Rattle.rules.specs.State.{Files, isMarked}
 use Rattle.rules.specs.Storage.{freeBlocks, real}
 use Rattle.rules.specs.Tally.{Both, Tally}
+use Rattle.tables.proofs.Widening.{convert-pages}
 
 -- a list of the ten alone runs these
 pub listed-run : (cs : List Call) (h : Held) → runsAll (listedAll cs) h ≡ cs
@@ -82,6 +85,11 @@ module _ (B : ℕ) (least : 1 ≤ B) (most : B ≤ 4096) where
     event-goes (panelRead offset) rs = look-goes
     event-goes (panelWrite offset value) rs = subst (Goes r (runs (panelWrite offset value) (heldOf r rs))) (sym (write-image offset value (heldOf r rs))) (run-goes _)
     event-goes panelLine rs = look-goes
+    event-goes (setTerm s y m d k) rs =
+        let x = left B most r o s y m d k in
+        subst (Goes r none) (sym (x .image)) (quiet-goes (x .store) (x .order) (λ f c. ap (λ (g : ℕ → Files ℕ). g f c .state) (x .files)))
+    event-goes (current s day) rs = look-goes
+    event-goes (convert old second) rs = subst (λ (p : List ℕ). Goes r none (record { tables = imageOf r .tables; pages = p })) (sym (convert-pages old (imageOf r .pages) second)) look-goes
 
   -- a store that agrees with plain store and tally goes to the image of one that does, the call o being run, if any
   pub record Kept (pl : Plain) (ta : Tally) (o : Option Call) (m : Image) : Type 0 where
@@ -116,6 +124,13 @@ module _ (B : ℕ) (least : 1 ≤ B) (most : B ≤ 4096) where
     event-kept (panelRead offset) rs = look-kept
     event-kept (panelWrite offset value) rs = subst (Kept pl ta (runs (panelWrite offset value) (heldOf r rs))) (sym (write-image offset value (heldOf r rs))) (run-kept _)
     event-kept panelLine rs = look-kept
+    event-kept (setTerm s y m d k) rs =
+        let x = left B most r (v .order) s y m d k in
+        subst (Kept pl ta none) (sym (x .image))
+        (quiet-kept (x .store) (x .order) (x .tree) (λ f i. mapFiles (x .memory i .pages) (x .files i f)) (ap freeBlocks (x .memory)))
+    event-kept (current s day) rs = look-kept
+    event-kept (convert old second) rs =
+        subst (λ (p : List ℕ). Kept pl ta none (record { tables = imageOf r .tables; pages = p })) (sym (convert-pages old (imageOf r .pages) second)) look-kept
 
     -- what the call that is run gives is what plain store and tally give
     pub call-given : (c : Call) → gave c (imageOf r) ≡ bothGive B c pl ta

@@ -5,10 +5,10 @@ use mathlib.Core.Path.{ap, ap₂, fun-ext, refl, subst, sym, _∙_, _≡_}
 use Prim.Native.Nat.{_%_, _*_, _+_, _/_, _<_, ℕ, _≤_}
 use native.Mathlib.Nat.{mul-le-mul-right}
 use native.Mathlib.Omega.{arith}
-use lib.Dec.{ltb}
+use lib.Dec.{leb, ltb}
 use lib.ListN.{List·getD-eq-default, getD, length}
-use borrow.Author.Tests.{eq-eqb, ltb-false, ltb-true}
-use Rattle.base.specs.Logic.{same?, test?}
+use borrow.Author.Tests.{eq-eqb, leb-true, ltb-false, ltb-true}
+use Rattle.base.specs.Logic.{and-left, and-right, same?, test?}
 use Rattle.base.specs.Tabulate.{getD-tab, length-tab}
 use Rattle.history.specs.Image.{Image}
 use Rattle.rules.proofs.Tree.SetsOk.{SetsOk, first-used, next-used, parent-below, used-below}
@@ -17,6 +17,7 @@ use Rattle.rules.proofs.Whole.Order.{InOrder, no-bit, order-blocks, order-sets,
 use Rattle.rules.specs.Calls.{Store, tablesOf, treeIn}
 use Rattle.rules.specs.State.{Entry, File, absentFile, hole, isAbsent, noSet, stored, unmapped}
 use Rattle.rules.specs.Storage.{PageData, real}
+use Rattle.rules.specs.WellFormed.{termFormed}
 use Rattle.tables.proofs.PackUnpack.{pack-packed, unpack-pack}
 use Rattle.tables.proofs.PackWords.{length-pack}
 use Rattle.tables.proofs.PackedTables.{fields-formed, kinds-formed}
@@ -30,7 +31,7 @@ imageOf r = record { tables = pack (tablesOf r); pages = packPages (r .memory .b
 
 -- ---- the pages
 
-length-pages : (n : ℕ) (pg : ℕ → PageData) → length (packPages n pg) ≡ n * 512
+pub length-pages : (n : ℕ) (pg : ℕ → PageData) → length (packPages n pg) ≡ n * 512
 unfolding packPages
 length-pages n pg = length-tab (n * 512) (λ i. pg (i / 512) (i % 512))
 
@@ -73,6 +74,14 @@ module _ (B : ℕ) (most : B ≤ 4096) (r : Store real) (o : InOrder B r) where
       (λ e. subst (λ x. r .sets x .parent < 16) (sym e) (omega (arith, sets-in .root-parent)))
       (λ n. omega (arith, parent-below (r .sets) sets-in s u n))
 
+  term-in : (s : ℕ) → r .sets s .used ≡ true → (r .sets s .term .firstDay < 65536) × (r .sets s .term .endDay < 65536)
+  unfolding termFormed
+  term-in s u =
+      let h = sets-in .terms s u in
+      let a = ltb-true (r .sets s .term .firstDay) (r .sets s .term .endDay) (and-left (ltb (r .sets s .term .firstDay) (r .sets s .term .endDay)) (leb (r .sets s .term .endDay) 36525) h) in
+      let b = leb-true (r .sets s .term .endDay) 36525 (and-right (ltb (r .sets s .term .firstDay) (r .sets s .term .endDay)) (leb (r .sets s .term .endDay) 36525) h) in
+      (omega (arith, a, b), omega (arith, b))
+
   set-fits : (s : ℕ) → SetFits (r .sets s)
   set-fits s = test? (r .sets s .used)
       (λ u. record {
@@ -80,8 +89,17 @@ module _ (B : ℕ) (most : B ≤ 4096) (r : Store real) (o : InOrder B r) where
         parent-fits = parent-in s u;
         child-fits = link-in (r .sets s .firstChild) (first-used (r .sets) sets-in s u);
         sibling-fits = link-in (r .sets s .nextSibling) (next-used (r .sets) sets-in s u);
+        first-fits = term-in s u .0;
+        end-fits = term-in s u .1;
       })
-      (λ u. rw (sets-in .blank s u) (record { level-fits = omega arith; parent-fits = omega arith; child-fits = omega arith; sibling-fits = omega arith }))
+      (λ u. rw (sets-in .blank s u) (record {
+        level-fits = omega arith;
+        parent-fits = omega arith;
+        child-fits = omega arith;
+        sibling-fits = omega arith;
+        first-fits = omega arith;
+        end-fits = omega arith;
+      }))
 
   shape : (f s : ℕ) → FileFits (treeIn real r) s (r .files f s)
   shape f s = order-state B r o .files-ok f .shape s

@@ -3,15 +3,18 @@ use mathlib.Core.Bool.{true}
 use mathlib.Core.List.{List}
 use mathlib.Core.Path.{_≡_}
 use lib.ListN.{length}
+use Rattle.history.specs.Conversion.{ConversionClaim, GoesOnClaim}
 use Rattle.history.specs.Demand3.{Demand3Claim, MarksThroughout}
 use Rattle.history.specs.Events.{Event, eventsOn, listedAll, runsAll}
 use Rattle.history.specs.Image.{Held, Image}
 use Rattle.history.specs.Others.{OthersClaim}
 use Rattle.history.specs.Panel.{CountsClaim, FromResetClaim}
 use Rattle.history.specs.Room.{RoomClaim}
+use Rattle.history.specs.Terms.{TermSetClaim}
 use Rattle.packing.specs.Words.{Bytes}
 use Rattle.rules.specs.Numbers.{Call}
 use Rattle.rules.specs.Rows.{RowsClaim}
+use Rattle.rules.specs.TermClaims.{TermsClaim}
 use Rattle.tables.specs.Checks.{BlocksAloneClaim}
 use Rattle.tables.specs.OneReading.{OneReadingClaim}
 use Rattle.tables.specs.Packed.{wellFormed}
@@ -42,3 +45,8 @@ pub record Claims : Type 0 where
   -- document 02, Ask 7: how much room a write can take
   pub room : RoomClaim
   pub rows : RowsClaim
+  -- document 02, Ask 8: dates and terms; what setting a term leaves; a store that agrees with plain store and tally goes on under demand 3; conversion keeps the history
+  pub terms : TermsClaim
+  pub term-set : TermSetClaim
+  pub goes-on : GoesOnClaim
+  pub conversion : ConversionClaim

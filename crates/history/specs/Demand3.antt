@@ -10,6 +10,7 @@
 -- And at every place in the list a file becomes marked exactly when a needed copy for it finds no free block beyond the writer's own need, or it still depends
 -- on a file so marked, or its set is then made from one where it is marked: read off the bytes before and after.
 -- And a command of the front panel shows in the registers what plain store and tally give to the call that it runs.
+-- And past its size every own or virgin file reads as zeros, so that nothing shows when it grows.
 --
 -- The numbers of the fields are those of docs/PROMISES.md, "Demand 3, in plain words".
 use mathlib.Core.Bool.{false, true}
@@ -21,28 +22,23 @@ use Prim.Native.Nat.{_/_, ℕ}
 use lib.ListN.{length}
 use Rattle.history.specs.Events.{Event, eventOn, eventsOn, gaveAll, panelWrite, runs, runsAll}
 use Rattle.history.specs.Image.{Held, Image, after, gave, storeIn}
-use Rattle.rules.specs.Agreement.{AgreesPlain, AgreesTally, bothGive, bothGiven, bothRun, tallyIn}
+use Rattle.rules.specs.Agreement.{AgreesPlain, AgreesTally, ZeroPast, bothGive, bothGiven, bothRun, tallyIn}
 use Rattle.rules.specs.Marking.{BecomesMarked}
 use Rattle.rules.specs.Numbers.{Call, format, noCounts}
-use Rattle.rules.specs.Plain.{plainFormat}
+use Rattle.rules.specs.Plain.{Plain, plainFormat}
 use Rattle.rules.specs.State.{isMarked, pageBytes}
-use Rattle.rules.specs.Tally.{Both, tallyFormat}
+use Rattle.rules.specs.Tally.{Both, Tally, tallyFormat}
 use Rattle.tables.specs.Calls.{formatLengths}
 use Rattle.tables.specs.Packed.{wellFormed}
 use Rattle.tables.specs.Panel.{answered, entered}
 
--- what is held after the format of m and the list, from registers r on; the calls that the events ran; plain store and tally after these calls
+-- what is held after the format of m, with registers r
 abbrev pub formattedOf : Image → List ℕ → Held
 formattedOf m r = record { image = after format m; registers = r }
 
-abbrev pub heldAfter : Image → List ℕ → List Event → Held
-heldAfter m r es = eventsOn es (formattedOf m r)
-
-abbrev pub callsRun : Image → List ℕ → List Event → List Call
-callsRun m r es = runsAll es (formattedOf m r)
-
-abbrev pub bothAfter : Image → List Call → Both
-bothAfter m cs = let blocks : ℕ = length (m .pages) / pageBytes in bothRun blocks cs plainFormat (tallyFormat blocks)
+-- B, by the length of the pages
+abbrev pub blocksOf : Held → ℕ
+blocksOf h = length (h .image .pages) / pageBytes
 
 -- why file f of set s becomes marked in an event that runs this call: the call is accepted, and there is a reason by what the tables before it hold. An event that
 -- runs none marks nothing
@@ -60,31 +56,37 @@ MarksThroughout h es =
     (before rest : List Event) (e : Event) → es ≡ before ++ (e ∷ rest)
     → let here : Held = eventsOn before h in MarksRightly (here .image) (runs e here) (eventOn e here .image)
 
--- at every place in the list where a write to a register runs a call: the registers then show what plain store and tally give to that call
-abbrev pub ShowsThroughout : Image → List ℕ → List Event → Type 0
-ShowsThroughout m r es =
+-- at every place in a list of events, run from h on, where a write to a register runs a call: the registers then show what plain store and tally, which begin as
+-- pl and ta, give to that call
+abbrev pub ShowsThroughout : Held → Plain → Tally → List Event → Type 0
+ShowsThroughout h pl ta es =
     (before rest : List Event) (offset value : ℕ) (c : Call) → es ≡ before ++ (panelWrite offset value ∷ rest)
-    → let here : Held = heldAfter m r before in let both : Both = bothAfter m (callsRun m r before) in
+    → let here : Held = eventsOn before h in let both : Both = bothRun (blocksOf h) (runsAll before h) pl ta in
     runs (panelWrite offset value) here ≡ some c
-    → eventOn (panelWrite offset value) here .registers
-    ≡ answered (bothGive (length (m .pages) / pageBytes) c (both .plain) (both .tally) .answer) (entered offset value (here .registers))
+    → eventOn (panelWrite offset value) here .registers ≡ answered (bothGive (blocksOf h) c (both .plain) (both .tally) .answer) (entered offset value (here .registers))
 
--- THE CLAIM
+-- WHAT HOLDS OF A LIST of events, run from h on, beside a plain store and a tally that begin as pl and ta and are fed the calls that the events run
+pub record Follows (h : Held) (pl : Plain) (ta : Tally) (es : List Event) : Type 0 where
+  -- 1. the tables are well formed
+  pub formed : let m : Image = eventsOn es h .image in wellFormed (m .tables) (length (m .pages)) ≡ true
+  -- 2, 3. sets, presence, sizes and bytes by reading are those of the plain store
+  pub plain : AgreesPlain (storeIn (eventsOn es h .image)) (bothRun (blocksOf h) (runsAll es h) pl ta .plain)
+  -- 4, 5. the number and counts of every call of the ten that was run, and the bytes of every read, are those that plain store and tally give
+  pub given : gaveAll es h ≡ bothGiven (blocksOf h) (runsAll es h) pl ta
+  -- 6. states, sizes, kinds and free blocks are the tally's
+  pub tally : AgreesTally (storeIn (eventsOn es h .image)) (bothRun (blocksOf h) (runsAll es h) pl ta .tally)
+  -- 7. at every place in the list, what becomes marked
+  pub marks : MarksThroughout h es
+  -- 8. at every place in the list, what a command of the front panel shows in the registers
+  pub shows : ShowsThroughout h pl ta es
+  -- 9. past its size an own or virgin file reads as zeros
+  pub past : ZeroPast (storeIn (eventsOn es h .image))
+
+-- THE CLAIM: from the format of m on, with registers r
 pub record Demand3 (m : Image) (r : List ℕ) (es : List Event) : Type 0 where
   -- the format is accepted
   pub begins : gave format m ≡ record { answer = noCounts; bytes = [] }
-  -- 1. the tables are well formed
-  pub formed : let m′ : Image = heldAfter m r es .image in wellFormed (m′ .tables) (length (m′ .pages)) ≡ true
-  -- 2, 3. sets, presence, sizes and bytes by reading are those of the plain store
-  pub plain : AgreesPlain (storeIn (heldAfter m r es .image)) (bothAfter m (callsRun m r es) .plain)
-  -- 4, 5. the number and counts of every call of the ten that was run, and the bytes of every read, are those that plain store and tally give
-  pub given : gaveAll es (formattedOf m r) ≡ bothGiven (length (m .pages) / pageBytes) (callsRun m r es) plainFormat (tallyFormat (length (m .pages) / pageBytes))
-  -- 6. states, sizes, kinds and free blocks are the tally's
-  pub tally : AgreesTally (storeIn (heldAfter m r es .image)) (bothAfter m (callsRun m r es) .tally)
-  -- 7. at every place in the list, what becomes marked
-  pub marks : MarksThroughout (formattedOf m r) es
-  -- 8. at every place in the list, what a command of the front panel shows in the registers
-  pub shows : ShowsThroughout m r es
+  pub follows : Follows (formattedOf m r) plainFormat (tallyFormat (length (m .pages) / pageBytes)) es
 
 -- DEMAND 3, whole: all tables and pages of lengths that a format accepts, all registers of any length, and all lists of events
 abbrev pub Demand3Claim : Type 0

@@ -9,7 +9,9 @@ use Rattle.rules.specs.Agreement.{Given}
 use Rattle.rules.specs.Numbers.{Call}
 use Rattle.tables.specs.Calls.{callOn}
 use Rattle.tables.specs.Checks.{checkBlocksOn, checkOn}
+use Rattle.tables.specs.Convert.{convertOn}
 use Rattle.tables.specs.Panel.{callRun, panelLineOn, panelReadOn, panelResetOn, panelWriteOn}
+use Rattle.tables.specs.Terms.{currentOn, setTermOn}
 
 pub data Event : Type 0 where
   -- one of the ten; each write by a group size of its own
@@ -22,6 +24,11 @@ pub data Event : Type 0 where
   panelRead : ℕ → Event
   panelWrite : ℕ → ℕ → Event
   panelLine : Event
+  -- document 02, Ask 8: the term of a set is set, from year, month, day and count of months; whether a set is current on a day; any tables are converted into any
+  -- second buffer, with the pages that are held, and no store changes
+  setTerm : ℕ → ℕ → ℕ → ℕ → ℕ → Event
+  current : ℕ → ℕ → Event
+  convert : List ℕ → List ℕ → Event
 
 -- an event on tables, pages and registers
 abbrev pub eventOn : Event → Held → Held
@@ -32,6 +39,9 @@ eventOn panelReset h = withRegisters (panelResetOn (h .registers) .registers) h
 eventOn (panelRead offset) h = withRegisters (panelReadOn offset (h .registers) .registers) h
 eventOn (panelWrite offset value) h = heldLeft (panelWriteOn callOn offset value (h .registers) (h .image .tables) (h .image .pages))
 eventOn panelLine h = withRegisters (panelLineOn (h .registers) .registers) h
+eventOn (setTerm s y m d k) h = withImage (imageLeft (setTermOn s y m d k (h .image .tables) (h .image .pages))) h
+eventOn (current s day) h = withImage (imageLeft (currentOn s day (h .image .tables) (h .image .pages))) h
+eventOn (convert old second) h = withImage (record { tables = h .image .tables; pages = convertOn old (h .image .pages) second .pages }) h
 
 -- the call of the ten that it runs there, if any: "Sequences through the panel count as the calls they run."
 abbrev pub runs : Event → Held → Option Call
@@ -42,6 +52,9 @@ runs panelReset h = none
 runs (panelRead offset) h = none
 runs (panelWrite offset value) h = callRun offset value (h .registers)
 runs panelLine h = none
+runs (setTerm s y m d k) h = none
+runs (current s day) h = none
+runs (convert old second) h = none
 
 -- a list of one or none
 abbrev pub listOf : {A : Type 0} → Option A → List A

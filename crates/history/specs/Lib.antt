@@ -4,4 +4,6 @@ pub mod Demand3
 pub mod Others
 pub mod Panel
 pub mod Room
+pub mod Terms
+pub mod Conversion
 pub mod Claims

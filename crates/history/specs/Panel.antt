@@ -1,6 +1,6 @@
 -- THE FRONT PANEL IN LISTS OF EVENTS. Document 02, Ask 6: what its registers show from reset on, and that its accesses count as the calls that they run.
 use mathlib.Core.Bool.{_&&_, Bool, cond, false, not, true, _||_}
-use mathlib.Core.List.{List, _∷_, []}
+use mathlib.Core.List.{_++_, List, _∷_, []}
 use mathlib.Core.Option.{Option, none, some}
 use mathlib.Core.Path.{_≡_}
 use Prim.Native.Nat.{_%_, _*_, _+_, _<_, ℕ, _≤_}
@@ -8,7 +8,7 @@ use lib.Dec.{eqb, ltb}
 use lib.ListN.{getD, length}
 use Rattle.base.specs.Logic.{digit}
 use Rattle.base.specs.Update.{upd}
-use Rattle.history.specs.Events.{Event, check, checkBlocks, eventOn, eventsOn, gaveAll, listed, listedAll, panelLine, panelRead, panelReset, panelWrite, runs, runsAll}
+use Rattle.history.specs.Events.{Event, check, checkBlocks, convert, current, eventOn, eventsOn, gaveAll, listOf, listed, listedAll, panelLine, panelRead, panelReset, panelWrite, runs, runsAll, setTerm}
 use Rattle.history.specs.Image.{Held, Image, gave}
 use Rattle.packing.specs.Bitmap.{isOne}
 use Rattle.packing.specs.Bits.{bit}
@@ -76,6 +76,9 @@ sinceAfter (panelWrite offset value) h x =
     (cond (eqb offset commandOffset) (commandGiven (runs (panelWrite offset value) h) (h .image) x)
     (cond (eqb offset causeOffset) (clearedBy value x) (wroteAt offset value x)))
 sinceAfter panelLine h x = x
+sinceAfter (setTerm s y m d k) h x = x
+sinceAfter (current s day) h x = x
+sinceAfter (convert old second) h x = x
 
 unfoldable pub sinceOf : List Event → Held → Since → Since
 sinceOf [] h x = x
@@ -108,9 +111,26 @@ FromResetClaim =
     (h : Held) → length (h .registers) ≡ registerCount → (es : List Event)
     → FromReset (sinceOf (panelReset ∷ es) h justReset) (eventsOn (panelReset ∷ es) h .registers)
 
+-- what an event does directly: the call of the ten that it runs, if any; the setting of a term is itself, since it runs none and changes tables
+abbrev pub directly : Event → Held → List Event
+directly (listed c) h = listed c ∷ []
+directly checkBlocks h = []
+directly check h = []
+directly panelReset h = []
+directly (panelRead offset) h = []
+directly (panelWrite offset value) h = listedAll (listOf (runs (panelWrite offset value) h))
+directly panelLine h = []
+directly (setTerm s y m d k) h = setTerm s y m d k ∷ []
+directly (current s day) h = []
+directly (convert old second) h = []
+
+unfoldable pub directlyAll : List Event → Held → List Event
+directlyAll [] h = []
+directlyAll (e ∷ es) h = directly e h ++ directlyAll es (eventOn e h)
+
 -- "Sequences through the panel count as the calls they run": byte for byte, any list of events, direct calls among them, leaves the tables and pages that the calls
--- that it runs leave when they are made directly, and these give the same. Of any bytes: no format is needed.
+-- that it runs, and the terms that it sets, leave when they are made directly; these run the same calls and give the same. Of any bytes: no format is needed.
 abbrev pub CountsClaim : Type 0
 CountsClaim =
-    (h : Held) (es : List Event) → let direct : List Event = listedAll (runsAll es h) in
-    (eventsOn es h .image ≡ eventsOn direct h .image) × (gaveAll es h ≡ gaveAll direct h)
+    (h : Held) (es : List Event) → let direct : List Event = directlyAll es h in
+    (eventsOn es h .image ≡ eventsOn direct h .image) × (gaveAll es h ≡ gaveAll direct h) × (runsAll es h ≡ runsAll direct h)

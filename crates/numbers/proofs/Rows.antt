@@ -13,6 +13,8 @@ use Rattle.rules.specs.Calls.{Store, viewOf}
 use Rattle.rules.specs.Numbers.{View, conditions, create, delete, fileAbsent, isNil, lowest, make, needOver, noSuchFile, noSuchSet, numberOf, read, readOnly, remove, tellSize, truncate, write}
 use Rattle.rules.specs.State.{SetRecord, chain, childrenOf, isAbsent}
 use Rattle.rules.specs.Storage.{freeBlocks, real}
+use Rattle.rules.specs.Terms.{countFits, dateExists}
+use Rattle.tables.specs.Terms.{currentConditions, setTermConditions}
 use Rattle.numbers.specs.Shared.{endOrNeedOver, noSuchPlace, notChangeable, notReadable, readOnlyPlace}
 
 -- ---- one condition
@@ -154,6 +156,15 @@ module _ (st : Store real) (s n : ℕ) where
       → n ≡ numberOf (viewOf real true true st) (remove s)
   unfolding numberOf conditions lowest
   remove-row e = e
+
+  pub term-row : (y m d k : ℕ) → n ≡ lowest (noSuchSet (viewOf real true true st) s ∷ (not (dateExists y m d), 14) ∷ (not (countFits k), 15) ∷ [])
+      → n ≡ lowest (setTermConditions (viewOf real true true st) s y m d k)
+  unfolding setTermConditions lowest
+  term-row y m d k e = e
+
+  pub current-row : n ≡ lowest (noSuchSet (viewOf real true true st) s ∷ []) → n ≡ lowest (currentConditions (viewOf real true true st) s)
+  unfolding currentConditions lowest
+  current-row e = e
 
 -- one of two conditions of the same number applies; neither does
 pub first-applies : (a b : Bool) → a ≡ true → (a || b) ≡ true

@@ -17,8 +17,11 @@ ghost use Rattle.tables.specs.Calls.{storeOf};
 ghost use Rattle.tables.specs.Layout.{tableBytes};
 ghost use Rattle.tables.specs.Meaning.{entryMeant};
 ghost use Rattle.tables.specs.Packed.{unpack};
+ghost use Rattle.tables.specs.Terms.{currentConditions, setTermConditions};
 ghost use Rattle.tables.proofs.FormedStore.{FormedStore};
 ghost use Rattle.numbers.specs.Shared.{noSuchPlace, notChangeable, notReadable, readOnlyPlace, viewIn};
+use dates::count_fits;
+use dates::date_exists;
 use maps::reading;
 use tables::entries;
 use tables::entries::Entry;
@@ -272,6 +275,42 @@ pub fn of_remove(t: &[u8], p: &[u8], set: u32) -> u32
     }
     if set == 0 {
         return 12;
+    }
+    0
+}
+
+// Of setting a term: "14 .. and .. 15, both after 2, with 14 first".
+pub fn of_set_term(
+    t: &[u8],
+    p: &[u8],
+    set: u32,
+    year: u32,
+    month: u32,
+    day: u32,
+    months: u32,
+) -> u32
+    requires { ⌜ FormedStore (now t) (now p) ⌝ }
+    ensures { λ r. ⌜ r ≡ lowest (setTermConditions (viewOf real true true (storeOf (now (t .entry)) (now (p .entry)))) set year month day months) ⌝ }
+{
+    if !is_used(t, set) {
+        return 2;
+    }
+    if !date_exists(year, month, day) {
+        return 14;
+    }
+    if !count_fits(months) {
+        return 15;
+    }
+    0
+}
+
+// Of asking whether a set is current.
+pub fn of_current(t: &[u8], p: &[u8], set: u32) -> u32
+    requires { ⌜ FormedStore (now t) (now p) ⌝ }
+    ensures { λ r. ⌜ r ≡ lowest (currentConditions (viewOf real true true (storeOf (now (t .entry)) (now (p .entry)))) set) ⌝ }
+{
+    if !is_used(t, set) {
+        return 2;
     }
     0
 }

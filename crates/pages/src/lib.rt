@@ -10,7 +10,7 @@ use tables::entries::Block;
 use tables::entries::Page;
 
 // Copies n bytes of `source`, from byte `start` on, to the places of `target` from `at` on.
-fn copy_bytes(target: &mut [u8], at: usize, source: &[u8], start: usize, n: usize)
+pub fn copy_bytes(target: &mut [u8], at: usize, source: &[u8], start: usize, n: usize)
     requires { ⌜ (at + n ≤ length (now target)) × (start + n ≤ length (now source)) ⌝ }
     ensures { λ _. ⌜ now (target .exit) ≡ run (now (target .entry)) at (λ i. getD (now (source .entry)) (start + i) 0) n ⌝ }
 {

@@ -8,3 +8,4 @@ pub mod Tally
 pub mod Marking
 pub mod Whole
 pub mod Room
+pub mod Terms

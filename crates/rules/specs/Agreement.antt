@@ -1,15 +1,15 @@
 -- What is compared in demand 3: the store's state with the plain store and with the tally. Document 01, "Demand 3".
-use mathlib.Core.Bool.{false}
+use mathlib.Core.Bool.{false, true}
 use mathlib.Core.List.{List, _∷_, []}
 use mathlib.Core.Option.{some}
 use mathlib.Core.Path.{_≡_}
-use Prim.Native.Nat.{_-_, _<_, min, suc, zero, ℕ}
+use Prim.Native.Nat.{_-_, _<_, min, suc, zero, ℕ, _≤_}
 use lib.ListN.{drop, getD, length, take}
 use Rattle.rules.specs.Calls.{Store, blankMemory, byteByReading, readInto, step, treeIn}
 use Rattle.rules.specs.Numbers.{Answer, Call, Look, bytesAsked, lookOf, noneAsked, refusal, sizeAsked}
 use Rattle.rules.specs.Plain.{Plain, bytesIn, isNone}
 use Rattle.rules.specs.Reading.{sizeByReading}
-use Rattle.rules.specs.State.{Entry, hole, isAbsent, isMarked, stored, unmapped}
+use Rattle.rules.specs.State.{Entry, hole, isAbsent, isMarked, largestSize, live, stored, unmapped}
 use Rattle.rules.specs.Storage.{freeBlocks, real}
 use Rattle.rules.specs.Tally.{Both, Kind, Tally, bothStep}
 
@@ -19,6 +19,11 @@ pub record AgreesPlain (st : Store real) (pl : Plain) : Type 0 where
   pub present : (f s : ℕ) → isNone (pl .files f s) ≡ isAbsent (st .files f s .state)
   pub size : (f s : ℕ) (l : List ℕ) → pl .files f s ≡ some l → isMarked (st .files f s .state) ≡ false → sizeByReading (treeIn real st) (st .files f) s ≡ length l
   pub bytes : (f s : ℕ) (l : List ℕ) → pl .files f s ≡ some l → isMarked (st .files f s .state) ≡ false → (i : ℕ) → i < length l → byteByReading st s f i ≡ getD l i 0
+
+-- Past its size an own or virgin file reads as zeros, so that growing shows zeros; well formed asks it of whole pages alone
+abbrev pub ZeroPast : Store real → Type 0
+ZeroPast st =
+    (f s : ℕ) → live (st .files f s .state) ≡ true → (i : ℕ) → sizeByReading (treeIn real st) (st .files f) s ≤ i → i < largestSize → byteByReading st s f i ≡ 0
 
 -- the kind of an entry
 abbrev pub kindOf : Entry ℕ → Kind
@@ -41,6 +46,12 @@ pub record AgreesTally (st : Store real) (ta : Tally) : Type 0 where
   pub size : (f s : ℕ) → ta .files f s .size ≡ st .files f s .size
   pub kind : (f s p : ℕ) → ta .files f s .map p ≡ kindOf (st .files f s .map p)
   pub free : ta .free ≡ freeBlocks (st .memory)
+
+-- A STORE AGREES with plain store and tally, and past the sizes there are zeros: demand 3 claims it after every list, and it is all that the lists that follow need
+pub record Agrees (st : Store real) (pl : Plain) (ta : Tally) : Type 0 where
+  pub plain : AgreesPlain st pl
+  pub tally : AgreesTally st ta
+  pub past : ZeroPast st
 
 -- What a call gives back: its answer and, of a read, the bytes that it put at the buffer's front.
 pub record Given : Type 0 where

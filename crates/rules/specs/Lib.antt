@@ -2,6 +2,7 @@ pub mod State
 pub mod Reading
 pub mod Storage
 pub mod Rules
+pub mod Terms
 pub mod Sets
 pub mod Numbers
 pub mod Calls
@@ -12,3 +13,4 @@ pub mod Tally
 pub mod Marking
 pub mod Agreement
 pub mod Rows
+pub mod TermClaims

@@ -51,6 +51,11 @@ pub record File (K : Type 0) : Type 0 where
 abbrev pub Files : Type 0 → Type 0
 Files K = ℕ → File K
 
+-- a reference term, by days: "Each set record grows at its end by 4 bytes: first day 16 bits, end day 16 bits" (document 02, Ask 8)
+pub record Term : Type 0 where
+  pub firstDay : ℕ
+  pub endDay : ℕ
+
 -- a set record
 pub record SetRecord : Type 0 where
   pub used : Bool
@@ -59,6 +64,7 @@ pub record SetRecord : Type 0 where
   pub parent : ℕ
   pub firstChild : ℕ
   pub nextSibling : ℕ
+  pub term : Term
 
 -- the tables unpacked: "bit b is 1 when block b is used"; the files by number and set
 pub record Tables : Type 0 where
@@ -93,9 +99,12 @@ treeOf sets = record {
   children = childrenOf sets;
 }
 
--- the record of an unused set, and of an absent file: all zero
+-- the term and the record of an unused set, and the record of an absent file: all zero
+abbrev pub noTerm : Term
+noTerm = record { firstDay = 0; endDay = 0 }
+
 abbrev pub unusedSet : SetRecord
-unusedSet = record { used = false; writeable = false; level = 0; parent = 0; firstChild = 0; nextSibling = 0 }
+unusedSet = record { used = false; writeable = false; level = 0; parent = 0; firstChild = 0; nextSibling = 0; term = noTerm }
 
 abbrev pub absentFile : {K : Type 0} → File K
 absentFile = record { state = absent; size = 0; map = λ p. unmapped }

@@ -7,7 +7,8 @@ use Rattle.base.specs.Count.{all, count, sum}
 use Rattle.base.specs.Logic.{digit}
 use Rattle.rules.specs.Reading.{dependent, resolve, someUnmapped}
 use Rattle.rules.specs.Rules.{countIn}
-use Rattle.rules.specs.State.{Entry, File, SetRecord, Tables, childrenOf, fileCount, highestLevel, hole, isAbsent, isMarked, isOwn, isStored, isUnmapped, isVirgin, largestBlocks, largestSize, live, noSet, pageBytes, pageCount, setCount, stored, treeOf, unmapped}
+use Rattle.rules.specs.State.{Entry, File, SetRecord, Tables, Term, childrenOf, fileCount, highestLevel, hole, isAbsent, isMarked, isOwn, isStored, isUnmapped, isVirgin, largestBlocks, largestSize, live, noSet, pageBytes, pageCount, setCount, stored, treeOf, unmapped}
+use Rattle.rules.specs.Terms.{lastEnd}
 
 -- does the entry name block b
 abbrev pub names : ℕ → Entry ℕ → Bool
@@ -33,7 +34,9 @@ allPages f = all pageCount f
 
 -- an unused set, an absent file: all zero
 abbrev pub zeroSet : SetRecord → Bool
-zeroSet r = not (r .writeable) && eqb (r .level) 0 && eqb (r .parent) 0 && eqb (r .firstChild) 0 && eqb (r .nextSibling) 0
+zeroSet r =
+    not (r .writeable) && eqb (r .level) 0 && eqb (r .parent) 0 && eqb (r .firstChild) 0 && eqb (r .nextSibling) 0
+    && eqb (r .term .firstDay) 0 && eqb (r .term .endDay) 0
 
 abbrev pub zeroFile : File ℕ → Bool
 zeroFile x = eqb (x .size) 0 && allPages (λ p. isUnmapped (x .map p))
@@ -54,6 +57,10 @@ virginFormed x = not (isVirgin (x .state)) || zeroFile x
 -- "Set 0 has no virgin or marked file and no unmapped entry outside absent files."
 abbrev pub rootFileFormed : File ℕ → Bool
 rootFileFormed x = isAbsent (x .state) || (not (isVirgin (x .state)) && not (isMarked (x .state)) && not (someUnmapped pageCount (x .map)))
+
+-- "first below end and end at most 36,525"
+unfoldable pub termFormed : Term → Bool
+termFormed x = ltb (x .firstDay) (x .endDay) && leb (x .endDay) lastEnd
 
 module _ (tb : Tables) where
   -- "B is 1 to 4,096, next start is below B, .."
@@ -110,6 +117,10 @@ module _ (tb : Tables) where
   unfoldable pub treeFormed : Bool
   treeFormed = rootFormed && allSets (λ s. not (tb .sets s .used) || (chainFormed s && (eqb s 0 || placeFormed s)))
 
+  -- "Well formed now also asks, of a used set, first below end and end at most 36,525." (document 02, Ask 8)
+  unfoldable pub termsFormed : Bool
+  termsFormed = allSets (λ s. not (tb .sets s .used) || termFormed (tb .sets s .term))
+
   -- "An own or virgin file with an unmapped entry has an own or virgin file of its number in the parent set."
   abbrev pub aboveFormed : ℕ → ℕ → Bool
   aboveFormed f s = not (dependent (tb .files f s)) || live (tb .files f (tb .sets s .parent) .state)
@@ -132,4 +143,4 @@ module _ (tb : Tables) where
   blocksFormed = headerFormed && bitsFormed
 
   abbrev pub setsFormed : Bool
-  setsFormed = zerosFormed && treeFormed && filesFormed
+  setsFormed = zerosFormed && treeFormed && termsFormed && filesFormed

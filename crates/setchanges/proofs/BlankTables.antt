@@ -1,7 +1,7 @@
 -- Format: tables of zeros hold nothing, a header is put, and the record of set 0. Assumes nothing.
 use mathlib.Core.Bool.{false, true}
 use mathlib.Core.List.{List}
-use mathlib.Core.Path.{ap, refl, subst, sym, _∙_, _≡_}
+use mathlib.Core.Path.{ap, ap₂, refl, subst, sym, _∙_, _≡_}
 use Prim.Native.Nat.{_%_, _*_, _+_, _-_, _/_, _<_, _^_, ℕ}
 use native.Mathlib.Nat.{zero-div}
 use native.Mathlib.Omega.{arith}
@@ -18,6 +18,7 @@ use Rattle.rules.specs.Calls.{blankMemory, formatted, tablesOf}
 use Rattle.rules.specs.Sets.{rootAlone}
 use Rattle.rules.specs.State.{SetRecord, Tables, absentFile, largestBlocks, noSet, setCount, unusedSet}
 use Rattle.rules.specs.Storage.{real}
+use Rattle.rules.specs.Terms.{defaultTerm}
 use Rattle.setchanges.specs.Changes.{putHeaderIn}
 use Rattle.tables.proofs.Codes.{header-word}
 use Rattle.tables.proofs.FormedStore.{absent-default}
@@ -27,7 +28,7 @@ use Rattle.tables.proofs.Layouts.{header-zero-field, read-write-blocks, read-wr
 use Rattle.tables.proofs.PackUnpack.{pack-unpack}
 use Rattle.tables.proofs.ZeroFiles.{file-zero, word-zero, zero-entry, zero-head, zero-header, zero-set}
 use Rattle.tables.proofs.ReadParts.{bit-default, read-bit, read-blocks, read-next, read-set, set-default}
-use Rattle.tables.specs.Layout.{bitmapAt, entryAt, fileAt, headerAt, readBlocks, readNext, readSet, setAt, tableBytes, writeHeader}
+use Rattle.tables.specs.Layout.{bitmapAt, entryAt, fileAt, headerAt, readBlocks, readNext, readSet, setAt, tableBytes, termAt, writeHeader}
 use Rattle.tables.specs.Packed.{isFile, pack, unpack}
 use Rattle.tables.specs.Views.{PackedTables, Turns, putSetIn}
 
@@ -57,7 +58,7 @@ module _ (t : List ℕ) (len : length t ≡ tableBytes) (zeros : (i : ℕ) → g
 
   blank-set : (s : ℕ) → unpack t .sets s ≡ unusedSet
   blank-set s = test? (ltb s setCount)
-      (λ e. read-set t s (ltb-true s setCount e) ∙ ap readSet (word-zero 2 t (setAt s) (λ j k. zeros (setAt s + j))) ∙ zero-set .1)
+      (λ e. read-set t s (ltb-true s setCount e) ∙ ap₂ readSet (word-zero 2 t (setAt s) (λ j k. zeros (setAt s + j))) (word-zero 3 t (termAt s) (λ j k. zeros (termAt s + j))) ∙ zero-set .1)
       (λ e. set-default t s (ltb-false s setCount e))
 
   blank-file : (f s : ℕ) → unpack t .files f s ≡ absentFile
@@ -117,7 +118,7 @@ blocks-put t t′ b h e =
 
 -- the record of set 0 after a format
 abbrev pub rootRecord : SetRecord
-rootRecord = record { used = true; writeable = true; level = 0; parent = noSet; firstChild = noSet; nextSibling = noSet }
+rootRecord = record { used = true; writeable = true; level = 0; parent = noSet; firstChild = noSet; nextSibling = noSet; term = defaultTerm }
 
 format-view : (b : ℕ) → putSetIn 0 rootRecord (putHeaderIn b 0 blankTables) ≡ tablesOf (formatted real (blankMemory b))
 unfolding putSetIn putHeaderIn formatted rootAlone upd

@@ -12,6 +12,7 @@ use Rattle.base.specs.Update.{upd}
 use Rattle.rules.proofs.Tree.Chains.{chain-more, chain-past}
 use Rattle.rules.specs.Sets.{appendSet, linkBehind, linkLast, withFirstChild, withNextSibling}
 use Rattle.rules.specs.State.{SetRecord, Tables, chain, childrenOf, noSet, setCount}
+use Rattle.rules.specs.Terms.{defaultTerm}
 use Rattle.setchanges.specs.Changes.{appendedIn, childPutIn, childRecord, firstChildIn, last-done, last-here, last-next, lastOf, nextSiblingIn, withSets}
 use Rattle.tables.proofs.Operations.{turns-as, turns-more}
 use Rattle.tables.specs.Packed.{unpack}
@@ -76,12 +77,12 @@ module _ (s c : ℕ) (w : Bool) (tb : Tables) (used : tb .sets s .used ≡ true)
 -- LAWS: what the code stores
 module _ {t t′ : List ℕ} where
   pub child-put : (s c level : ℕ) (w : Bool) → level ≡ unpack t .sets s .level
-      → Turns t t′ (putSetIn c (record { used = true; writeable = w; level = level + 1; parent = s; firstChild = noSet; nextSibling = noSet }))
+      → Turns t t′ (putSetIn c (record { used = true; writeable = w; level = level + 1; parent = s; firstChild = noSet; nextSibling = noSet; term = defaultTerm }))
       → Turns t t′ (childPutIn s c w)
   unfolding childPutIn
   child-put s c level w e a =
-      turns-as (putSetIn c (record { used = true; writeable = w; level = level + 1; parent = s; firstChild = noSet; nextSibling = noSet })) (childPutIn s c w) a
-      (ap (λ n. putSetIn c (record { used = true; writeable = w; level = n; parent = s; firstChild = noSet; nextSibling = noSet }) (unpack t)) (add-one level ∙ ap suc e))
+      turns-as (putSetIn c (record { used = true; writeable = w; level = level + 1; parent = s; firstChild = noSet; nextSibling = noSet; term = defaultTerm })) (childPutIn s c w) a
+      (ap (λ n. putSetIn c (record { used = true; writeable = w; level = n; parent = s; firstChild = noSet; nextSibling = noSet; term = defaultTerm }) (unpack t)) (add-one level ∙ ap suc e))
 
   pub first-child-put : (s c : ℕ) (r : SetRecord) → r ≡ unpack t .sets s → Turns t t′ (putSetIn s (withFirstChild r c)) → Turns t t′ (firstChildIn s c)
   unfolding firstChildIn

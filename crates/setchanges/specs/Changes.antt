@@ -10,6 +10,7 @@ use Rattle.rules.specs.Rules.{each, freeMap, from, holes}
 use Rattle.rules.specs.Sets.{appendSet, childFile, unlinkSet, withFirstChild, withNextSibling}
 use Rattle.rules.specs.State.{Entry, SetRecord, Tables, absentFile, fileCount, hole, largestBlocks, noSet, setCount, stored, unmapped}
 use Rattle.rules.specs.Storage.{PageData, real}
+use Rattle.rules.specs.Terms.{defaultTerm}
 use Rattle.tables.specs.Views.{memoryOf, putBitIn, putFiles, putSetIn}
 
 -- freeing blocks does not look at the pages
@@ -56,7 +57,7 @@ lastOf sets (suc n) x = cond (ltb (sets x .nextSibling) setCount) (lastOf sets n
 
 -- the record of a new set c, a child of set s
 abbrev pub childRecord : ℕ → Bool → (ℕ → SetRecord) → SetRecord
-childRecord s w sets = record { used = true; writeable = w; level = suc (sets s .level); parent = s; firstChild = noSet; nextSibling = noSet }
+childRecord s w sets = record { used = true; writeable = w; level = suc (sets s .level); parent = s; firstChild = noSet; nextSibling = noSet; term = defaultTerm }
 
 unfoldable pub childPutIn : ℕ → ℕ → Bool → Tables → Tables
 childPutIn s c w tb = putSetIn c (childRecord s w (tb .sets)) tb

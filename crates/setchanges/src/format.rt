@@ -21,7 +21,7 @@ fn put_blocks(t: &mut [u8], blocks: usize)
     words::write32(t, 0, (blocks * 524288) as u32);
 }
 
-// "Format makes set 0 alone": every other byte is zero.
+// "Format makes set 0 alone": every other byte is zero. "Format and making a set give 0 and 36,525."
 pub fn format_tables(t: &mut [u8], blocks: usize)
     requires { ⌜ (length (now t) ≡ tableBytes) × (blocks ≤ 4096) ⌝ }
     ensures { λ _. ⌜ now (t .exit) ≡ pack (tablesOf (formatted real (blankMemory blocks))) ⌝ }
@@ -38,6 +38,8 @@ pub fn format_tables(t: &mut [u8], blocks: usize)
             parent: 8,
             first_child: 8,
             next_sibling: 8,
+            first_day: 0,
+            end_day: 36525,
         },
     );
 }

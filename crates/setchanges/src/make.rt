@@ -33,7 +33,7 @@ fn last_of(t: &[u8], first: usize) -> usize
     x
 }
 
-// The record of set c, a child of set s with no child and no sibling.
+// The record of set c, a child of set s with no child and no sibling. "Format and making a set give 0 and 36,525."
 fn put_child(t: &mut [u8], s: usize, c: usize, writeable: bool)
     requires { ⌜ PackedTables (now t) × (s < 8) × (c < 8) × (unpack (now t) .sets s .level < 7) ⌝ }
     ensures { λ _. ⌜ Turns (now (t .entry)) (now (t .exit)) (childPutIn s c writeable) ⌝ }
@@ -49,6 +49,8 @@ fn put_child(t: &mut [u8], s: usize, c: usize, writeable: bool)
             parent: s,
             first_child: 8,
             next_sibling: 8,
+            first_day: 0,
+            end_day: 36525,
         },
     );
 }
@@ -68,6 +70,8 @@ fn put_first_child(t: &mut [u8], s: usize, c: usize)
             parent: r.parent,
             first_child: c,
             next_sibling: r.next_sibling,
+            first_day: r.first_day,
+            end_day: r.end_day,
         },
     );
 }
@@ -87,6 +91,8 @@ fn put_next_sibling(t: &mut [u8], x: usize, c: usize)
             parent: r.parent,
             first_child: r.first_child,
             next_sibling: c,
+            first_day: r.first_day,
+            end_day: r.end_day,
         },
     );
 }

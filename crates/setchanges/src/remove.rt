@@ -96,6 +96,8 @@ fn link_past(t: &mut [u8], x: usize, c: usize, next: usize)
             parent: r.parent,
             first_child: child,
             next_sibling: sibling,
+            first_day: r.first_day,
+            end_day: r.end_day,
         },
     );
 }
@@ -121,6 +123,8 @@ fn unlink_set(t: &mut [u8], c: usize)
             parent: 0,
             first_child: 0,
             next_sibling: 0,
+            first_day: 0,
+            end_day: 0,
         },
     );
 }

@@ -1,6 +1,6 @@
 -- What the check of header and set records says of tables in two parts: it is told from the front, which has the header, the bitmap and the set records.
 -- Assumes nothing.
-use mathlib.Core.Bool.{_&&_, false, _||_}
+use mathlib.Core.Bool.{_&&_, cond, false}
 use mathlib.Core.List.{List, _++_}
 use mathlib.Core.Path.{ap, ap₂, refl, sym, _∙_, _≡_}
 use Prim.Native.Nat.{ℕ}
@@ -9,8 +9,8 @@ use lib.ListN.{length}
 use Rattle.base.specs.Count.{all-same}
 use Rattle.packing.specs.Fields.{getField}
 use Rattle.rules.specs.State.{SetRecord, Tables, absentFile}
-use Rattle.rules.specs.WellFormed.{allSets, chainEnds, chainFormed, headerFormed, pagesFit, placeFormed, rootFormed, treeFormed, zeroSet}
-use Rattle.setcheck.specs.Records.{headerZero, setRecordsFormed, setZero, unusedZero, zerosOfSets}
+use Rattle.rules.specs.WellFormed.{allSets, chainEnds, chainFormed, headerFormed, pagesFit, placeFormed, rootFormed, termFormed, treeFormed, zeroSet}
+use Rattle.setcheck.specs.Records.{headerZero, recordFormed, recordsAlone, setRecordsFormed, setZero}
 use Rattle.tables.proofs.Parts.{blocks-front, header-front, next-front, set-word-front, sets-front}
 use Rattle.tables.specs.Layout.{filesAt, headerWidths, setWidths}
 use Rattle.tables.specs.Packed.{unpack}
@@ -36,15 +36,15 @@ module _ (front files : List ℕ) (len : length front ≡ filesAt) where
   zero-part = ap (λ w. eqb (getField headerWidths w 2) 0) (header-front front files len)
 
   -- LAW: the set records
-  zeros-part : zerosOfSets (front ++ files) ≡ zerosOfSets front
-  unfolding zerosOfSets unusedZero allSets
-  zeros-part = ap₂ _&&_
+  alone-part : recordsAlone (front ++ files) ≡ recordsAlone front
+  unfolding recordsAlone recordFormed allSets
+  alone-part = ap₂ _&&_
       (all-same 8 (setZero (front ++ files)) (setZero front) (λ s l. ap (λ w. eqb (getField setWidths w 6) 0) (set-word-front front files len s l)))
-      (ap (λ (x : ℕ → SetRecord). allSets (λ s. x s .used || zeroSet (x s))) (sets-front front files len))
+      (ap (λ (x : ℕ → SetRecord). allSets (λ s. cond (x s .used) (termFormed (x s .term)) (zeroSet (x s)))) (sets-front front files len))
 
   tree-part : treeFormed (unpack (front ++ files)) ≡ treeFormed (unpack front)
   tree-part = tree-sets (unpack (front ++ files)) ∙ ap (λ x. treeFormed (setsAlone x)) (sets-front front files len) ∙ sym (tree-sets (unpack front))
 
   pub records-part : setRecordsFormed (front ++ files) ≡ setRecordsFormed front
   unfolding setRecordsFormed
-  records-part = ap₂ _&&_ zeros-part tree-part
+  records-part = ap₂ _&&_ alone-part tree-part

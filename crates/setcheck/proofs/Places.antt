@@ -11,7 +11,7 @@ use Rattle.base.specs.Logic.{and-both, and-false}
 use Rattle.rules.specs.Rules.{countIn}
 use Rattle.rules.specs.State.{SetRecord, Tables, childrenOf}
 use Rattle.rules.specs.WellFormed.{allSets, chainFormed, placeFormed, rootFormed, treeFormed}
-use Rattle.setcheck.specs.Records.{setInTree, setRecordsFormed, zerosOfSets}
+use Rattle.setcheck.specs.Records.{recordsAlone, setInTree, setRecordsFormed}
 use Rattle.tables.specs.Packed.{unpack}
 
 -- ---- the root
@@ -95,7 +95,7 @@ pub tree-next : (tb : Tables) (s : ℕ) (b : Bool) → all s (setInTree tb) ≡ 
 tree-next tb s b z e h = all-next (setInTree tb) s z (sym e ∙ not-false b h)
 
 -- ---- all rules on set records
-module _ (t : List ℕ) (a : Bool) (ea : a ≡ zerosOfSets t) where
+module _ (t : List ℕ) (a : Bool) (ea : a ≡ recordsAlone t) where
   pub zeros-fail : not a ≡ true → false ≡ setRecordsFormed t
   unfolding setRecordsFormed
   zeros-fail h = rw (← ea, not-true a h)

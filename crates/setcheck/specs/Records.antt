@@ -1,12 +1,12 @@
 -- The rules of well formed tables that concern the header and the set records, set by set and together, and those that remain for
--- the file records. Document 01, "Packed tables".
-use mathlib.Core.Bool.{_&&_, Bool, not, _||_}
+-- the file records. Document 01, "Packed tables"; document 02, Ask 8.
+use mathlib.Core.Bool.{_&&_, Bool, cond, not, _||_}
 use mathlib.Core.List.{List}
 use Prim.Native.Nat.{ℕ}
 use lib.Dec.{eqb}
 use Rattle.packing.specs.Fields.{getField}
 use Rattle.rules.specs.State.{Tables, isAbsent}
-use Rattle.rules.specs.WellFormed.{allFiles, allSets, chainFormed, filesFormed, placeFormed, treeFormed, zeroFile, zeroSet}
+use Rattle.rules.specs.WellFormed.{allFiles, allSets, chainFormed, filesFormed, placeFormed, termFormed, treeFormed, zeroFile, zeroSet}
 use Rattle.tables.specs.Layout.{headWidths, headWord, headerWidths, headerWord, setWidths, setWord}
 use Rattle.tables.specs.Packed.{unpack}
 
@@ -17,21 +17,21 @@ headerZero t = eqb (getField headerWidths (headerWord t) 2) 0
 abbrev pub setZero : List ℕ → ℕ → Bool
 setZero t s = eqb (getField setWidths (setWord t s) 6) 0
 
--- "Unused sets are all zero": one set
-unfoldable pub unusedZero : Tables → ℕ → Bool
-unusedZero tb s = tb .sets s .used || zeroSet (tb .sets s)
+-- "Unused sets are all zero"; "of a used set, first below end and end at most 36,525": one set
+unfoldable pub recordFormed : Tables → ℕ → Bool
+recordFormed tb s = cond (tb .sets s .used) (termFormed (tb .sets s .term)) (zeroSet (tb .sets s))
 
 -- the rules of the tree for one set
 unfoldable pub setInTree : Tables → ℕ → Bool
 setInTree tb s = not (tb .sets s .used) || (chainFormed tb s && (eqb s 0 || placeFormed tb s))
 
--- the zero rules on set records
-unfoldable pub zerosOfSets : List ℕ → Bool
-zerosOfSets t = allSets (setZero t) && allSets (unusedZero (unpack t))
+-- the rules that look at one set record each
+unfoldable pub recordsAlone : List ℕ → Bool
+recordsAlone t = allSets (setZero t) && allSets (recordFormed (unpack t))
 
 -- ALL RULES on set records
 unfoldable pub setRecordsFormed : List ℕ → Bool
-setRecordsFormed t = zerosOfSets t && treeFormed (unpack t)
+setRecordsFormed t = recordsAlone t && treeFormed (unpack t)
 
 -- what `setRules` says besides of the file records
 unfoldable pub fileRecordsFormed : List ℕ → Bool

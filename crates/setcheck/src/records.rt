@@ -1,4 +1,4 @@
-// The zero rules on set records.
+// The rules on single set records: zeros and terms.
 ghost use mathlib.Core.Path.{_≡_};
 ghost use Prim.Native.Nat.{_<_, _≤_};
 ghost use lib.ListN.{length};
@@ -6,7 +6,7 @@ ghost use Rattle.rules.specs.WellFormed.{zeroSet};
 ghost use Rattle.tables.specs.Layout.{filesAt};
 ghost use Rattle.tables.specs.Packed.{unpack};
 ghost use Rattle.tables.specs.Meaning.{setMeant};
-ghost use Rattle.setcheck.specs.Records.{setZero, unusedZero, zerosOfSets};
+ghost use Rattle.setcheck.specs.Records.{recordFormed, recordsAlone, setZero};
 use packing::words;
 use tables::places::SET_BYTES;
 use tables::places::SETS_AT;
@@ -37,31 +37,40 @@ fn zero_record(r: SetRecord) -> bool
     if r.first_child != 0 {
         return false;
     }
-    r.next_sibling == 0
+    if r.next_sibling != 0 {
+        return false;
+    }
+    if r.first_day != 0 {
+        return false;
+    }
+    r.end_day == 0
 }
 
-// "Unused sets are all zero": one set.
-fn unused_zero(t: &[u8], s: usize) -> bool
+// "Unused sets are all zero"; "of a used set, first below end and end at most 36,525": one set.
+fn record_formed(t: &[u8], s: usize) -> bool
     requires { ⌜ (filesAt ≤ length (now t)) × (s < 8) ⌝ }
-    ensures { λ r. ⌜ r ≡ unusedZero (unpack (now (t .entry))) s ⌝ }
+    ensures { λ r. ⌜ r ≡ recordFormed (unpack (now (t .entry))) s ⌝ }
 {
     let r = set_at(t, s);
-    if r.used {
-        return true;
+    if !r.used {
+        return zero_record(r);
     }
-    zero_record(r)
+    if r.first_day >= r.end_day {
+        return false;
+    }
+    r.end_day <= 36525
 }
 
-// The two rules above for all sets.
-pub fn zeros_of_sets(t: &[u8]) -> bool
+// The rules above, which look at one set record each, for all sets.
+pub fn records_alone(t: &[u8]) -> bool
     requires { ⌜ filesAt ≤ length (now t) ⌝ }
-    ensures { λ r. ⌜ r ≡ zerosOfSets (now (t .entry)) ⌝ }
+    ensures { λ r. ⌜ r ≡ recordsAlone (now (t .entry)) ⌝ }
 {
     for s in 0..8 {
         if !set_zero(t, s) {
             return false;
         }
-        if !unused_zero(t, s) {
+        if !record_formed(t, s) {
             return false;
         }
     }

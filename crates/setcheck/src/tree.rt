@@ -8,7 +8,7 @@ ghost use Rattle.tables.specs.Packed.{unpack};
 ghost use Rattle.setcheck.specs.Records.{setInTree, setRecordsFormed};
 use crate::chains::chain_formed;
 use crate::chains::times_in_chain;
-use crate::records::zeros_of_sets;
+use crate::records::records_alone;
 use tables::sets::level_of;
 use tables::sets::parent_of;
 use tables::sets::set_at;
@@ -92,7 +92,7 @@ pub fn sets_formed(t: &[u8]) -> bool
     requires { ⌜ filesAt ≤ length (now t) ⌝ }
     ensures { λ r. ⌜ r ≡ setRecordsFormed (now (t .entry)) ⌝ }
 {
-    if !zeros_of_sets(t) {
+    if !records_alone(t) {
         return false;
     }
     tree_formed(t)

@@ -8,7 +8,9 @@ ghost use lib.Dec.{eqb};
 ghost use Rattle.rules.specs.Numbers;
 ghost use Rattle.tables.specs.Calls.{callOn};
 ghost use Rattle.tables.specs.Checks.{checkBlocksOn, checkOn};
+ghost use Rattle.tables.specs.Convert.{convertOn};
 ghost use Rattle.tables.specs.Panel.{panelLineOn, panelReadOn, panelResetOn, panelWriteOn};
+ghost use Rattle.tables.specs.Terms.{currentOn, setTermOn};
 ghost use Rattle.calls.specs.Outcomes.{outcome};
 ghost use Rattle.panel.specs.Outcomes.{panelOutcome};
 use calls::answer::Answer;
@@ -175,4 +177,35 @@ pub extern "C" fn sweep_panel_line(registers: &[u8]) -> Answer
     ensures { λ r. ⌜ panelOutcome r (now (registers .entry)) [] [] ≡ panelLineOn (now (registers .entry)) ⌝ }
 {
     panel::line(registers)
+}
+
+// Reference terms: a set's term from a date and a count of months, and whether a set is current on a day.
+#[no_mangle]
+pub extern "C" fn sweep_set_term(
+    tables: &mut [u8],
+    pages: &mut [u8],
+    set: u32,
+    year: u32,
+    month: u32,
+    day: u32,
+    months: u32,
+) -> Answer
+    ensures { λ r. ⌜ outcome r (now (tables .exit)) (now (pages .exit)) [] ≡ setTermOn set year month day months (now (tables .entry)) (now (pages .entry)) ⌝ }
+{
+    calls::terms::set_term(tables, &*pages, set, year, month, day, months)
+}
+
+#[no_mangle]
+pub extern "C" fn sweep_current(tables: &[u8], pages: &[u8], set: u32, day: u32) -> Answer
+    ensures { λ r. ⌜ outcome r (now (tables .entry)) (now (pages .entry)) [] ≡ currentOn set day (now (tables .entry)) (now (pages .entry)) ⌝ }
+{
+    calls::terms::current(tables, pages, set, day)
+}
+
+// Tables of the older length, converted into a second buffer; old tables and pages are only read.
+#[no_mangle]
+pub extern "C" fn sweep_convert(old: &[u8], pages: &[u8], tables: &mut [u8]) -> Answer
+    ensures { λ r. ⌜ outcome r (now (tables .exit)) (now (pages .entry)) [] ≡ convertOn (now (old .entry)) (now (pages .entry)) (now (tables .entry)) ⌝ }
+{
+    calls::convert::convert(old, pages, tables)
 }

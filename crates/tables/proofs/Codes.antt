@@ -1,7 +1,7 @@
 -- The numbers that the code computes: what it takes from a word is what the layout reads, the words that it makes are those of the layout,
 -- and the places are the layout's. Assumes nothing.
 use mathlib.Core.List.{List}
-use mathlib.Core.Path.{ap, sym, _∙_, _≡_}
+use mathlib.Core.Path.{ap, ap₂, sym, _∙_, _≡_}
 use Prim.Native.Nat.{_%_, _*_, _+_, _-_, _/_, _<_, suc, ℕ, _≤_}
 use native.Mathlib.Omega.{arith}
 use lib.Dec.{eqb}
@@ -9,9 +9,9 @@ use lib.ListN.{getD, set}
 use lib.Seq.{set-getD}
 use Rattle.packing.specs.Bitmap.{is-one, isOne}
 use Rattle.packing.specs.Words.{Bytes, getWord, putWord}
-use Rattle.rules.specs.State.{SetRecord, State, fileCount, hole, marked, pageCount, setCount, stored, unmapped}
+use Rattle.rules.specs.State.{SetRecord, State, Term, fileCount, hole, marked, pageCount, setCount, stored, unmapped}
 use Rattle.tables.proofs.ReadParts.{read-blocks, read-map, read-next, read-set, read-size, read-state}
-use Rattle.tables.specs.Layout.{entryWord, fileAt, headerAt, readBlocks, readEntry, readNext, readSet, readSize, readState, setAt, stateNumber, stateOf, writeEntry, writeHead, writeHeader}
+use Rattle.tables.specs.Layout.{entryWord, fileAt, headerAt, readBlocks, readEntry, readNext, readSet, readSize, readState, readTerm, setAt, stateNumber, stateOf, termAt, writeEntry, writeHead, writeHeader, writeTerm}
 use Rattle.tables.specs.Packed.{unpack}
 
 -- ---- an entry
@@ -61,8 +61,8 @@ head-word l n k e = omega arith
 
 -- ---- a set record
 
-module _ (w : ℕ) where
-  -- the record that the code takes from a word
+module _ (w v : ℕ) where
+  -- the record that the code takes from its words
   abbrev pub setFields : SetRecord
   setFields = record {
     used = eqb (w / 8388608) 1;
@@ -71,38 +71,56 @@ module _ (w : ℕ) where
     parent = w / 32768 % 16;
     firstChild = w / 2048 % 16;
     nextSibling = w / 128 % 16;
+    term = record { firstDay = v / 65536; endDay = v % 65536 };
   }
 
   -- field by field: one omega for all is too much
   writeable-field : w / 4194304 % 2 ≡ w % 8388608 / 4194304
   writeable-field = omega arith
 
-  level-field : w / 524288 % 8 ≡ readSet w .level
+  level-field : w / 524288 % 8 ≡ readSet w v .level
   unfolding readSet
   level-field = omega arith
 
-  parent-field : w / 32768 % 16 ≡ readSet w .parent
+  parent-field : w / 32768 % 16 ≡ readSet w v .parent
   unfolding readSet
   parent-field = omega arith
 
-  child-field : w / 2048 % 16 ≡ readSet w .firstChild
+  child-field : w / 2048 % 16 ≡ readSet w v .firstChild
   unfolding readSet
   child-field = omega arith
 
-  sibling-field : w / 128 % 16 ≡ readSet w .nextSibling
+  sibling-field : w / 128 % 16 ≡ readSet w v .nextSibling
   unfolding readSet
   sibling-field = omega arith
 
-  set-fields : w < 16777216 → setFields ≡ readSet w
-  unfolding readSet
+  end-field : v % 65536 ≡ readTerm v .endDay
+  unfolding readTerm
+  end-field = omega arith
+
+  set-fields : w < 16777216 → setFields ≡ readSet w v
+  unfolding readSet readTerm
   set-fields h =
       let u = is-one (w / 8388608) (omega arith) in
-      let v = is-one (w / 4194304 % 2) (omega arith) ∙ ap isOne writeable-field in
-      λ i. record { used = u i; writeable = v i; level = level-field i; parent = parent-field i; firstChild = child-field i; nextSibling = sibling-field i }
+      let x = is-one (w / 4194304 % 2) (omega arith) ∙ ap isOne writeable-field in
+      λ i. record {
+        used = u i;
+        writeable = x i;
+        level = level-field i;
+        parent = parent-field i;
+        firstChild = child-field i;
+        nextSibling = sibling-field i;
+        term = record { firstDay = v / 65536; endDay = end-field i };
+      }
 
 -- LAW: the set record that the code reads
-pub set-read : (t : List ℕ) (s w : ℕ) → s < setCount → (w ≡ getWord 2 t (setAt s)) × (w < 16777216) → setFields w ≡ unpack t .sets s
-set-read t s w hs h = set-fields w (h .1) ∙ ap readSet (h .0) ∙ sym (read-set t s hs)
+pub set-read : (t : List ℕ) (s w v : ℕ) → s < setCount → (w ≡ getWord 2 t (setAt s)) × (w < 16777216) → v ≡ getWord 3 t (termAt s) → setFields w v ≡ unpack t .sets s
+set-read t s w v hs h k = set-fields w v (h .1) ∙ ap₂ readSet (h .0) k ∙ sym (read-set t s hs)
+
+-- LAW: the word of a term that the code makes
+pub term-word : (x : Term) → x .firstDay * 65536 + x .endDay ≡ writeTerm x
+unfolding writeTerm
+term-word x = omega arith
 
 -- ---- the header
 

@@ -11,12 +11,13 @@ use Rattle.base.specs.Logic.{and-false, and-left, and-right, test?}
 use Rattle.packing.specs.Bits.{bit}
 use Rattle.rules.proofs.Formed.BitsFormed.{AbsentBeyond, EmptyBeyond, blocks-formed}
 use Rattle.rules.proofs.Formed.FilesFormed.{Ranged, formed-state}
+use Rattle.rules.proofs.Formed.Tests.{and-4}
 use Rattle.rules.proofs.Blocks.RealStore.{BlocksOk}
 use Rattle.rules.proofs.Tree.SetsOk.{SetsOk}
 use Rattle.rules.proofs.Formed.Shape.{FilesFormed}
 use Rattle.rules.proofs.Tally.TallyLoops.{no-pages}
 use Rattle.rules.specs.State.{File, SetRecord, Tables, absentFile, pageBytes, treeOf}
-use Rattle.rules.specs.WellFormed.{bitsFormed, blocksFormed, filesFormed, headerFormed, pagesFit, setsFormed, treeFormed, zerosFormed}
+use Rattle.rules.specs.WellFormed.{bitsFormed, blocksFormed, filesFormed, headerFormed, pagesFit, setsFormed, termsFormed, treeFormed, zerosFormed}
 use Rattle.tables.proofs.OneReading.{formed-packed}
 use Rattle.tables.proofs.ReadParts.{bit-default, map-default, set-default, size-default, state-default}
 use Rattle.tables.specs.Calls.{storeOf}
@@ -90,7 +91,7 @@ formed-store t p h =
     let sets = and-right (fieldsFormed t) (setsFormed (unpack t)) (and-right (blockRules t && pagesFit (unpack t) n) (setRules t) h) in
     let hd = and-left (headerFormed (unpack t)) (bitsFormed (unpack t)) blocks in
     let bits = and-right (headerFormed (unpack t)) (bitsFormed (unpack t)) blocks in
-    let z = and-left (zerosFormed (unpack t)) (treeFormed (unpack t)) (and-left (zerosFormed (unpack t) && treeFormed (unpack t)) (filesFormed (unpack t)) sets) in
+    let z = and-4 (zerosFormed (unpack t)) (treeFormed (unpack t)) (termsFormed (unpack t)) (filesFormed (unpack t)) sets .0 in
     let st = formed-state (unpack t) (ranged t) sets in
     let ok : BlocksOk (storeOf t p) = blocks-formed (storeOf t p) (empty-beyond t) (absent-beyond t) hd bits z in
     record {

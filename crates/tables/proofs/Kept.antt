@@ -1,7 +1,7 @@
 -- What a change of some bytes of the tables, from lo on and below hi, leaves of the state: each part whose bytes it does not meet. Assumes nothing.
 use mathlib.Core.Bool.{true}
 use mathlib.Core.List.{List}
-use mathlib.Core.Path.{ap, fun-ext, subst, sym, _∙_, _≡_}
+use mathlib.Core.Path.{ap, ap₂, fun-ext, subst, sym, _∙_, _≡_}
 use Prim.Native.Nat.{_*_, _+_, _<_, suc, ℕ, _≤_}
 use native.Mathlib.Omega.{arith}
 use lib.Dec.{ltb}
@@ -15,7 +15,7 @@ use Rattle.packing.specs.Words.{Same, getWord, word-same}
 use Rattle.rules.specs.State.{File, fileCount, largestBlocks, pageCount, setCount}
 use Rattle.tables.proofs.InRange.{file-in, page-in}
 use Rattle.tables.proofs.ReadParts.{bit-default, map-default, read-bit, read-blocks, read-map, read-next, read-set, read-size, read-state, set-default, size-default, state-default}
-use Rattle.tables.specs.Layout.{bitmapAt, entryAt, entryBytes, entryWord, fileAt, fileBytes, filesAt, headBytes, headWidths, headWord, headerAt, headerWidths, headerWord, readBlocks, readEntry, readNext, readSet, readSize, readState, setAt, setBytes, setWidths, setWord, setsAt}
+use Rattle.tables.specs.Layout.{bitmapAt, entryAt, entryBytes, entryWord, fileAt, fileBytes, filesAt, headBytes, headWidths, headWord, headerAt, headerWidths, headerWord, readBlocks, readEntry, readNext, readSet, readSize, readState, setAt, setBytes, setWidths, setWord, setsAt, termAt}
 use Rattle.tables.specs.Packed.{entryFormed, isFile, isPage, unpack}
 use Rattle.tables.specs.Views.{PackedTables, putFiles}
 
@@ -23,7 +23,7 @@ module _ (lo hi : ℕ) (t t′ : List ℕ) (same : Same lo hi t t′) where
   -- ---- the parts of the state
 
   -- a word that the change does not meet
-  word-kept : (m at : ℕ) → (lo < at + suc m → at < hi → ⊥) → getWord m t′ at ≡ getWord m t at
+  pub word-kept : (m at : ℕ) → (lo < at + suc m → at < hi → ⊥) → getWord m t′ at ≡ getWord m t at
   word-kept m at h = word-same lo hi t t′ same m at (λ j k a b. h (omega arith) (omega arith))
 
   -- what is read from such a word
@@ -44,7 +44,9 @@ module _ (lo hi : ℕ) (t t′ : List ℕ) (same : Same lo hi t t′) where
 
   pub set-kept : (s : ℕ) → (s < setCount → lo < setAt s + setBytes → setAt s < hi → ⊥) → unpack t′ .sets s ≡ unpack t .sets s
   set-kept s h = test? (ltb s setCount)
-      (λ e. let l = ltb-true s setCount e in read-kept readSet 2 (setAt s) (read-set t′ s l) (read-set t s l) (h l))
+      (λ e. let l = ltb-true s setCount e in
+      read-set t′ s l ∙ ap₂ readSet (word-kept 2 (setAt s) (λ a b. h l (omega arith) (omega arith))) (word-kept 3 (termAt s) (λ a b. h l (omega arith) (omega arith)))
+      ∙ sym (read-set t s l))
       (λ e. let l = ltb-false s setCount e in set-default t′ s l ∙ sym (set-default t s l))
 
   pub state-kept : (f s : ℕ) → (f < fileCount → s < setCount → lo < fileAt f s + headBytes → fileAt f s < hi → ⊥) → unpack t′ .files f s .state ≡ unpack t .files f s .state
@@ -110,7 +112,7 @@ module _ (lo hi : ℕ) (t t′ : List ℕ) (same : Same lo hi t t′) where
   packed-kept h len header sets heads entries = record {
     len = len ∙ h .len;
     header-ok = word-met (λ w. getField headerWidths w 2 ≡ 0) 3 headerAt (h .header-ok) header;
-    set-ok = λ s hs. word-met (λ w. getField setWidths w 6 ≡ 0) 2 (setAt s) (h .set-ok s hs) (sets s hs);
+    set-ok = λ s hs. word-met (λ w. getField setWidths w 6 ≡ 0) 2 (setAt s) (h .set-ok s hs) (λ a b. sets s hs (omega arith) b);
     head-ok = λ f s hf hs. word-met (λ w. getField headWidths w 2 ≡ 0) 3 (fileAt f s) (h .head-ok f s hf hs) (heads f s hf hs);
     entry-ok = λ f s p hf hs hp. word-met (λ w. entryFormed t w ≡ true) 1 (entryAt f s p) (h .entry-ok f s p hf hs hp) (entries f s p hf hs hp);
   }

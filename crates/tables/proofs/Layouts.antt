@@ -11,8 +11,9 @@ use borrow.Author.Tests.{eqb-true, ltb-true}
 use Rattle.base.specs.Logic.{and-left, digit}
 use Rattle.packing.specs.Bitmap.{digit-lt, digit-one, isOne, one-digit}
 use Rattle.packing.specs.Fields.{Fit, getField, join, join-lt, join-split, split-fit, split-join}
-use Rattle.rules.specs.State.{Entry, SetRecord, State, absent, hole, marked, own, stored, unmapped, virgin}
-use Rattle.tables.specs.Layout.{blockNumber, entryOf, entryWidths, headWidths, headerWidths, kindNumber, readBlocks, readEntry, readNext, readSet, readSize, readState, setWidths, stateNumber, stateOf, writeEntry, writeHead, writeHeader, writeSet}
+use Rattle.rules.specs.State.{Entry, SetRecord, State, Term, absent, hole, marked, own, stored, unmapped, virgin}
+use Rattle.rules.specs.Terms.{withTerm}
+use Rattle.tables.specs.Layout.{blockNumber, entryOf, entryWidths, headWidths, headerWidths, kindNumber, readBlocks, readEntry, readNext, readSet, readSize, readState, readTerm, setWidths, stateNumber, stateOf, termWidths, writeEntry, writeHead, writeHeader, writeSet, writeTerm}
 use Rattle.tables.specs.OneReading.{SetFits, blockFits}
 use Rattle.tables.specs.Packed.{entryFormed}
 
@@ -150,28 +151,90 @@ pub write-set-lt : (r : SetRecord) → SetFits r → writeSet r < 16777216
 unfolding writeSet
 write-set-lt r h = join-lt setWidths (setValues r) (set-fit r h)
 
--- LAW: the record read from a written record
-pub read-write-set : (r : SetRecord) → SetFits r → readSet (writeSet r) ≡ r
+abbrev termValues : Term → List ℕ
+termValues x = x .firstDay ∷ x .endDay ∷ []
+
+-- the days of a term fit
+abbrev pub TermFits : Term → Type 0
+TermFits x = (x .firstDay < 65536) × (x .endDay < 65536)
+
+term-fit : (x : Term) → TermFits x → Fit termWidths (termValues x)
+term-fit x h = omega arith
+
+pub write-term-lt : (x : Term) → TermFits x → writeTerm x < 4294967296
+unfolding writeTerm
+write-term-lt x h = join-lt termWidths (termValues x) (term-fit x h)
+
+-- LAW: the term read from a written term
+pub read-write-term : (x : Term) → TermFits x → readTerm (writeTerm x) ≡ x
+unfolding readTerm writeTerm
+read-write-term x h = ap (λ (l : List ℕ). record { firstDay = getD l 0 0; endDay = getD l 1 0 }) (split-join termWidths (termValues x) (term-fit x h))
+
+-- LAW: the word of the term read from a word
+pub write-read-term : (w : ℕ) → w < 4294967296 → writeTerm (readTerm w) ≡ w
+unfolding readTerm writeTerm
+write-read-term w h = join-split termWidths w h
+
+-- LAW: the record read from a written record and any word of a term
+pub read-write-tree : (r : SetRecord) (v : ℕ) → SetFits r → readSet (writeSet r) v ≡ withTerm r (readTerm v)
 unfolding readSet writeSet
-read-write-set r h =
-    ap (λ (l : List ℕ). record { used = isOne (getD l 0 0); writeable = isOne (getD l 1 0); level = getD l 2 0; parent = getD l 3 0; firstChild = getD l 4 0; nextSibling = getD l 5 0 })
+read-write-tree r v h =
+    ap (λ (l : List ℕ). record {
+      used = isOne (getD l 0 0);
+      writeable = isOne (getD l 1 0);
+      level = getD l 2 0;
+      parent = getD l 3 0;
+      firstChild = getD l 4 0;
+      nextSibling = getD l 5 0;
+      term = readTerm v;
+    })
     (split-join setWidths (setValues r) (set-fit r h))
-    ∙ (λ i. record { used = one-digit (r .used) i; writeable = one-digit (r .writeable) i; level = r .level; parent = r .parent; firstChild = r .firstChild; nextSibling = r .nextSibling })
+    ∙ (λ i. record {
+      used = one-digit (r .used) i;
+      writeable = one-digit (r .writeable) i;
+      level = r .level;
+      parent = r .parent;
+      firstChild = r .firstChild;
+      nextSibling = r .nextSibling;
+      term = readTerm v;
+    })
+
+-- LAW: the record read from a written record
+pub read-write-set : (r : SetRecord) → SetFits r → readSet (writeSet r) (writeTerm (r .term)) ≡ r
+read-write-set r h = read-write-tree r (writeTerm (r .term)) h ∙ ap (withTerm r) (read-write-term (r .term) (h .first-fits, h .end-fits))
+
+-- the term of a record that is read
+pub read-set-term : (w v : ℕ) → readSet w v .term ≡ readTerm v
+unfolding readSet
+read-set-term w v = refl
+
+-- another word of the term
+pub read-set-with : (w v v′ : ℕ) → readSet w v′ ≡ withTerm (readSet w v) (readTerm v′)
+unfolding readSet
+read-set-with w v v′ = refl
 
 pub set-zero-field : (r : SetRecord) → SetFits r → getField setWidths (writeSet r) 6 ≡ 0
 unfolding writeSet
 set-zero-field r h = field-join setWidths (setValues r) 6 (set-fit r h)
 
-pub read-set-fits : (w : ℕ) → w < 16777216 → SetFits (readSet w)
-unfolding readSet
-read-set-fits w h =
+pub read-set-fits : (w v : ℕ) → w < 16777216 → v < 4294967296 → SetFits (readSet w v)
+unfolding readSet readTerm
+read-set-fits w v h k =
     let fit = split-fit setWidths w h in
-    record { level-fits = fit .1 .1 .0; parent-fits = fit .1 .1 .1 .0; child-fits = fit .1 .1 .1 .1 .0; sibling-fits = fit .1 .1 .1 .1 .1 .0 }
+    let days = split-fit termWidths v k in
+    record {
+      level-fits = fit .1 .1 .0;
+      parent-fits = fit .1 .1 .1 .0;
+      child-fits = fit .1 .1 .1 .1 .0;
+      sibling-fits = fit .1 .1 .1 .1 .1 .0;
+      first-fits = days .0;
+      end-fits = days .1 .0;
+    }
 
 -- LAW: the word of the record read from a word with its zero field 0
-pub write-read-set : (w : ℕ) → w < 16777216 → getField setWidths w 6 ≡ 0 → writeSet (readSet w) ≡ w
+pub write-read-set : (w v : ℕ) → w < 16777216 → getField setWidths w 6 ≡ 0 → writeSet (readSet w v) ≡ w
 unfolding readSet writeSet
-write-read-set w h z =
+write-read-set w v h z =
     let fit = split-fit setWidths w h in
     let u = digit-one (getField setWidths w 0) (fit .0) in
     let v = digit-one (getField setWidths w 1) (fit .1 .0) in

@@ -9,6 +9,8 @@ pub mod BlocksAlone
 pub mod PackWords
 pub mod PackUnpack
 pub mod OneReading
+pub mod Widening
+pub mod TermCalls
 pub mod Operations
 pub mod Kept
 pub mod Stores

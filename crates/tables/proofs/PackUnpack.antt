@@ -10,12 +10,12 @@ use Rattle.base.specs.Logic.{test?}
 use Rattle.base.specs.Tabulate.{tab-of}
 use Rattle.packing.specs.Bitmap.{bitAt, map-byte, map-same}
 use Rattle.packing.specs.Words.{Bytes, byte, get-lt, word-byte}
-use Rattle.rules.specs.State.{Tables, fileCount, largestBlocks, pageCount, setCount}
+use Rattle.rules.specs.State.{SetRecord, Tables, fileCount, largestBlocks, pageCount, setCount}
 use Rattle.tables.proofs.InRange.{file-in, page-in}
-use Rattle.tables.proofs.Layouts.{entry-formed, head-zero-field, header-zero-field, read-blocks-fits, read-entry-fits, read-next-fits, read-set-fits, read-size-fits, read-write-blocks, read-write-entry, read-write-next, read-write-set, read-write-size, read-write-state, set-zero-field, write-read-entry, write-read-head, write-read-header, write-read-set}
-use Rattle.tables.proofs.PackWords.{at-entry, at-head, at-header, at-map, at-set, bit-packed, entry-packed, head-packed, header-packed, length-pack, set-packed}
+use Rattle.tables.proofs.Layouts.{entry-formed, head-zero-field, header-zero-field, read-blocks-fits, read-entry-fits, read-next-fits, read-set-fits, read-set-term, read-size-fits, read-write-blocks, read-write-entry, read-write-next, read-write-set, read-write-size, read-write-state, set-zero-field, write-read-entry, write-read-head, write-read-header, write-read-set, write-read-term}
+use Rattle.tables.proofs.PackWords.{at-entry, at-head, at-header, at-map, at-set, at-term, bit-packed, entry-packed, head-packed, header-packed, length-pack, set-packed, term-packed}
 use Rattle.tables.proofs.ReadParts.{bit-default, map-default, read-bit, read-blocks, read-map, read-next, read-set, read-size, read-state, set-default, size-default, state-default}
-use Rattle.tables.specs.Layout.{bitmapAt, entryAt, entryBytes, entryWord, fileAt, fileBytes, filesAt, headBytes, headWord, headerAt, headerWord, readBlocks, readEntry, readNext, readSet, readSize, readState, setAt, setBytes, setWord, setsAt, tableBytes, writeEntry, writeHead, writeHeader, writeSet}
+use Rattle.tables.specs.Layout.{bitmapAt, entryAt, entryBytes, entryWord, fileAt, fileBytes, filesAt, headBytes, headWord, headerAt, headerWord, readBlocks, readEntry, readNext, readSet, readSize, readState, setAt, setBytes, setWord, setsAt, tableBytes, termAt, termWord, treeBytes, writeEntry, writeHead, writeHeader, writeSet, writeTerm}
 use Rattle.tables.specs.OneReading.{Fits}
 use Rattle.tables.specs.Packed.{isFile, isPage, pack, tableByte, unpack}
 use Rattle.tables.specs.Views.{PackedTables}
@@ -25,7 +25,7 @@ use Rattle.tables.specs.Views.{PackedTables}
 module _ (tb : Tables) (h : Fits tb) where
   set-back : (s : ℕ) → unpack (pack tb) .sets s ≡ tb .sets s
   set-back s = test? (ltb s setCount)
-      (λ e. let l = ltb-true s setCount e in read-set (pack tb) s l ∙ ap readSet (set-packed tb s l) ∙ read-write-set (tb .sets s) (h .set-fits s))
+      (λ e. let l = ltb-true s setCount e in read-set (pack tb) s l ∙ ap₂ readSet (set-packed tb s l) (term-packed tb s l) ∙ read-write-set (tb .sets s) (h .set-fits s))
       (λ e. let l = ltb-false s setCount e in set-default (pack tb) s l ∙ sym (h .set-out s l))
 
   bit-back : (b : ℕ) → unpack (pack tb) .bits b ≡ tb .bits b
@@ -80,15 +80,20 @@ at-places : (P : ℕ → Type 0)
     → ((j : ℕ) → j ≤ 3 → P (headerAt + j))
     → ((k : ℕ) → k < 512 → P (bitmapAt + k))
     → ((s j : ℕ) → s < setCount → j ≤ 2 → P (setAt s + j))
+    → ((s j : ℕ) → s < setCount → j ≤ 3 → P (termAt s + j))
     → ((f s j : ℕ) → f < fileCount → s < setCount → j ≤ 3 → P (fileAt f s + j))
     → ((f s p j : ℕ) → f < fileCount → s < setCount → p < pageCount → j ≤ 1 → P (entryAt f s p + j))
     → (i : ℕ) → i < tableBytes → P i
-at-places P header bits sets heads entries i h =
+at-places P header bits sets terms heads entries i h =
     test? (ltb i bitmapAt) (λ e. let l = ltb-true i bitmapAt e in subst P (omega arith) (header i (omega arith)))
     (λ e₁. let l₁ = ltb-false i bitmapAt e₁ in
     test? (ltb i setsAt) (λ e. let l = ltb-true i setsAt e in subst P (omega arith) (bits (i - bitmapAt) (omega arith)))
     (λ e₂. let l₂ = ltb-false i setsAt e₂ in
-    test? (ltb i filesAt) (λ e. let l = ltb-true i filesAt e in subst P (omega arith) (sets ((i - setsAt) / setBytes) ((i - setsAt) % setBytes) (omega arith) (omega arith)))
+    test? (ltb i filesAt)
+    (λ e. let l = ltb-true i filesAt e in
+    let k = (i - setsAt) % setBytes in
+    test? (ltb k treeBytes) (λ q. let b = ltb-true k treeBytes q in subst P (omega arith) (sets ((i - setsAt) / setBytes) k (omega arith) (omega arith)))
+    (λ q. let b = ltb-false k treeBytes q in subst P (omega arith) (terms ((i - setsAt) / setBytes) (k - treeBytes) (omega arith) (omega arith))))
     (λ e₃. let l₃ = ltb-false i filesAt e₃ in
     let n = (i - filesAt) / fileBytes in
     let j = (i - filesAt) % fileBytes in
@@ -104,7 +109,7 @@ unpack-fits t bs = record {
   blocks-fit = rw (read-blocks t) (read-blocks-fits (headerWord t) (get-lt 3 t headerAt bs));
   next-fits = rw (read-next t) (read-next-fits (headerWord t) (get-lt 3 t headerAt bs));
   set-fits = λ s. test? (ltb s setCount)
-      (λ e. rw (read-set t s (ltb-true s setCount e)) (read-set-fits (setWord t s) (get-lt 2 t (setAt s) bs)))
+      (λ e. rw (read-set t s (ltb-true s setCount e)) (read-set-fits (setWord t s) (termWord t s) (get-lt 2 t (setAt s) bs) (get-lt 3 t (termAt s) bs)))
       (λ e. rw (set-default t s (ltb-false s setCount e)) (omega arith));
   size-fits = λ f s. test? (isFile f s)
       (λ e. let l = file-in f s e in rw (read-size t f s (l .0) (l .1)) (read-size-fits (headWord t f s) (get-lt 3 t (fileAt f s) bs)))
@@ -125,7 +130,12 @@ module _ (t : List ℕ) (h : PackedTables t) (bs : Bytes t) where
   header-again = rw (read-blocks t, read-next t) (write-read-header (headerWord t) (get-lt 3 t headerAt bs) (h .header-ok))
 
   set-again : (s : ℕ) → s < setCount → writeSet (unpack t .sets s) ≡ setWord t s
-  set-again s hs = ap writeSet (read-set t s hs) ∙ write-read-set (setWord t s) (get-lt 2 t (setAt s) bs) (h .set-ok s hs)
+  set-again s hs = ap writeSet (read-set t s hs) ∙ write-read-set (setWord t s) (termWord t s) (get-lt 2 t (setAt s) bs) (h .set-ok s hs)
+
+  term-again : (s : ℕ) → s < setCount → writeTerm (unpack t .sets s .term) ≡ termWord t s
+  term-again s hs =
+      ap (λ (r : SetRecord). writeTerm (r .term)) (read-set t s hs) ∙ ap writeTerm (read-set-term (setWord t s) (termWord t s))
+      ∙ write-read-term (termWord t s) (get-lt 3 t (termAt s) bs)
 
   head-again : (f s : ℕ) → f < fileCount → s < setCount → writeHead (unpack t .files f s .state) (unpack t .files f s .size) ≡ headWord t f s
   head-again f s hf hs =
@@ -140,6 +150,7 @@ module _ (t : List ℕ) (h : PackedTables t) (bs : Bytes t) where
       (λ j k. at-header (unpack t) j k ∙ ap (λ w. byte 3 w j) header-again ∙ word-byte 3 t headerAt j bs k)
       (λ k l. at-map (unpack t) k l ∙ map-same (bitAt t bitmapAt) (unpack t .bits) k (λ j m. read-bit t (k * 8 + j) (omega arith)) ∙ map-byte t bitmapAt k bs)
       (λ s j hs k. at-set (unpack t) s j hs k ∙ ap (λ w. byte 2 w j) (set-again s hs) ∙ word-byte 2 t (setAt s) j bs k)
+      (λ s j hs k. at-term (unpack t) s j hs k ∙ ap (λ w. byte 3 w j) (term-again s hs) ∙ word-byte 3 t (termAt s) j bs k)
       (λ f s j hf hs k. at-head (unpack t) f s j hf hs k ∙ ap (λ w. byte 3 w j) (head-again f s hf hs) ∙ word-byte 3 t (fileAt f s) j bs k)
       (λ f s p j hf hs hp k. at-entry (unpack t) f s p j hf hs hp k ∙ ap (λ w. byte 1 w j) (entry-again f s p hf hs hp) ∙ word-byte 1 t (entryAt f s p) j bs k)
 

@@ -8,8 +8,8 @@ use Rattle.base.specs.Tabulate.{getD-tab, length-tab}
 use Rattle.packing.specs.Bitmap.{bitAt, map-bits, mapByte}
 use Rattle.packing.specs.Words.{byte, bytes-word}
 use Rattle.rules.specs.State.{Tables, fileCount, largestBlocks, pageCount, setCount}
-use Rattle.tables.specs.Layout.{bitmapAt, entryAt, entryBytes, entryWord, fileAt, fileBytes, filesAt, headBytes, headWord, headerAt, headerWord, setAt, setBytes, setWord, setsAt, tableBytes, writeEntry, writeHead, writeHeader, writeSet}
-use Rattle.tables.specs.Packed.{pack, recordByte, tableByte}
+use Rattle.tables.specs.Layout.{bitmapAt, entryAt, entryBytes, entryWord, fileAt, fileBytes, filesAt, headBytes, headWord, headerAt, headerWord, setAt, setBytes, setWord, setsAt, tableBytes, termAt, termWord, treeBytes, writeEntry, writeHead, writeHeader, writeSet, writeTerm}
+use Rattle.tables.specs.Packed.{pack, recordByte, setByte, tableByte}
 
 pub length-pack : (tb : Tables) → length (pack tb) ≡ tableBytes
 unfolding pack
@@ -30,13 +30,24 @@ module _ (tb : Tables) where
   unfolding tableByte
   at-map k h = let e : bitmapAt + k - bitmapAt ≡ k = omega arith in rw (le-ltb (bitmapAt + k) bitmapAt (omega arith), lt-ltb (bitmapAt + k) setsAt (omega arith), e)
 
-  pub at-set : (s j : ℕ) → s < setCount → j ≤ 2 → tableByte tb (setAt s + j) ≡ byte 2 (writeSet (tb .sets s)) j
+  at-set-record : (s j : ℕ) → s < setCount → j < setBytes → tableByte tb (setAt s + j) ≡ setByte (tb .sets s) j
   unfolding tableByte
-  at-set s j h k =
+  at-set-record s j h k =
       let i = setAt s + j in
       let a : (i - setsAt) / setBytes ≡ s = omega arith in
       let b : (i - setsAt) % setBytes ≡ j = omega arith in
       rw (le-ltb i bitmapAt (omega arith), le-ltb i setsAt (omega arith), lt-ltb i filesAt (omega arith), a, b)
+
+  pub at-set : (s j : ℕ) → s < setCount → j ≤ 2 → tableByte tb (setAt s + j) ≡ byte 2 (writeSet (tb .sets s)) j
+  unfolding setByte
+  at-set s j h k = at-set-record s j h (omega arith) ∙ rw (lt-ltb j treeBytes (omega arith))
+
+  pub at-term : (s j : ℕ) → s < setCount → j ≤ 3 → tableByte tb (termAt s + j) ≡ byte 3 (writeTerm (tb .sets s .term)) j
+  unfolding setByte
+  at-term s j h k =
+      let a : termAt s + j ≡ setAt s + (treeBytes + j) = omega arith in
+      let b : treeBytes + j - treeBytes ≡ j = omega arith in
+      ap (tableByte tb) a ∙ at-set-record s (treeBytes + j) h (omega arith) ∙ rw (le-ltb (treeBytes + j) treeBytes (omega arith), b)
 
   at-record : (f s j : ℕ) → f < fileCount → s < setCount → j < fileBytes → tableByte tb (fileAt f s + j) ≡ recordByte tb (s * fileCount + f) j
   unfolding tableByte
@@ -74,6 +85,9 @@ module _ (tb : Tables) where
 
   pub set-packed : (s : ℕ) → s < setCount → setWord (pack tb) s ≡ writeSet (tb .sets s)
   set-packed s h = bytes-word 2 (pack tb) (setAt s) _ (λ j k. pack-at tb (setAt s + j) (omega arith) ∙ at-set s j h k)
+
+  pub term-packed : (s : ℕ) → s < setCount → termWord (pack tb) s ≡ writeTerm (tb .sets s .term)
+  term-packed s h = bytes-word 3 (pack tb) (termAt s) _ (λ j k. pack-at tb (termAt s + j) (omega arith) ∙ at-term s j h k)
 
   pub head-packed : (f s : ℕ) → f < fileCount → s < setCount → headWord (pack tb) f s ≡ writeHead (tb .files f s .state) (tb .files f s .size)
   head-packed f s hf hs = bytes-word 3 (pack tb) (fileAt f s) _ (λ j k. pack-at tb (fileAt f s + j) (omega arith) ∙ at-head f s j hf hs k)

@@ -13,7 +13,7 @@ use Rattle.packing.specs.Bitmap.{bit-front}
 use Rattle.packing.specs.Words.{get-behind, get-front, getWord}
 use Rattle.rules.specs.State.{fileCount, largestBlocks, pageCount, setCount}
 use Rattle.tables.proofs.ReadParts.{bit-default, read-bit, read-blocks, read-map, read-next, read-set, set-default}
-use Rattle.tables.specs.Layout.{allFilesBytes, bitmapAt, entryBytes, entryWord, fileBytes, filesAt, headBytes, headWord, headerWord, readBlocks, readEntry, readNext, readSet, setAt, setWord, tableBytes}
+use Rattle.tables.specs.Layout.{allFilesBytes, bitmapAt, entryBytes, entryWord, fileBytes, filesAt, headBytes, headWord, headerWord, readBlocks, readEntry, readNext, readSet, setAt, setWord, tableBytes, termAt, termWord}
 use Rattle.tables.specs.Packed.{unpack}
 
 -- LAW: a list as it stands, cut in two
@@ -59,9 +59,12 @@ module _ (front files : List ℕ) (len : length front ≡ filesAt) where
   pub set-word-front : (s : ℕ) → s < setCount → setWord whole s ≡ setWord front s
   set-word-front s l = word-front 2 (setAt s) (omega arith)
 
+  term-word-front : (s : ℕ) → s < setCount → termWord whole s ≡ termWord front s
+  term-word-front s l = word-front 3 (termAt s) (omega arith)
+
   set-is : (s : ℕ) → unpack whole .sets s ≡ unpack front .sets s
   set-is s = test? (ltb s setCount)
-      (λ e. let l = ltb-true s setCount e in read-set whole s l ∙ ap readSet (set-word-front s l) ∙ sym (read-set front s l))
+      (λ e. let l = ltb-true s setCount e in read-set whole s l ∙ ap₂ readSet (set-word-front s l) (term-word-front s l) ∙ sym (read-set front s l))
       (λ e. let l = ltb-false s setCount e in set-default whole s l ∙ sym (set-default front s l))
 
   pub sets-front : unpack whole .sets ≡ unpack front .sets

@@ -7,7 +7,7 @@ use borrow.Author.Tests.{le-ltb, lt-ltb}
 use Rattle.packing.specs.Bitmap.{bitAt}
 use Rattle.rules.specs.State.{absent, fileCount, largestBlocks, pageCount, setCount, unmapped, unusedSet}
 use Rattle.tables.proofs.InRange.{is-file, is-page}
-use Rattle.tables.specs.Layout.{bitmapAt, entryWord, headWord, headerWord, readBlocks, readEntry, readNext, readSet, readSize, readState, setWord}
+use Rattle.tables.specs.Layout.{bitmapAt, entryWord, headWord, headerWord, readBlocks, readEntry, readNext, readSet, readSize, readState, setWord, termWord}
 use Rattle.tables.specs.Packed.{isFile, isPage, unpack}
 
 module _ (t : List ℕ) where
@@ -25,7 +25,7 @@ module _ (t : List ℕ) where
   unfolding unpack
   read-bit b h = rw (lt-ltb b largestBlocks h)
 
-  pub read-set : (s : ℕ) → s < setCount → unpack t .sets s ≡ readSet (setWord t s)
+  pub read-set : (s : ℕ) → s < setCount → unpack t .sets s ≡ readSet (setWord t s) (termWord t s)
   unfolding unpack
   read-set s h = rw (lt-ltb s setCount h)
 

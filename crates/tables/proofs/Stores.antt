@@ -1,25 +1,28 @@
 -- A store into the tables is a change of the state: an entry, a head, a set record, the next start, a bit. Assumes nothing.
 use mathlib.Core.Bool.{Bool, false, true}
 use mathlib.Core.List.{List}
-use mathlib.Core.Path.{ap, refl, sym, _∙_, _≡_}
+use mathlib.Core.Path.{ap, ap₂, refl, subst, sym, _∙_, _≡_}
 use Prim.Native.Nat.{_+_, _/_, _<_, _^_, suc, ℕ}
 use native.Mathlib.Omega.{arith}
 use lib.Dec.{ltb}
 use lib.ListN.{length}
 use borrow.Author.Tests.{ltb-false, ltb-true}
 use Rattle.base.specs.Logic.{test?}
-use Rattle.base.specs.Update.{upd, upd-is, upd-other, upd-same}
+use Rattle.base.specs.Update.{upd, upd-is, upd-other, upd-same, upd-upd}
 use Rattle.packing.specs.Bitmap.{bitAt, bits-clear, bits-set, clear-same, clearBit, length-clear-bit, length-set-bit, set-same, setBit}
 use Rattle.packing.specs.Fields.{getField}
 use Rattle.packing.specs.Words.{Same, get-put-same, getWord, length-put, put-same, putWord}
 use Rattle.rules.specs.Rules.{putEntry}
-use Rattle.rules.specs.State.{Entry, SetRecord, State, fileCount, largestBlocks, pageCount, setCount}
-use Rattle.tables.proofs.Kept.{bits-kept, blocks-kept, file-put, files-kept, map-kept, next-kept, packed-kept, set-kept, sets-kept, size-kept, state-kept}
-use Rattle.tables.proofs.Layouts.{entry-formed, head-zero-field, header-zero-field, read-write-blocks, read-write-entry, read-write-next, read-write-set, read-write-size, read-write-state, set-zero-field, write-entry-lt, write-head-lt, write-header-lt, write-set-lt}
+use Rattle.rules.specs.State.{Entry, SetRecord, State, Tables, Term, fileCount, largestBlocks, pageCount, setCount}
+use Rattle.rules.specs.Terms.{withTerm}
+use Rattle.tables.proofs.Kept.{bits-kept, blocks-kept, file-put, files-kept, map-kept, next-kept, packed-kept, set-kept, sets-kept, size-kept, state-kept, word-kept}
+use Rattle.tables.proofs.Layouts.{TermFits, entry-formed, head-zero-field, header-zero-field, read-set-term, read-set-with, read-write-blocks, read-write-entry, read-write-next, read-write-size, read-write-state, read-write-term, read-write-tree, set-zero-field, write-entry-lt, write-head-lt, write-header-lt, write-set-lt, write-term-lt}
+use Rattle.tables.proofs.Operations.{turns-more}
 use Rattle.tables.proofs.ReadParts.{bit-default, read-bit, read-blocks, read-map, read-next, read-set, read-size, read-state}
-use Rattle.tables.specs.Layout.{bitmapAt, entryAt, fileAt, headWidths, headerAt, headerWidths, readBlocks, readEntry, readNext, readSet, readSize, readState, setAt, setWidths, writeEntry, writeHead, writeHeader, writeSet}
+use Rattle.tables.specs.Layout.{bitmapAt, entryAt, fileAt, headWidths, headerAt, headerWidths, readBlocks, readEntry, readNext, readSet, readSize, readState, setAt, setWidths, setWord, termAt, termWord, writeEntry, writeHead, writeHeader, writeSet, writeTerm}
 use Rattle.tables.specs.OneReading.{SetFits, blockFits}
 use Rattle.tables.specs.Packed.{entryFormed, unpack}
+use Rattle.tables.specs.Terms.{putTermIn}
 use Rattle.tables.specs.Views.{PackedTables, Turns, putBitIn, putEntryIn, putHead, putHeadIn, putNextIn, putSetIn}
 
 -- the word that is put, at whichever place it is
@@ -80,10 +83,10 @@ module _ (t : List ℕ) (h : PackedTables t) (f s : ℕ) (state : State) (size :
 -- ---- a set record
 
 module _ (t : List ℕ) (h : PackedTables t) (s : ℕ) (r : SetRecord) (hs : s < setCount) (hr : SetFits r) where
-  -- LAW: a set record stored
-  pub set-turns : Turns t (putWord 2 t (setAt s) (writeSet r)) (putSetIn s r)
+  -- the first word of a set record stored: the term stays
+  tree-turns : Turns t (putWord 2 t (setAt s) (writeSet r)) (putSetIn s (withTerm r (unpack t .sets s .term)))
   unfolding putSetIn
-  set-turns =
+  tree-turns =
       let at = setAt s in
       let w = writeSet r in
       let t′ = putWord 2 t at w in
@@ -94,8 +97,10 @@ module _ (t : List ℕ) (h : PackedTables t) (s : ℕ) (r : SetRecord) (hs : s <
       let a = blocks-kept at (at + 3) t t′ same (omega arith) in
       let b = next-kept at (at + 3) t t′ same (omega arith) in
       let c = bits-kept at (at + 3) t t′ same (omega arith) in
-      let d = upd-is (unpack t .sets) (unpack t′ .sets) s r
-      (read-set t′ s hs ∙ ap readSet here ∙ read-write-set r hr)
+      let term : termWord t′ s ≡ termWord t s = word-kept at (at + 3) t t′ same 3 (termAt s) (omega arith) in
+      let d = upd-is (unpack t .sets) (unpack t′ .sets) s (withTerm r (unpack t .sets s .term))
+      (read-set t′ s hs ∙ ap₂ readSet here term ∙ read-write-tree r (termWord t s) hr
+      ∙ ap (withTerm r) (sym (ap (λ (y : SetRecord). y .term) (read-set t s hs) ∙ read-set-term (setWord t s) (termWord t s))))
       (λ x n. set-kept at (at + 3) t t′ same x (λ _ k l. n (omega arith))) in
       let e = files-kept at (at + 3) t t′ same (omega arith) in
       record {
@@ -105,6 +110,51 @@ module _ (t : List ℕ) (h : PackedTables t) (s : ℕ) (r : SetRecord) (hs : s <
             (λ x hx k l. put-word (λ v. getField setWidths v 6 ≡ 0) 2 t at w (setAt x) (omega arith) (omega arith) word-lt (set-zero-field r hr))
             (omega arith) (λ x y z hx hy hz k l. absurd (omega arith));
       }
+
+module _ (t : List ℕ) (h : PackedTables t) (s : ℕ) (x : Term) (hs : s < setCount) (hx : TermFits x) where
+  -- LAW: a term stored
+  pub term-turns : Turns t (putWord 3 t (termAt s) (writeTerm x)) (putTermIn s x)
+  unfolding putTermIn
+  term-turns =
+      let at = termAt s in
+      let w = writeTerm x in
+      let t′ = putWord 3 t at w in
+      let same = put-same 3 t at w in
+      let len = h .len in
+      let here : getWord 3 t′ at ≡ w = get-put-same 3 t at w (omega arith) (write-term-lt x hx) in
+      let a = blocks-kept at (at + 4) t t′ same (omega arith) in
+      let b = next-kept at (at + 4) t t′ same (omega arith) in
+      let c = bits-kept at (at + 4) t t′ same (omega arith) in
+      let tree : setWord t′ s ≡ setWord t s = word-kept at (at + 4) t t′ same 2 (setAt s) (omega arith) in
+      let d = upd-is (unpack t .sets) (unpack t′ .sets) s (withTerm (unpack t .sets s) x)
+      (read-set t′ s hs ∙ ap₂ readSet tree here ∙ read-set-with (setWord t s) (termWord t s) w ∙ ap (withTerm (readSet (setWord t s) (termWord t s))) (read-write-term x hx)
+      ∙ ap (λ (y : SetRecord). withTerm y x) (sym (read-set t s hs)))
+      (λ y n. set-kept at (at + 4) t t′ same y (λ _ k l. n (omega arith))) in
+      let e = files-kept at (at + 4) t t′ same (omega arith) in
+      record {
+        view = λ i. record { blocks = a i; next = b i; bits = c i; sets = d i; files = e i };
+        packed = packed-kept at (at + 4) t t′ same h (length-put 3 t at w)
+            (omega arith)
+            (λ y hy k l. subst (λ v. getField setWidths v 6 ≡ 0) (sym (word-kept at (at + 4) t t′ same 2 (setAt y) (omega arith))) (h .set-ok y hy))
+            (omega arith) (λ y z p hy hz hp k l. absurd (omega arith));
+      }
+
+module _ (t : List ℕ) (h : PackedTables t) (s : ℕ) (r : SetRecord) (hs : s < setCount) (hr : SetFits r) where
+  -- the first word, then the term
+  both-put : (tb : Tables) → putTermIn s (r .term) (putSetIn s (withTerm r (tb .sets s .term)) tb) ≡ putSetIn s r tb
+  unfolding putTermIn putSetIn
+  both-put tb =
+      let old : SetRecord = withTerm r (tb .sets s .term) in
+      let e : upd (upd (tb .sets) s old) s (withTerm (upd (tb .sets) s old s) (r .term)) ≡ upd (tb .sets) s r =
+      ap (λ (y : SetRecord). upd (upd (tb .sets) s old) s (withTerm y (r .term))) (upd-same (tb .sets) s old) ∙ upd-upd (tb .sets) s old r in
+      λ i. record { blocks = tb .blocks; next = tb .next; bits = tb .bits; sets = e i; files = tb .files }
+
+  -- LAW: a set record stored
+  pub set-turns : Turns t (putWord 3 (putWord 2 t (setAt s) (writeSet r)) (termAt s) (writeTerm (r .term))) (putSetIn s r)
+  set-turns =
+      let a = tree-turns t h s r hs hr in
+      turns-more (putSetIn s (withTerm r (unpack t .sets s .term))) (putTermIn s (r .term)) (putSetIn s r) a
+      (term-turns (putWord 2 t (setAt s) (writeSet r)) (a .packed) s (r .term) hs (hr .first-fits, hr .end-fits)) (both-put (unpack t))
 
 -- ---- the next start
 

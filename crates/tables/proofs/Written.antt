@@ -6,13 +6,15 @@ use Prim.Native.Nat.{_%_, _*_, _+_, _/_, _<_, ℕ}
 use lib.ListN.{getD, set}
 use Rattle.packing.specs.Bitmap.{clearBit, setBit}
 use Rattle.packing.specs.Words.{Bytes, putWord}
-use Rattle.rules.specs.State.{Entry, SetRecord, State, Tables, fileCount, largestBlocks, pageCount, setCount}
+use Rattle.rules.specs.State.{Entry, SetRecord, State, Tables, Term, fileCount, largestBlocks, pageCount, setCount}
 use Rattle.tables.proofs.Codes.{blocks-lt, head-word, next-bytes}
+use Rattle.tables.proofs.Layouts.{TermFits}
 use Rattle.tables.proofs.PackUnpack.{pack-unpack}
-use Rattle.tables.proofs.Stores.{clear-bit-turns, entry-turns, head-turns, next-turns, set-bit-turns, set-turns}
-use Rattle.tables.specs.Layout.{bitmapAt, entryAt, fileAt, setAt, stateNumber, writeEntry, writeSet}
+use Rattle.tables.proofs.Stores.{clear-bit-turns, entry-turns, head-turns, next-turns, set-bit-turns, set-turns, term-turns}
+use Rattle.tables.specs.Layout.{bitmapAt, entryAt, fileAt, setAt, stateNumber, termAt, writeEntry, writeSet, writeTerm}
 use Rattle.tables.specs.OneReading.{SetFits, blockFits}
 use Rattle.tables.specs.Packed.{pack, unpack}
+use Rattle.tables.specs.Terms.{putTermIn}
 use Rattle.tables.specs.Views.{PackedTables, Turns, putBitIn, putEntryIn, putHeadIn, putNextIn, putSetIn}
 
 -- tables that are those of a law
@@ -34,9 +36,14 @@ module _ (t t′ : List ℕ) where
   head-written f s k n l h number put =
       turns-of t _ t′ _ (put ∙ ap (putWord 3 t (fileAt f s)) (head-word l n k number)) (head-turns t (h .0) f s l n (h .1) (h .2) (h .3))
 
-  pub set-written : (s w : ℕ) (r : SetRecord) → PackedTables t × (s < setCount) × SetFits r
-      → w ≡ writeSet r → t′ ≡ putWord 2 t (setAt s) w → Turns t t′ (putSetIn s r)
-  set-written s w r h word put = turns-of t _ t′ _ (put ∙ ap (putWord 2 t (setAt s)) word) (set-turns t (h .0) s r (h .1) (h .2))
+  pub set-written : (s w v : ℕ) (r : SetRecord) (t₁ : List ℕ) → PackedTables t × (s < setCount) × SetFits r
+      → w ≡ writeSet r → v ≡ writeTerm (r .term) → t₁ ≡ putWord 2 t (setAt s) w → t′ ≡ putWord 3 t₁ (termAt s) v → Turns t t′ (putSetIn s r)
+  set-written s w v r t₁ h word term first put =
+      turns-of t _ t′ _ (put ∙ (λ i. putWord 3 ((first ∙ ap (putWord 2 t (setAt s)) word) i) (termAt s) (term i))) (set-turns t (h .0) s r (h .1) (h .2))
+
+  pub term-written : (s w : ℕ) (x : Term) → PackedTables t × (s < setCount) × TermFits x
+      → w ≡ writeTerm x → t′ ≡ putWord 3 t (termAt s) w → Turns t t′ (putTermIn s x)
+  term-written s w x h word put = turns-of t _ t′ _ (put ∙ ap (putWord 3 t (termAt s)) word) (term-turns t (h .0) s x (h .1) (h .2))
 
   pub next-written : (n : ℕ) → PackedTables t × (n < 4096) → Bytes t
       → t′ ≡ set (set (set t 1 (getD t 1 0 / 8 * 8 + n / 512)) 2 (n / 2 % 256)) 3 (n % 2 * 128) → Turns t t′ (putNextIn n)

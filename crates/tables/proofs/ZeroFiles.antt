@@ -15,7 +15,7 @@ use Rattle.rules.specs.State.{absent, absentFile, fileCount, pageCount, setCoun
 use Rattle.tables.proofs.InRange.{page-in}
 use Rattle.tables.proofs.Layouts.{write-read-entry, write-read-head}
 use Rattle.tables.proofs.ReadParts.{map-default, read-map, read-size, read-state}
-use Rattle.tables.specs.Layout.{entryAt, entryBytes, entryWord, fileAt, fileBytes, headBytes, headWidths, headWord, headerWidths, mapAt, mapBytes, readBlocks, readEntry, readNext, readSet, readSize, readState, setWidths, writeEntry, writeHead}
+use Rattle.tables.specs.Layout.{entryAt, entryBytes, entryWord, fileAt, fileBytes, headBytes, headWidths, headWord, headerWidths, mapAt, mapBytes, readBlocks, readEntry, readNext, readSet, readSize, readState, readTerm, setWidths, writeEntry, writeHead}
 use Rattle.tables.specs.Packed.{entryFormed, isPage, unpack}
 
 -- a word of zeros
@@ -30,8 +30,8 @@ pub zero-header : (getField headerWidths 0 2 ≡ 0) × (readBlocks 0 ≡ 0) × (
 unfolding readBlocks readNext
 zero-header = (refl, refl, refl)
 
-pub zero-set : (getField setWidths 0 6 ≡ 0) × (readSet 0 ≡ unusedSet)
-unfolding readSet
+pub zero-set : (getField setWidths 0 6 ≡ 0) × (readSet 0 0 ≡ unusedSet)
+unfolding readSet readTerm
 zero-set = (refl, refl)
 
 pub zero-head : (getField headWidths 0 2 ≡ 0) × (readState 0 ≡ absent) × (readSize 0 ≡ 0)

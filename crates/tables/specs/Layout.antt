@@ -1,14 +1,14 @@
--- The layout of the packed tables. Document 01, "Packed tables".
+-- The layout of the packed tables. Document 01, "Packed tables"; document 02, Ask 8.
 use mathlib.Core.List.{List, _∷_, []}
 use Prim.Native.Nat.{_*_, _+_, suc, zero, ℕ}
 use Rattle.base.specs.Logic.{digit}
 use Rattle.packing.specs.Bitmap.{isOne}
 use Rattle.packing.specs.Fields.{getField, join}
 use Rattle.packing.specs.Words.{getWord}
-use Rattle.rules.specs.State.{Entry, SetRecord, State, absent, fileCount, hole, marked, own, pageCount, setCount, stored, unmapped, virgin}
+use Rattle.rules.specs.State.{Entry, SetRecord, State, Term, absent, fileCount, hole, marked, own, pageCount, setCount, stored, unmapped, virgin}
 
 -- "in this order": each part stands behind the one before it. Every place and width of a part, in bytes, stands here and
--- nowhere else in the definitions.
+-- nowhere else in the definitions; those of document 01, which the converter reads, stand in `Convert`.
 -- "header, 4 bytes"
 abbrev pub headerAt : ℕ
 headerAt = 0
@@ -23,15 +23,24 @@ bitmapAt = headerAt + headerBytes
 abbrev pub bitmapBytes : ℕ
 bitmapBytes = 512
 
--- "8 set records, 3 bytes each"
+-- "8 set records, 3 bytes each", by which a set stands in the tree; "Each set record grows at its end by 4 bytes", its term
 abbrev pub setsAt : ℕ
 setsAt = bitmapAt + bitmapBytes
 
+abbrev pub treeBytes : ℕ
+treeBytes = 3
+
+abbrev pub termBytes : ℕ
+termBytes = 4
+
 abbrev pub setBytes : ℕ
-setBytes = 3
+setBytes = treeBytes + termBytes
 
 abbrev pub setAt : ℕ → ℕ
 setAt s = setsAt + s * setBytes
+
+abbrev pub termAt : ℕ → ℕ
+termAt s = setAt s + treeBytes
 
 -- a file record: "state 2, size 16, zero 14", its head, "then 64 entries of kind 2 and block 14", its map
 abbrev pub headBytes : ℕ
@@ -71,7 +80,7 @@ entryAt f s p = mapAt f s + p * entryBytes
 abbrev pub allFilesBytes : ℕ
 allFilesBytes = setCount * setFilesBytes
 
--- "The tables are 17,436 bytes"
+-- "so the tables become 17,468 bytes"
 abbrev pub tableBytes : ℕ
 tableBytes = filesAt + allFilesBytes
 
@@ -82,6 +91,10 @@ headerWidths = 13 ∷ 12 ∷ 7 ∷ []
 -- "used 1, writeable 1, level 3, parent 4, first child 4, next sibling 4, zero 7"
 abbrev pub setWidths : List ℕ
 setWidths = 1 ∷ 1 ∷ 3 ∷ 4 ∷ 4 ∷ 4 ∷ 7 ∷ []
+
+-- "first day 16 bits, end day 16 bits"
+abbrev pub termWidths : List ℕ
+termWidths = 16 ∷ 16 ∷ []
 
 -- "state 2, size 16, zero 14"
 abbrev pub headWidths : List ℕ
@@ -97,6 +110,9 @@ headerWord t = getWord 3 t headerAt
 
 abbrev pub setWord : List ℕ → ℕ → ℕ
 setWord t s = getWord 2 t (setAt s)
+
+abbrev pub termWord : List ℕ → ℕ → ℕ
+termWord t s = getWord 3 t (termAt s)
 
 abbrev pub headWord : List ℕ → ℕ → ℕ → ℕ
 headWord t f s = getWord 3 t (fileAt f s)
@@ -150,14 +166,22 @@ readSize w = getField headWidths w 1
 unfoldable pub writeHead : State → ℕ → ℕ
 writeHead l n = join headWidths (stateNumber l ∷ n ∷ 0 ∷ [])
 
-unfoldable pub readSet : ℕ → SetRecord
-readSet w = record {
+unfoldable pub readTerm : ℕ → Term
+readTerm w = record { firstDay = getField termWidths w 0; endDay = getField termWidths w 1 }
+
+unfoldable pub writeTerm : Term → ℕ
+writeTerm x = join termWidths (x .firstDay ∷ x .endDay ∷ [])
+
+-- a set record of these two words, and its first word; its second is that of its term
+unfoldable pub readSet : ℕ → ℕ → SetRecord
+readSet w v = record {
   used = isOne (getField setWidths w 0);
   writeable = isOne (getField setWidths w 1);
   level = getField setWidths w 2;
   parent = getField setWidths w 3;
   firstChild = getField setWidths w 4;
   nextSibling = getField setWidths w 5;
+  term = readTerm v;
 }
 
 unfoldable pub writeSet : SetRecord → ℕ

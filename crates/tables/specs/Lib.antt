@@ -2,6 +2,8 @@ pub mod Layout
 pub mod Packed
 pub mod Calls
 pub mod Checks
+pub mod Terms
+pub mod Convert
 pub mod Panel
 pub mod PanelRows
 pub mod OneReading

@@ -36,4 +36,4 @@ stateMeant Virgin = virgin
 stateMeant Marked = marked
 
 abbrev pub setMeant : SetRecord → State.SetRecord
-setMeant r = record { used = r .used; writeable = r .writeable; level = r .level; parent = r .parent; firstChild = r .«first_child»; nextSibling = r .«next_sibling» }
+setMeant r = record { used = r .used; writeable = r .writeable; level = r .level; parent = r .parent; firstChild = r .«first_child»; nextSibling = r .«next_sibling»; term = record { firstDay = r .«first_day»; endDay = r .«end_day» } }

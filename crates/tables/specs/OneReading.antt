@@ -19,6 +19,8 @@ pub record SetFits (r : SetRecord) : Type 0 where
   pub parent-fits : r .parent < 16
   pub child-fits : r .firstChild < 16
   pub sibling-fits : r .nextSibling < 16
+  pub first-fits : r .term .firstDay < 65536
+  pub end-fits : r .term .endDay < 65536
 
 -- a state that the tables can hold
 pub record Fits (tb : Tables) : Type 0 where

@@ -25,6 +25,7 @@ use Rattle.rules.specs.Rules.{holes}
 use Rattle.rules.specs.Sets.{appendSet, childFile, linkBehind, linkLast, rootAlone, unlinkSet}
 use Rattle.rules.specs.State.{Entry, File, Files, SetRecord, absentFile, childrenOf, hole, isAbsent, isStored, stored, unmapped, unusedSet}
 use Rattle.rules.specs.Storage.{Memory, freeBlocks, real}
+use Rattle.rules.specs.Terms.{defaultTerm}
 use Rattle.rules.specs.WellFormed.{names}
 use Rattle.rules.proofs.Steps.Handing.{ProperTree, not-itself}
 
@@ -179,7 +180,7 @@ kept-format B l = record {
   };
 }
   where
-    go : {s : ℕ} (b : Bool) → eqb 0 s ≡ b → cond b (record { used = true; writeable = true; level = 0; parent = 8; firstChild = 8; nextSibling = 8 }) unusedSet .used ≡ true → s < 8
+    go : {s : ℕ} (b : Bool) → eqb 0 s ≡ b → cond b (record { used = true; writeable = true; level = 0; parent = 8; firstChild = 8; nextSibling = 8; term = defaultTerm }) unusedSet .used ≡ true → s < 8
     go {s} true q e = let z = eqb-true 0 s q in omega arith
     go false q e = absurd (true≢false (sym e))
 

@@ -12,14 +12,14 @@ use Rattle.rules.proofs.Formed.FilesOfSets.{format-formed}
 use Rattle.rules.proofs.Steps.OneStep.{Alive, FilesOk, resolve-up, size-up}
 use Rattle.rules.proofs.Steps.Reached.{some-unmapped, unmapped-some}
 use Rattle.rules.proofs.Steps.States.{absent-is, live-present, other-own, own-is, own-or-virgin, unmapped-is, virgin-is}
-use Rattle.rules.proofs.Tree.SetsFormed.{sets-formed, tree-formed, zero-sets-formed}
+use Rattle.rules.proofs.Tree.SetsFormed.{sets-formed, terms-formed, tree-formed, zero-sets-formed}
 use Rattle.rules.proofs.Tree.SetsOk.{SetsOk, set-listed}
 use Rattle.rules.proofs.Formed.Shape.{FileFits, FilesFormed, Shape, fits-absent}
 use Rattle.rules.proofs.Formed.Tests.{all-3, all-4, and-3, and-4, files-at, files-of, not-of, not-then, or-of, or-then, pages-at, pages-of}
 use Rattle.rules.proofs.Steps.WriterSteps.{size-here}
 use Rattle.rules.specs.Reading.{dependent, resolve, sizeByReading, someUnmapped}
 use Rattle.rules.specs.State.{File, Files, Tables, Tree, absentFile, isAbsent, isMarked, isOwn, isStored, isUnmapped, isVirgin, live, own, treeOf, unmapped, unusedSet, virgin}
-use Rattle.rules.specs.WellFormed.{aboveFormed, allFiles, allPages, allSets, filesFormed, pastFormed, rootFileFormed, setsFormed, sizeFormed, treeFormed, virginFormed, zeroFile, zeroSet, zerosFormed}
+use Rattle.rules.specs.WellFormed.{aboveFormed, allFiles, allPages, allSets, filesFormed, pastFormed, rootFileFormed, setsFormed, sizeFormed, termsFormed, treeFormed, virginFormed, zeroFile, zeroSet, zerosFormed}
 
 -- what lies out of range in the tables: unused sets, absent files, unmapped entries
 pub record Ranged (tb : Tables) : Type 0 where
@@ -213,18 +213,19 @@ pub record StateOk (tb : Tables) : Type 0 where
 pub formed-state : (tb : Tables) → Ranged tb → setsFormed tb ≡ true → StateOk tb
 unfolding zerosFormed
 formed-state tb r h =
-    let q = and-3 (zerosFormed tb) (treeFormed tb) (filesFormed tb) h in
+    let q = and-4 (zerosFormed tb) (treeFormed tb) (termsFormed tb) (filesFormed tb) h in
     let z = and-3 (allSets (λ s. tb .sets s .used || zeroSet (tb .sets s))) (allFiles (λ f s. not (isAbsent (tb .files f s .state)) || zeroFile (tb .files f s)))
     (allFiles (λ f s. tb .sets s .used || isAbsent (tb .files f s .state))) (q .0) in
-    let so : SetsOk (tb .sets) = sets-formed tb (r .no-sets) (q .1) (z .0) in
-    record { sets-ok = so; files-ok = files-formed tb r so (z .1) (z .2) (q .2) }
+    let so : SetsOk (tb .sets) = sets-formed tb (r .no-sets) (q .1) (z .0) (q .2) in
+    record { sets-ok = so; files-ok = files-formed tb r so (z .1) (z .2) (q .3) }
 
 pub state-formed : (tb : Tables) → StateOk tb → setsFormed tb ≡ true
 unfolding zerosFormed
 state-formed tb k =
-    all-3 (zerosFormed tb) (treeFormed tb) (filesFormed tb)
+    all-4 (zerosFormed tb) (treeFormed tb) (termsFormed tb) (filesFormed tb)
     (all-3 (allSets (λ s. tb .sets s .used || zeroSet (tb .sets s))) (allFiles (λ f s. not (isAbsent (tb .files f s .state)) || zeroFile (tb .files f s)))
     (allFiles (λ f s. tb .sets s .used || isAbsent (tb .files f s .state)))
     (zero-sets-formed tb (k .sets-ok)) (tests-absent tb (λ f l. k .files-ok f)) (tests-unused tb (λ f l. k .files-ok f)))
     (tree-formed tb (k .sets-ok))
+    (terms-formed tb (k .sets-ok))
     (tests-files tb (λ f l. k .files-ok f))

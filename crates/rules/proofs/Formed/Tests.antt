@@ -16,6 +16,10 @@ and-4 a b c d h = let r = and-3 (a && b) c d h in (and-left a b (r .0), and-righ
 pub and-5 : (a b c d e : Bool) → (a && b && c && d && e) ≡ true → (a ≡ true) × (b ≡ true) × (c ≡ true) × (d ≡ true) × (e ≡ true)
 and-5 a b c d e h = let r = and-4 (a && b) c d e h in (and-left a b (r .0), and-right a b (r .0), r .1, r .2, r .3)
 
+pub and-7 : (a b c d e f g : Bool) → (a && b && c && d && e && f && g) ≡ true
+    → (a ≡ true) × (b ≡ true) × (c ≡ true) × (d ≡ true) × (e ≡ true) × (f ≡ true) × (g ≡ true)
+and-7 a b c d e f g h = let r = and-3 (a && b && c && d && e) f g h in let q = and-5 a b c d e (r .0) in (q .0, q .1, q .2, q .3, q .4, r .1, r .2)
+
 pub all-3 : (a b c : Bool) → a ≡ true → b ≡ true → c ≡ true → (a && b && c) ≡ true
 all-3 a b c h k l = and-both (a && b) c (and-both a b h k) l
 

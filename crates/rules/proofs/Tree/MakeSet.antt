@@ -10,15 +10,17 @@ use Rattle.base.specs.Logic.{same?, test?}
 use Rattle.base.specs.Update.{upd, upd-all, upd-map, upd-other, upd-same}
 use Rattle.rules.proofs.Tree.Chains.{Follows, children-are, children-length, children-none, few-below, follows-frame, last-first, last-follows, last-keeps, last-other, last-sibling}
 use Rattle.rules.proofs.Agreement.CreateMake.{make-tree}
-use Rattle.rules.proofs.Tree.SetsOk.{SetsOk, child-below, children-once, not-own-child, root-no-child, tree-ext}
+use Rattle.rules.proofs.Tree.SetsOk.{SetsOk, child-below, children-once, default-formed, not-own-child, root-no-child, tree-ext}
 use Rattle.rules.specs.Sets.{appendSet, withFirstChild, withNextSibling}
 use Rattle.rules.specs.State.{SetRecord, childrenOf, noSet, treeOf}
+use Rattle.rules.specs.Terms.{defaultTerm}
 use Rattle.rules.specs.Trees.{addChild}
+use Rattle.rules.specs.WellFormed.{termFormed}
 
 -- MAKE
 module _ (sets : ℕ → SetRecord) (ok : SetsOk sets) (s c : ℕ) (w : Bool) (us : sets s .used ≡ true) (c8 : c < 8) (uc : sets c .used ≡ false) where
   abbrev fresh : SetRecord
-  fresh = record { used = true; writeable = w; level = suc (sets s .level); parent = s; firstChild = noSet; nextSibling = noSet }
+  fresh = record { used = true; writeable = w; level = suc (sets s .level); parent = s; firstChild = noSet; nextSibling = noSet; term = defaultTerm }
 
   abbrev kids : List ℕ
   kids = childrenOf sets s
@@ -67,6 +69,9 @@ module _ (sets : ℕ → SetRecord) (ok : SetsOk sets) (s c : ℕ) (w : Bool) (u
 
   grown-writeable : (x : ℕ) → grown x .writeable ≡ upd (λ y. sets y .writeable) c w x
   grown-writeable = grown-field (λ r. r .writeable) (λ r. refl) (λ r. refl)
+
+  grown-term : (x : ℕ) → grown x .term ≡ upd (λ y. sets y .term) c defaultTerm x
+  grown-term = grown-field (λ r. r .term) (λ r. refl) (λ r. refl)
 
   was-used : (x : ℕ) → (c ≡ x → ⊥) → grown x .used ≡ sets x .used
   was-used x n = grown-used x ∙ upd-other (λ y. sets y .used) c true x n
@@ -156,4 +161,7 @@ module _ (sets : ℕ → SetRecord) (ok : SetsOk sets) (s c : ℕ) (w : Bool) (u
             (λ m. rw (upd-other (λ z. sets z .level) c (suc (sets s .level)) x m) (ok .deep x (sym (was-used x m) ∙ u) n)));
         highest = λ x. rw (grown-level x) (upd-all (λ n. n ≤ 5) (λ z. sets z .level) c (suc (sets s .level)) (omega arith) (ok .highest) x);
         tree = rw make-same (make-tree (treeOf sets) s c w (ok .tree) us uc);
+        terms = λ x u. rw (grown-term x)
+            (same? c x (λ e. subst (λ y. termFormed (upd (λ z. sets z .term) c defaultTerm y) ≡ true) e (rw (upd-same (λ z. sets z .term) c defaultTerm) default-formed))
+            (λ m. rw (upd-other (λ z. sets z .term) c defaultTerm x m) (ok .terms x (sym (was-used x m) ∙ u))));
       }

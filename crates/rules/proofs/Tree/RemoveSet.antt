@@ -11,7 +11,7 @@ use Rattle.rules.proofs.Tree.Chains.{Follows, children-are, children-le
 use Rattle.rules.proofs.Agreement.Remove.{remove-tree}
 use Rattle.rules.proofs.Tree.SetsOk.{SetsOk, children-once, tree-ext, used-below}
 use Rattle.rules.specs.Sets.{unlinkSet, withFirstChild, withNextSibling}
-use Rattle.rules.specs.State.{SetRecord, childrenOf, treeOf, unusedSet}
+use Rattle.rules.specs.State.{SetRecord, childrenOf, noTerm, treeOf, unusedSet}
 use Rattle.rules.specs.Trees.{takeAway, without}
 
 -- REMOVE
@@ -41,6 +41,9 @@ module _ (sets : ℕ → SetRecord) (ok : SetsOk sets) (c : ℕ) (uc : sets c .u
 
   left-writeable : (x : ℕ) → left x .writeable ≡ upd (λ y. sets y .writeable) c false x
   left-writeable = left-field (λ r. r .writeable) (λ r a b. refl)
+
+  left-term : (x : ℕ) → left x .term ≡ upd (λ y. sets y .term) c noTerm x
+  left-term = left-field (λ r. r .term) (λ r a b. refl)
 
   -- the record of another unused set stays all zero
   left-blank : (x : ℕ) → (c ≡ x → ⊥) → sets x ≡ unusedSet → left x ≡ unusedSet
@@ -98,4 +101,5 @@ module _ (sets : ℕ → SetRecord) (ok : SetsOk sets) (c : ℕ) (uc : sets c .u
     deep = λ x u n. let m = left-not x u in rw (left-level x, upd-other (λ y. sets y .level) c 0 x m) (ok .deep x (sym (left-was x m) ∙ u) n);
     highest = λ x. rw (left-level x) (upd-all (λ n. n ≤ 5) (λ z. sets z .level) c 0 (omega arith) (ok .highest) x);
     tree = rw remove-same (remove-tree (treeOf sets) (ok .tree) c (λ x m. elim (subst (λ l. List·Memᴰ x l) leaf m) [ ]));
+    terms = λ x u. let n = left-not x u in rw (left-term x, upd-other (λ y. sets y .term) c noTerm x n) (ok .terms x (sym (left-was x n) ∙ u));
   }

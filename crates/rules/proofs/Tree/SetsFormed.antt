@@ -11,10 +11,10 @@ use borrow.Author.Tests.{eq-eqb, eqb-false, eqb-true, le-leb, le-ltb, leb-true, 
 use Rattle.base.specs.Logic.{and-both, and-left, and-right, or-right, same?, test?}
 use Rattle.rules.proofs.Tree.Chains.{Follows, children-length, children-used, count-mem}
 use Rattle.rules.proofs.Tree.SetsOk.{SetsOk, first-used, next-used, out-below, parent-below, set-level, set-once, used-below}
-use Rattle.rules.proofs.Formed.Tests.{all-4, and-4, and-5, not-of, not-then, or-of, or-then, sets-at, sets-of}
+use Rattle.rules.proofs.Formed.Tests.{all-4, and-4, and-5, and-7, not-of, not-then, or-of, or-then, sets-at, sets-of}
 use Rattle.rules.specs.Rules.{countIn}
 use Rattle.rules.specs.State.{SetRecord, Tables, chain, childrenOf, unusedSet}
-use Rattle.rules.specs.WellFormed.{allIn, allSets, chainEnds, chainFormed, linkFormed, placeFormed, rootFormed, treeFormed, zeroSet}
+use Rattle.rules.specs.WellFormed.{allIn, allSets, chainEnds, chainFormed, linkFormed, placeFormed, rootFormed, termFormed, termsFormed, treeFormed, zeroSet}
 
 -- every set of a list
 in-at : (xs : List ℕ) (f : ℕ → Bool) → allIn xs f ≡ true → (x : ℕ) → List·Memᴰ x xs → f x ≡ true
@@ -31,7 +31,8 @@ in-of (y ∷ ys) f h = and-both (f y) (allIn ys f) (h y (List·Memᴰ·head refl
 -- the record of a set that is all zero
 zero-set : (r : SetRecord) → r .used ≡ false → zeroSet r ≡ true → r ≡ unusedSet
 zero-set r u h =
-    let z = and-5 (not (r .writeable)) (eqb (r .level) 0) (eqb (r .parent) 0) (eqb (r .firstChild) 0) (eqb (r .nextSibling) 0) h in
+    let z = and-7 (not (r .writeable)) (eqb (r .level) 0) (eqb (r .parent) 0) (eqb (r .firstChild) 0) (eqb (r .nextSibling) 0)
+    (eqb (r .term .firstDay) 0) (eqb (r .term .endDay) 0) h in
     λ i. record {
       used = u i;
       writeable = not-true (r .writeable) (z .0) i;
@@ -39,6 +40,7 @@ zero-set r u h =
       parent = eqb-true (r .parent) 0 (z .2) i;
       firstChild = eqb-true (r .firstChild) 0 (z .3) i;
       nextSibling = eqb-true (r .nextSibling) 0 (z .4) i;
+      term = record { firstDay = eqb-true (r .term .firstDay) 0 (z .5) i; endDay = eqb-true (r .term .endDay) 0 (z .6) i };
     }
 
 -- FROM THE TESTS
@@ -101,7 +103,8 @@ module _ (tb : Tables) where
         ⊎-elim (λ e. subst (λ x. tb .sets x .used ≡ true) (sym e) (q .1)) (λ j. chain-used n (tb .sets k .nextSibling) (next k (q .1)) c j) (List·Memᴰ·cases-cons m′))
         (link-used k h)
 
-  module _ (out : (s : ℕ) → 8 ≤ s → tb .sets s ≡ unusedSet) (formed : treeFormed tb ≡ true) (zeros : allSets (λ s. tb .sets s .used || zeroSet (tb .sets s)) ≡ true) where
+  module _ (out : (s : ℕ) → 8 ≤ s → tb .sets s ≡ unusedSet) (formed : treeFormed tb ≡ true) (zeros : allSets (λ s. tb .sets s .used || zeroSet (tb .sets s)) ≡ true)
+      (terms : termsFormed tb ≡ true) where
     root-says : rootFormed tb ≡ true
     unfolding treeFormed
     root-says = and-left (rootFormed tb) _ formed
@@ -152,7 +155,7 @@ module _ (tb : Tables) where
         place-at s u (λ q. let z = root-is .2 in let p : tb .sets s .level ≡ tb .sets 0 .level = ap (λ x. tb .sets x .level) q in omega arith)
 
     pub sets-formed : SetsOk (tb .sets)
-    unfolding childrenOf
+    unfolding childrenOf termsFormed
     sets-formed = record {
       root-used = root-is .0;
       root-writeable = root-is .1;
@@ -174,6 +177,7 @@ module _ (tb : Tables) where
         above = λ s n e. children-used (tb .sets) (tb .sets s .parent) s (level-place s n e .listed);
         child = λ s n e. level-place s n e .listed;
       };
+      terms = λ s u. not-then (tb .sets s .used) _ (sets-at (λ s. not (tb .sets s .used) || termFormed (tb .sets s .term)) terms s (below s u)) u;
     }
 
   -- TO THE TESTS
@@ -219,3 +223,7 @@ module _ (tb : Tables) where
 
     pub zero-sets-formed : allSets (λ s. tb .sets s .used || zeroSet (tb .sets s)) ≡ true
     zero-sets-formed = sets-of (λ s. tb .sets s .used || zeroSet (tb .sets s)) (λ s l. or-of (tb .sets s .used) (zeroSet (tb .sets s)) (λ u. rw (ok .blank s u)))
+
+    pub terms-formed : termsFormed tb ≡ true
+    unfolding termsFormed
+    terms-formed = sets-of (λ s. not (tb .sets s .used) || termFormed (tb .sets s .term)) (λ s l. not-of (tb .sets s .used) _ (ok .terms s))

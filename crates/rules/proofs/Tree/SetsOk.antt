@@ -15,9 +15,12 @@ use Rattle.rules.proofs.Steps.WriterSteps.{NoDup}
 use Rattle.rules.specs.Rules.{countIn}
 use Rattle.rules.specs.Sets.{rootAlone}
 use Rattle.rules.specs.State.{SetRecord, Tree, childrenOf, noSet, treeOf, unusedSet}
+use Rattle.rules.specs.Terms.{defaultTerm}
 use Rattle.rules.specs.Trees.{rootTree}
+use Rattle.rules.specs.WellFormed.{termFormed}
 
--- "Set 0 is used, writeable, level 0, with no parent or sibling"; unused sets are all zero, as are those out of range; the chains end; levels rise by one from the parent, up to 5.
+-- "Set 0 is used, writeable, level 0, with no parent or sibling"; unused sets are all zero, as are those out of range; the chains end; levels rise by one from the parent, up to 5;
+-- the terms of used sets are well formed.
 pub record SetsOk (sets : ℕ → SetRecord) : Type 0 where
   pub root-used : sets 0 .used ≡ true
   pub root-writeable : sets 0 .writeable ≡ true
@@ -30,6 +33,7 @@ pub record SetsOk (sets : ℕ → SetRecord) : Type 0 where
   pub deep : (s : ℕ) → sets s .used ≡ true → (s ≡ 0 → ⊥) → 0 < sets s .level
   pub highest : (s : ℕ) → sets s .level ≤ 5
   pub tree : TreeOk (treeOf sets)
+  pub terms : (s : ℕ) → sets s .used ≡ true → termFormed (sets s .term) ≡ true
 
 -- trees are equal by their parts
 pub tree-ext : (a b : Tree) → ((x : ℕ) → a .used x ≡ b .used x) → ((x : ℕ) → a .writeable x ≡ b .writeable x) → ((x : ℕ) → a .level x ≡ b .level x) →
@@ -93,7 +97,7 @@ module _ (sets : ℕ → SetRecord) (ok : SetsOk sets) where
   not-own-child s m = let l = ok .tree .kid-lvl s s m in omega arith
 
 -- FORMAT
-root-0 : rootAlone 0 ≡ record { used = true; writeable = true; level = 0; parent = noSet; firstChild = noSet; nextSibling = noSet }
+root-0 : rootAlone 0 ≡ record { used = true; writeable = true; level = 0; parent = noSet; firstChild = noSet; nextSibling = noSet; term = defaultTerm }
 unfolding rootAlone
 root-0 = refl
 
@@ -118,6 +122,11 @@ root-alone-tree = tree-ext (treeOf rootAlone) rootTree
     (by-root (λ x r. r .parent ≡ cond (eqb x 0) noSet 0) (rw root-0) (λ x n. rw (ne-eqb x 0 (λ e. n (sym e)))))
     root-children
 
+-- the default term is well formed
+pub default-formed : termFormed defaultTerm ≡ true
+unfolding termFormed
+default-formed = refl
+
 pub format-sets : SetsOk rootAlone
 format-sets =
     let level : (x : ℕ) → rootAlone x .level ≡ 0 = by-root (λ x r. r .level ≡ 0) (rw root-0) (λ x n. refl) in
@@ -141,4 +150,5 @@ format-sets =
         above = λ x n e. let l = level x in absurd (omega arith);
         child = λ x n e. let l = level x in absurd (omega arith);
       };
+      terms = by-root (λ x r. r .used ≡ true → termFormed (r .term) ≡ true) (λ u. rw root-0 default-formed) (λ x n u. absurd (true≢false (sym u)));
     }

@@ -33,7 +33,7 @@ page-bytes m unmapped = refl
 page-bytes m hole = refl
 page-bytes m (stored b) = refl
 
-kind-of : (g : ℕ → PageData) (e : Entry ℕ) → mapEntry forget (mapEntry g e) ≡ kindOf e
+pub kind-of : (g : ℕ → PageData) (e : Entry ℕ) → mapEntry forget (mapEntry g e) ≡ kindOf e
 kind-of g unmapped = refl
 kind-of g hole = refl
 kind-of g (stored b) = refl

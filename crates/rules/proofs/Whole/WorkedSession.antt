@@ -15,6 +15,7 @@ use Rattle.rules.specs.Rules.{change, copy, countIn, each, enter, enterA
 use Rattle.rules.specs.Sets.{appendSet, linkBehind, linkLast, rootAlone}
 use Rattle.rules.specs.State.{Entry, chain, childrenOf, hole, own, pageCount, stored, unmapped, virgin}
 use Rattle.rules.specs.Storage.{Memory, freeBlocks, overlay, real, takeBlock}
+use Rattle.rules.specs.Terms.{defaultTerm}
 
 -- the definitions that are computed
 unfoldable computed : Unit {0}
@@ -61,7 +62,7 @@ pub record WorkedSession : Type 0 where
   pub page₂ : tab 512 (second .store .memory .pages 1) ≡ replicate 512 65
   -- set 1 made read-only from set 0: level 1, its file virgin
   pub answer₃ : third .answer ≡ answer 0 0 0
-  pub set₃ : third .store .sets 1 ≡ record { used = true; writeable = false; level = 1; parent = 0; firstChild = 8; nextSibling = 8 }
+  pub set₃ : third .store .sets 1 ≡ record { used = true; writeable = false; level = 1; parent = 0; firstChild = 8; nextSibling = 8; term = defaultTerm }
   pub child₃ : childrenOf (third .store .sets) 0 ≡ 1 ∷ []
   pub state₃ : third .store .files 0 1 .state ≡ virgin
   pub map₃ : map (third .store) 1 ≡ maps unmapped unmapped unmapped

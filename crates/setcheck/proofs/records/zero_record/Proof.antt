@@ -1,6 +1,6 @@
 -- `setcheck::records::zero_record` meets its contract. Assumes nothing.
 use Rattle.tables.specs.Meaning.{setMeant}
-use Rattle.setcheck.proofs.Zeros.{zero-writeable, zero-level, zero-parent, zero-child, zero-sibling}
+use Rattle.setcheck.proofs.Zeros.{zero-child, zero-end, zero-first, zero-level, zero-parent, zero-sibling, zero-writeable}
 use Rattle.setcheck.proofs.records.zero_record.Statement.{statement}
 use Rattle.setcheck.proofs.records.zero_record.Tie as tie
 
@@ -22,11 +22,22 @@ returns-4 c =
 
 returns-5 : tie.Need-returns-5
 returns-5 c =
-    let i4 = c .before in let i3 = i4 .before .before in let i2 = i3 .before .before in let i1 = i2 .before .before in
-    zero-sibling (setMeant (i1 .before .args .r)) (i1 .if1 .left) (i2 .if2 .left) (i3 .if3 .left) (i4 .if4 .left)
+    let i4 = c .before .before in let i3 = i4 .before .before in let i2 = i3 .before .before in let i1 = i2 .before .before in
+    zero-sibling (setMeant (i1 .before .args .r)) (i1 .if1 .left) (i2 .if2 .left) (i3 .if3 .left) (i4 .if4 .left) (c .if5 .taken)
+
+returns-6 : tie.Need-returns-6
+returns-6 c =
+    let i5 = c .before .before in let i4 = i5 .before .before in let i3 = i4 .before .before in let i2 = i3 .before .before in let i1 = i2 .before .before in
+    zero-first (setMeant (i1 .before .args .r)) (i1 .if1 .left) (i2 .if2 .left) (i3 .if3 .left) (i4 .if4 .left) (i5 .if5 .left) (c .if6 .taken)
+
+returns-7 : tie.Need-returns-7
+returns-7 c =
+    let i6 = c .before in let i5 = i6 .before .before in let i4 = i5 .before .before in let i3 = i4 .before .before in
+    let i2 = i3 .before .before in let i1 = i2 .before .before in
+    zero-end (setMeant (i1 .before .args .r)) (i1 .if1 .left) (i2 .if2 .left) (i3 .if3 .left) (i4 .if4 .left) (i5 .if5 .left) (i6 .if6 .left)
 
 pub zero-record-spec : {M : Type 1} → statement M
 zero-record-spec =
     tie.close
     (tie.spec
-    returns returns-2 returns-3 returns-4 returns-5)
+    returns returns-2 returns-3 returns-4 returns-5 returns-6 returns-7)

@@ -1,5 +1,5 @@
 -- `tables::sets::first_child_of` meets its contract. Assumes nothing.
-use mathlib.Core.Path.{ap}
+use mathlib.Core.Path.{ap, refl}
 use native.Mathlib.Omega.{arith}
 use borrow.Author.Needs.{needs}
 use Rattle.rules.specs.State.{SetRecord}
@@ -8,7 +8,7 @@ use Rattle.tables.proofs.sets.first_child_of.Statement.{statement}
 use Rattle.tables.proofs.sets.first_child_of.Tie as tie
 
 returns : tie.Need-returns
-returns c = (ap (λ (r : SetRecord). r .firstChild) (set-read _ _ _ (c .before .before .pre .1) (c .read24 .ensures)), omega arith)
+returns c = (ap (λ (r : SetRecord). r .firstChild) (set-read _ _ _ _ (c .before .before .pre .1) (c .read24 .ensures) refl), omega arith)
 
 pub first-child-of-spec : {M : Type 1} → statement M
 first-child-of-spec =

@@ -1,5 +1,5 @@
 -- `tables::sets::next_sibling_of` meets its contract. Assumes nothing.
-use mathlib.Core.Path.{ap}
+use mathlib.Core.Path.{ap, refl}
 use native.Mathlib.Omega.{arith}
 use borrow.Author.Needs.{needs}
 use Rattle.rules.specs.State.{SetRecord}
@@ -8,7 +8,7 @@ use Rattle.tables.proofs.sets.next_sibling_of.Statement.{statement}
 use Rattle.tables.proofs.sets.next_sibling_of.Tie as tie
 
 returns : tie.Need-returns
-returns c = (ap (λ (r : SetRecord). r .nextSibling) (set-read _ _ _ (c .before .before .pre .1) (c .read24 .ensures)), omega arith)
+returns c = (ap (λ (r : SetRecord). r .nextSibling) (set-read _ _ _ _ (c .before .before .pre .1) (c .read24 .ensures) refl), omega arith)
 
 pub next-sibling-of-spec : {M : Type 1} → statement M
 next-sibling-of-spec =

@@ -6,11 +6,14 @@ use Rattle.tables.proofs.sets.put_set.Tie as tie
 
 returns : tie.Need-returns
 returns c =
-    let w = c .before .before .before .before in
-    set-written _ _ _ _ _ (w .before .before .pre) (w .word-of .ensures .0) (c .before .before .write24 .ensures)
+    let b = c .before .before .before .before .before .before in
+    let w = b .before .before in
+    let v = w .before in
+    set-written _ _ _ _ _ _ _ (v .before .before .pre) (w .word-of .ensures .0) (v .term-word .ensures) (b .write24 .ensures) (c .before .before .write32 .ensures)
 
 pub put-set-spec : {M : Type 1} → statement M
 put-set-spec =
     tie.close
     (tie.spec
-    (λ c κs. search needs) (λ c. search needs) (λ c. search needs) (λ c κs. search needs) (λ c. search needs) returns)
+    (λ c κs. search needs) (λ c κs. search needs) (λ c. search needs) (λ c. search needs) (λ c κs. search needs) (λ c. search needs)
+    (λ c. search needs) (λ c. search needs) (λ c κs. search needs) (λ c. search needs) returns)
