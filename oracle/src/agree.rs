@@ -7,6 +7,7 @@ use crate::plain::{Plain, PlainSet};
 use crate::state::*;
 use crate::store::read_bytes;
 use crate::tally::{Condition, Tally, TallyFile, TallyKind, TallySet};
+use crate::term_judge::{Term, Terms};
 
 /// Says the first disagreement. The state is well formed.
 pub fn agree(state: &State, pages: &[u8], beside: &Beside) -> Result<(), String> {
@@ -19,6 +20,7 @@ pub fn agree(state: &State, pages: &[u8], beside: &Beside) -> Result<(), String>
     }
     for set in 0..SETS {
         agree_set(state, beside, set)?;
+        agree_term(state, beside, set)?;
         if state.sets[set].used {
             for file in 0..FILES {
                 agree_file(state, pages, beside, set, file)?;
@@ -46,6 +48,23 @@ fn agree_set(state: &State, beside: &Beside, set: usize) -> Result<(), String> {
         Err(format!("set {set} is {record:?}, by the plain store parent {:?}, level {}, writeable {}, children {:?}",
             plain.parent, plain.level, plain.writeable, plain.children))
     }
+}
+
+/// The term in a used set's record is the one that calls gave it.
+fn agree_term(state: &State, beside: &Beside, set: usize) -> Result<(), String> {
+    let found = term(state, set);
+    let wanted = beside.terms.of(set);
+    if found == wanted {
+        Ok(())
+    } else {
+        Err(format!("set {set} has the term {found:?}, by the calls {wanted:?}"))
+    }
+}
+
+fn term(state: &State, set: usize) -> Option<Term> {
+    let record = &state.sets[set];
+    let term = Term { first: record.first_day as u32, end: record.end_day as u32 };
+    record.used.then_some(term)
 }
 
 fn condition(state: FileState) -> Condition {
@@ -145,6 +164,7 @@ pub fn read_off(state: &State, pages: &[u8]) -> Beside {
     Beside {
         plain: Plain { sets: plain.collect() },
         tally: Tally { free: state.free_blocks(), sets: tally.collect() },
+        terms: Terms::read_off(|set| term(state, set)),
     }
 }
 

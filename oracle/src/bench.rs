@@ -2,19 +2,21 @@
 //! ("Demand 3"), with what the panel's registers must show since a reset, with
 //! the promise that a refused call changes nothing, and with another
 //! implementation where there is one, byte for byte. Every write is judged by the
-//! room it takes.
+//! room it takes, and every conversion by its bytes.
 
 use crate::accesses::{Access, Accesses};
 use crate::agree::agree;
 use crate::call::*;
 use crate::check::{check_state, Rule};
+use crate::conversion::{self, Converted};
 use crate::judge::{format_blocks, Beside};
-use crate::lent::{check_unchanged, Buffer::*, Buffers, Guarded};
+use crate::lent::{check_unchanged, Buffer::*, Buffers, Guarded, Lending};
 use crate::panel::REGISTERS;
 use crate::panel_judge::{self, Since};
 use crate::room::{self, Judged, Taken};
 use crate::state::{Kind, State};
 use crate::store;
+use crate::terms::{Asked, Met};
 use crate::writes::{ByKind, Written};
 use std::collections::BTreeMap;
 use std::fmt;
@@ -108,6 +110,8 @@ pub struct Counts {
     pub panel_judged: Accesses,
     /// Writes judged by the room they take.
     pub room: Judged,
+    /// The cases of Ask 8 that calls met.
+    pub terms: Met,
     pub damages: BTreeMap<Rule, u64>,
     pub flips: u64,
 }
@@ -116,6 +120,7 @@ const BUFFER_FILL: u8 = 0xB7;
 const OLD_PAGE_FILL: u8 = 0xA5;
 const OLD_TABLE_FILL: u8 = 0x5A;
 const OLD_REGISTER_FILL: u8 = 0x96;
+const OLD_SECOND_FILL: u8 = 0x69;
 
 pub struct Bench {
     /// What the caller holds from call to call.
@@ -123,6 +128,10 @@ pub struct Bench {
     /// Plain store and tally; none before an accepted format and after a
     /// change of tables or pages made from outside.
     pub beside: Option<Beside>,
+    /// What plain store and tally are of the store that the second tables hold, once
+    /// converted; none where these are not the tables of a store that plain store and
+    /// tally agreed with, or where the pages are not as they were then.
+    pub older: Option<Beside>,
     /// What was done to the panel; none before an accepted panel-reset and after
     /// a change of registers made from outside.
     pub since: Option<Since>,
@@ -154,7 +163,8 @@ impl Bench {
         buffers[Tables] = tables;
         buffers[Pages] = pages;
         buffers[Registers] = vec![OLD_REGISTER_FILL; REGISTERS];
-        Bench { buffers, beside: None, since: None, counts: Counts::default() }
+        buffers[Second] = vec![OLD_SECOND_FILL; OLDER_TABLES_BYTES];
+        Bench { buffers, beside: None, older: None, since: None, counts: Counts::default() }
     }
 
     pub fn tables(&self) -> &[u8] {
@@ -169,6 +179,11 @@ impl Bench {
         &self.buffers[Registers]
     }
 
+    /// The older tables that a conversion takes.
+    pub fn second(&self) -> &[u8] {
+        &self.buffers[Second]
+    }
+
     /// Does one line of a script. An error says the first difference.
     pub fn step(&mut self, item: &Item, other: &mut dyn Other) -> Result<Option<Answer>, String> {
         let changed = match *item {
@@ -181,10 +196,21 @@ impl Bench {
                 self.buffers[buffer].resize(length, 0);
                 buffer
             }
+            Item::Fill { buffer, seed } => {
+                self.buffers[buffer] = data_bytes(self.buffers[buffer].len(), seed);
+                buffer
+            }
+            Item::Narrow => {
+                self.buffers[Second] = conversion::narrowed(&self.buffers[Tables]);
+                self.older = self.beside.as_ref().map(Beside::converted);
+                return Ok(None);
+            }
         };
         match changed {
-            Tables | Pages => self.beside = None,
+            Tables => self.beside = None,
+            Pages => (self.beside, self.older) = (None, None),
             Registers => self.since = None,
+            Second => self.older = None,
             _ => {}
         }
         Ok(None)
@@ -196,6 +222,7 @@ impl Bench {
         let answer = store::run(call.index(), &call.numbers(), after.lend());
         self.counts.calls[call.index()] += 1;
         self.counts.numbers[answer.number as usize] += 1;
+        self.count_terms(call, answer, &before, other.has(call.index()));
         check_unchanged(call.row(), &answer, &before, &after)?;
         let done = listed(call, answer, &before, &after)?;
         if let Some(done) = &done {
@@ -204,6 +231,9 @@ impl Bench {
         self.compare_other(call, &answer, &before, &mut after, other)?;
         if let Some(done) = &done {
             self.compare_beside(done, &before, &after)?;
+        }
+        if *call == (Call::Convert {}) {
+            self.compare_conversion(answer, &before, &after)?;
         }
         if call.is_of_panel() {
             let ran = done.map(|done| done.answer);
@@ -215,6 +245,10 @@ impl Bench {
         }
         // The buffer of a refused format is not the store's.
         if !matches!(call, Call::Format { .. }) || answer.number == 0 {
+            // With other pages, the second tables hold another store.
+            if call.row().lends(Pages) == Lending::Changed && after[Pages] != self.buffers[Pages] {
+                self.older = None;
+            }
             self.keep(call, after);
         }
         Ok(answer)
@@ -255,6 +289,13 @@ impl Bench {
             let handed = handed_over(&before, &after, *set as usize, *file as usize);
             self.counts.handed_over += handed.len() as u64;
             self.counts.handing_calls += u64::from(!handed.is_empty());
+        }
+    }
+
+    /// Counts the cases of Ask 8 that a call met. Accesses of the panel are left out.
+    fn count_terms(&mut self, call: &Call, answer: Answer, before: &Buffers, is_linked: bool) {
+        if !call.is_of_panel() {
+            self.counts.terms.count(&Asked { call, answer, before }, is_linked);
         }
     }
 
@@ -307,6 +348,35 @@ impl Bench {
         let state = State::unpack(&after[Tables]);
         if let Some(broken) = check_state(&state, after[Pages].len()).first() {
             return Err(format!("the tables are not well formed: {broken}"));
+        }
+        agree(&state, &after[Pages], beside)
+    }
+
+    /// A conversion is judged by its bytes. If the older tables are those of a store that
+    /// plain store and tally agreed with, these agree with the new tables too, and go on
+    /// with them; else none are known of the new tables.
+    fn compare_conversion(
+        &mut self,
+        answer: Answer,
+        before: &Buffers,
+        after: &Buffers,
+    ) -> Result<(), String> {
+        let pages_length = before[Pages].len();
+        let (older, tables) = (&before[Second], &after[Tables]);
+        Converted { older, pages_length, before: &before[Tables], after: tables, answer }
+            .judge()?;
+        let is_right_length = before[Tables].len() == TABLES_BYTES;
+        if self.older.is_some() && is_right_length && answer.number != 0 {
+            return Err(format!("the answer is {answer}; the older tables are a store's"));
+        }
+        if answer.number != 0 {
+            return Ok(());
+        }
+        self.beside = self.older.clone();
+        let Some(beside) = &self.beside else { return Ok(()) };
+        let state = State::unpack(tables);
+        if let Some(broken) = check_state(&state, pages_length).first() {
+            return Err(format!("the new tables are not well formed: {broken}"));
         }
         agree(&state, &after[Pages], beside)
     }
@@ -402,15 +472,19 @@ fn both(one: Result<(), String>, other: Result<(), String>) -> Result<(), String
     }
 }
 
-/// The listed call that is done, none for a panel access that runs no command. What
-/// a command does to tables and pages is what its call does, made directly:
-/// "Sequences through the panel count as the calls they run."
+/// The listed call that is done, none for a conversion, which is judged by itself, and for
+/// a panel access that runs no command. What a command does to tables and pages is what
+/// its call does, made directly: "Sequences through the panel count as the calls they
+/// run."
 fn listed(
     call: &Call,
     answer: Answer,
     before: &Buffers,
     after: &Buffers,
 ) -> Result<Option<Done>, String> {
+    if *call == (Call::Convert {}) {
+        return Ok(None);
+    }
     if !call.is_of_panel() {
         return Ok(Some(Done { call: call.clone(), answer }));
     }

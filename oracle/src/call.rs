@@ -8,8 +8,8 @@ use std::fmt;
 
 /// How many calls there are.
 pub const CALLS: usize = CALL_NAMES.len();
-/// How many numbers an answer can have: 0 to 13.
-pub const NUMBERS: usize = 14;
+/// How many numbers an answer can have: 0 to 15.
+pub const NUMBERS: usize = 16;
 
 /// "Largest: 8 sets, 16 files a set, 64 pages of 512 bytes a file (32,768
 /// bytes), 4,096 blocks of 512 bytes."
@@ -21,8 +21,12 @@ pub const LARGEST_SIZE: usize = 32_768;
 pub const MOST_BLOCKS: usize = 4_096;
 /// "As in 002, the highest level is 5."
 pub const HIGHEST_LEVEL: usize = 5;
-/// "The tables are 17,436 bytes."
-pub const TABLES_BYTES: usize = 17_436;
+/// Document 02: "so the tables become 17,468 bytes".
+pub const TABLES_BYTES: usize = 17_468;
+/// Before Ask 8: "The tables are 17,436 bytes." Only the converter takes them.
+pub const OLDER_TABLES_BYTES: usize = 17_436;
+/// Document 02: "end at most 36,525".
+pub const LATEST_END: usize = 36_525;
 /// "8 means none."
 pub const NONE: usize = 8;
 /// Document 02: "A write now copies by aligned groups of eight unless the caller
@@ -64,6 +68,10 @@ const STORE_CHANGED: [Lending; BUFFERS] = lends(Changed, NotLent);
 const STORE_READ: [Lending; BUFFERS] = lends(ReadOnly, NotLent);
 /// The tables alone: such a call never sees the pages.
 const TABLES_READ: [Lending; BUFFERS] = [ReadOnly, NotLent, NotLent, NotLent, NotLent, NotLent];
+
+/// The converter's: the new tables, which it writes, the pages, and the older tables,
+/// which are the second ones.
+const CONVERTED: [Lending; BUFFERS] = [Changed, ReadOnly, NotLent, NotLent, NotLent, ReadOnly];
 
 /// The panel's registers, to be changed or only read.
 const REGISTERS_CHANGED: [Lending; BUFFERS] = lends_registers(NotLent, Changed);
@@ -171,6 +179,13 @@ calls! {
         told [offset, value] lends lends_registers(Changed, Changed), leaves None;
     /// Asking for the line.
     PanelLine {} told [] lends REGISTERS_READ, leaves None;
+    /// Sets a set's term from a date and a count of months.
+    SetTerm { set: u32, year: u32, month: u32, day: u32, months: u32 }
+        told [set, year, month, day, months] lends STORE_CHANGED, leaves None;
+    /// Asks whether a set is current on a day.
+    Current { set: u32, day: u32 } told [set, day] lends STORE_READ, leaves None;
+    /// The converter: from the second tables, of the length before Ask 8, to the tables.
+    Convert {} told [] lends CONVERTED, leaves None;
     /// A write by groups of any size.
     WriteGroups { group: Group, set: u32, file: u32, offset: u32, length: usize, seed: u32 }
         told [group, set, file, offset] lends lends(Changed, ReadOnly), leaves None;
@@ -286,7 +301,17 @@ pub enum Item {
         buffer: Buffer,
         length: usize,
     },
+    /// Fill the buffer with bytes that follow from the seed, as those of a write do.
+    Fill {
+        buffer: Buffer,
+        seed: u32,
+    },
+    /// Put the tables, without their terms, in the second tables.
+    Narrow,
 }
+
+/// The word of a script that does so.
+const NARROW: &str = "narrow";
 
 /// The word of a script that changes a byte of a buffer. Its name alone gives
 /// it a length.
@@ -296,6 +321,11 @@ fn poke_word(buffer: Buffer) -> String {
         Buffer::Pages => "poke-page".to_string(),
         _ => format!("poke-{}", buffer.name()),
     }
+}
+
+/// The word of a script that fills a buffer.
+fn fill_word(buffer: Buffer) -> String {
+    format!("fill-{}", buffer.name())
 }
 
 impl fmt::Display for Call {
@@ -311,6 +341,8 @@ impl fmt::Display for Item {
             Item::Call(call) => call.fmt(f),
             Item::Poke { buffer, at, value } => write!(f, "{} {at} {value}", poke_word(*buffer)),
             Item::Length { buffer, length } => write!(f, "{} {length}", buffer.name()),
+            Item::Fill { buffer, seed } => write!(f, "{} {seed}", fill_word(*buffer)),
+            Item::Narrow => write!(f, "{NARROW}"),
         }
     }
 }
@@ -342,9 +374,15 @@ impl Item {
     }
 
     fn parse_named(name: &str, words: &mut Words) -> Result<Item, String> {
+        if name == NARROW {
+            return Ok(Item::Narrow);
+        }
         for buffer in Buffer::ALL {
             if name == poke_word(buffer) {
                 return Ok(Item::Poke { buffer, at: words.number()?, value: words.number()? });
+            }
+            if name == fill_word(buffer) {
+                return Ok(Item::Fill { buffer, seed: words.number()? });
             }
             if name == buffer.name() {
                 return Ok(Item::Length { buffer, length: words.number()? });

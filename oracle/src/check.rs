@@ -5,7 +5,9 @@
 //! By document 02 it goes in parts: "the well-formed check, however it is done
 //! now, should go through the bitmap and the entries' kinds and blocks before it
 //! follows set chains". The first part is a question about the tables alone.
-//! The second part is all else, the pages' length before the rest.
+//! The second part is all else, the pages' length before the rest. The rules on terms
+//! (Ask 8) stand last in it. Tables of the length before Ask 8 are judged by
+//! `check_older`, for the converter.
 
 use crate::call::*;
 use crate::state::*;
@@ -54,7 +56,7 @@ rules! {
     // Document 02: "the tables of right length that meet the rules on B, next
     // start, kinds, blocks and bits".
     first {
-        TablesLength "tables-length" "The tables are not 17,436 bytes.";
+        TablesLength "tables-length" "The tables are not 17,468 bytes.";
         BlockCount "block-count" "The block count is not 1 to 4,096.";
         NextStart "next-start" "Next start is not below the block count.";
         KindThree "kind-three" "An entry has kind 3.";
@@ -84,6 +86,8 @@ rules! {
         ChainEndless "chain-endless" "A child chain does not end.";
         ChainForeign "chain-foreign" "A child chain holds a set that is not that parent's child.";
         LinkBad "link-bad" "A parent, first child or next sibling is neither 8 nor a used set.";
+        FirstNotBelowEnd "first-day-not-below-end" "A used set's first day is not below its end day.";
+        EndDayOver "end-day-over" "A used set's end day is over 36,525.";
         SizeOver "size-over" "A file's size is over 32,768.";
         VirginSize "virgin-size" "A virgin file has a size other than 0.";
         VirginMapped "virgin-mapped" "A virgin file has an entry that is not unmapped.";
@@ -164,7 +168,7 @@ pub fn rules_broken(tables: &[u8], pages_length: usize) -> BTreeSet<Rule> {
     check_all(tables, pages_length).iter().map(|broken| broken.rule).collect()
 }
 
-/// "The tables are 17,436 bytes."
+/// Document 02: "the tables become 17,468 bytes".
 fn unpacked(tables: &[u8]) -> Option<State> {
     (tables.len() == TABLES_BYTES).then(|| State::unpack(tables))
 }
@@ -176,6 +180,25 @@ fn wrong_length() -> Vec<Broken> {
 /// The whole check of tables that are unpacked already: the first part, then
 /// the pages' length, then the rest.
 pub fn check_state(state: &State, pages_length: usize) -> Vec<Broken> {
+    let mut found = first_part(state);
+    check_pages_length(state, pages_length, &mut found);
+    check_rest(state, &mut found);
+    check_terms(state, &mut found);
+    found
+}
+
+/// The check of tables of the length before Ask 8, by the rules of document 01 alone:
+/// "The tables are 17,436 bytes", with set records of 3 bytes that hold no term. They
+/// are read as they are; no term is added before they are judged.
+pub fn check_older(tables: &[u8], pages_length: usize) -> Vec<Broken> {
+    if tables.len() != OLDER_TABLES_BYTES {
+        return wrong_length();
+    }
+    check_older_state(&State::unpack_older(tables), pages_length)
+}
+
+/// The same of tables that are unpacked already.
+pub fn check_older_state(state: &State, pages_length: usize) -> Vec<Broken> {
     let mut found = first_part(state);
     check_pages_length(state, pages_length, &mut found);
     check_rest(state, &mut found);
@@ -192,6 +215,7 @@ fn first_part(state: &State) -> Vec<Broken> {
     found
 }
 
+/// The rest of the rules of document 01.
 fn check_rest(state: &State, found: &mut Vec<Broken>) {
     check_header_zero(state, found);
     check_set_records(state, found);
@@ -200,6 +224,19 @@ fn check_rest(state: &State, found: &mut Vec<Broken>) {
     check_tree(state, found);
     check_file_states(state, found);
     check_past_size(state, found);
+}
+
+/// Document 02: "Well formed now also asks, of a used set, first below end and end at
+/// most 36,525." Of an unused set nothing is asked here: it is all zero, its term too.
+fn check_terms(state: &State, found: &mut Vec<Broken>) {
+    for (set, record) in state.sets.iter().enumerate().filter(|(_, record)| record.used) {
+        if record.first_day >= record.end_day {
+            found.push(Broken::new(Rule::FirstNotBelowEnd).set(set));
+        }
+        if record.end_day > LATEST_END {
+            found.push(Broken::new(Rule::EndDayOver).set(set));
+        }
+    }
 }
 
 /// "B is 1 to 4,096, next start is below B".

@@ -1,11 +1,13 @@
 //! Random calls, histories, well-formed states and damages. Those of the panel are
-//! in `gen::panel`.
+//! in `gen::panel`, those of terms and conversions in `gen::terms`.
 
 pub mod panel;
+pub mod terms;
 
 use crate::bits::put_field;
 use crate::call::*;
 use crate::check::{check_state, rules_broken, Rule};
+use crate::conversion::narrowed;
 use crate::judge::Beside;
 use crate::maps::Resolved;
 use crate::rng::Rng;
@@ -24,10 +26,14 @@ const PANEL_RESET: usize = 13;
 const PANEL_READ: usize = 14;
 const PANEL_WRITE: usize = 15;
 const PANEL_LINE: usize = 16;
+/// The places of the calls of terms.
+pub const SET_TERM: usize = 17;
+pub const CURRENT: usize = 18;
+pub const CONVERT: usize = 19;
 /// The places of the three kinds of write.
 const WRITE: usize = 2;
 const WRITE_NARROW: usize = 12;
-const WRITE_GROUPS: usize = 17;
+const WRITE_GROUPS: usize = 20;
 const WRITES: [usize; 3] = [WRITE, WRITE_NARROW, WRITE_GROUPS];
 
 /// Group sizes that are used most: some divide 64, with others the last group is
@@ -50,8 +56,10 @@ pub struct Style {
     /// Percent of arguments out of range.
     pub wild: usize,
     /// How often each call of `CALL_NAMES` comes. Those of the panel come by
-    /// `panel` alone.
+    /// `panel` alone, conversions by `convert` alone.
     pub weights: [usize; CALLS],
+    /// Percent of turns that are conversions.
+    pub convert: usize,
     /// Percent of turns that are accesses of the panel.
     pub panel: usize,
     /// Percent of writes of several pages.
@@ -82,13 +90,13 @@ fn style(rng: &mut Rng, block_count: usize) -> Style {
     let fond_files = rng.between(1, 3);
     let fond_pages = rng.between(1, 4);
     // format create write read trunc delete make remove size free check-blocks
-    // check write-narrow, the panel's four, write-groups
+    // check write-narrow, the panel's four, set-term current convert, write-groups
     let weights = rng.pick(&[
-        [1, 30, 80, 60, 80, 30, 110, 40, 15, 10, 5, 5, 70, 0, 0, 0, 0, 70],
-        [1, 40, 60, 40, 120, 50, 90, 40, 10, 10, 5, 5, 60, 0, 0, 0, 0, 40],
-        [2, 30, 50, 60, 60, 30, 200, 60, 20, 10, 5, 5, 50, 0, 0, 0, 0, 50],
-        [0, 60, 90, 20, 60, 70, 80, 20, 5, 5, 3, 3, 80, 0, 0, 0, 0, 80],
-        [0, 70, 50, 10, 100, 100, 120, 20, 5, 5, 3, 3, 50, 0, 0, 0, 0, 40],
+        [1, 30, 80, 60, 80, 30, 110, 40, 15, 10, 5, 5, 70, 0, 0, 0, 0, 20, 15, 0, 70],
+        [1, 40, 60, 40, 120, 50, 90, 40, 10, 10, 5, 5, 60, 0, 0, 0, 0, 20, 10, 0, 40],
+        [2, 30, 50, 60, 60, 30, 200, 60, 20, 10, 5, 5, 50, 0, 0, 0, 0, 40, 30, 0, 50],
+        [0, 60, 90, 20, 60, 70, 80, 20, 5, 5, 3, 3, 80, 0, 0, 0, 0, 5, 5, 0, 80],
+        [0, 70, 50, 10, 100, 100, 120, 20, 5, 5, 3, 3, 50, 0, 0, 0, 0, 5, 5, 0, 40],
     ]);
     Style {
         block_count,
@@ -98,6 +106,7 @@ fn style(rng: &mut Rng, block_count: usize) -> Style {
         wide: rng.pick(&[0, 50, 80]),
         wild: rng.pick(&[0, 2, 5, 12]),
         weights,
+        convert: rng.pick(&[0, 0, 1, 3]),
         panel: rng.pick(&[0, 5, 10, 20]),
         long: rng.pick(&[5, 20, 60]),
         filling: rng.pick(&[0, 0, 5, 20]),
@@ -796,6 +805,9 @@ pub fn call_of(rng: &mut Rng, style: &Style, beside: &Beside, index: usize) -> C
         PANEL_READ => Call::PanelRead { offset: panel::any_offset(rng, style) },
         PANEL_WRITE => panel::any_write(rng, style),
         PANEL_LINE => Call::PanelLine {},
+        SET_TERM => terms::set_term(rng, style, beside),
+        CURRENT => terms::current(rng, style, beside),
+        CONVERT => Call::Convert {},
         _ if WRITES.contains(&index) && rng.percent(style.filling) => {
             let filling = filling_write(rng, beside, index);
             filling.unwrap_or_else(|| call_of_file(rng, style, beside, index))
@@ -1044,7 +1056,7 @@ pub fn made_from(rng: &mut Rng, start: Start, length: usize) -> Made {
         style: start.style,
     };
     // Calls that only look, and later formats, add nothing to a state.
-    for index in [0, 3, 8, 9, 10, 11] {
+    for index in [0, 3, 8, 9, 10, 11, CURRENT] {
         made.style.weights[index] = 0;
     }
     for call in start.calls {
@@ -1090,7 +1102,7 @@ impl Made {
 
 /// Changes a well-formed store in ways that keep it well formed, whether or
 /// not calls could bring it there: other page bytes and next starts, marked
-/// files with any map and size, other states, kinds, sizes and writeabilities,
+/// files with any map and size, other states, kinds, sizes, writeabilities and terms,
 /// further sets, blocks moved and taken.
 pub fn twist(rng: &mut Rng, tables: &mut [u8], pages: &mut [u8]) {
     let mut state = State::unpack(tables);
@@ -1109,7 +1121,7 @@ pub fn twist(rng: &mut Rng, tables: &mut [u8], pages: &mut [u8]) {
 }
 
 fn twist_once(rng: &mut Rng, state: &mut State) -> Option<()> {
-    match rng.below(14) {
+    match rng.below(15) {
         0 => state.next_start = rng.below(state.block_count),
         1 => twist_writeable(rng, state)?,
         2 => twist_mark(rng, state)?,
@@ -1119,6 +1131,7 @@ fn twist_once(rng: &mut Rng, state: &mut State) -> Option<()> {
         6 => twist_new_set(rng, state)?,
         7 => twist_fill(rng, state)?,
         8 => twist_swap(rng, state)?,
+        9 => twist_term(rng, state)?,
         _ => twist_entry(rng, state)?,
     }
     Some(())
@@ -1128,6 +1141,17 @@ fn twist_once(rng: &mut Rng, state: &mut State) -> Option<()> {
 fn twist_writeable(rng: &mut Rng, state: &mut State) -> Option<()> {
     let set = rng.pick_any(&sets(state, |set, record| set != 0 && record.used))?;
     state.sets[set].writeable = !state.sets[set].writeable;
+    Some(())
+}
+
+/// A used set gets any term, one that no call gives too.
+fn twist_term(rng: &mut Rng, state: &mut State) -> Option<()> {
+    let set = rng.pick_any(&sets(state, |_, record| record.used))?;
+    let random = rng.between(1, LATEST_END);
+    let end_day = rng.pick(&[1, 2, LATEST_END - 1, LATEST_END, LATEST_END, random]);
+    let first_day = rng.below(end_day);
+    state.sets[set].first_day = rng.pick(&[0, end_day - 1, first_day]);
+    state.sets[set].end_day = end_day;
     Some(())
 }
 
@@ -1259,7 +1283,7 @@ pub fn damage(rng: &mut Rng, tables: &mut Vec<u8>) -> Option<Rule> {
 
 /// Flips 1 to 8 bits, half of the time in the header, bitmap and set records.
 pub fn flip_bits(rng: &mut Rng, tables: &mut [u8]) {
-    let end = if rng.percent(50) { tables.len().min(540) } else { tables.len() };
+    let end = if rng.percent(50) { tables.len().min(572) } else { tables.len() };
     for _ in 0..rng.between(1, 8) {
         if end != 0 {
             tables[rng.below(end)] ^= 1 << rng.below(8);
@@ -1273,7 +1297,12 @@ pub fn damage_rule(rng: &mut Rng, tables: &mut Vec<u8>, rule: Rule) -> bool {
     if rule == Rule::TablesLength {
         let shorter = rng.below(TABLES_BYTES);
         let lengths = [0, 1, TABLES_BYTES - 1, TABLES_BYTES + 1, 2 * TABLES_BYTES, shorter];
-        tables.resize(rng.pick(&lengths), 0);
+        if rng.percent(15) {
+            // The length before Ask 8, and what was well formed then.
+            *tables = narrowed(tables);
+        } else {
+            tables.resize(rng.pick(&lengths), 0);
+        }
         return true;
     }
     let mut state = State::unpack(tables);
@@ -1438,6 +1467,8 @@ fn scatter_other(rng: &mut Rng, state: &mut State) {
                 first_child: rng.below(1 << 4),
                 next_sibling: rng.below(1 << 4),
                 zero: rng.below(1 << 7),
+                first_day: rng.below(1 << 16),
+                end_day: rng.below(1 << 16),
             }
         }
         2 => state.files[set][file].state = rng.pick(&FILE_STATES),
@@ -1585,6 +1616,8 @@ fn break_rule(rng: &mut Rng, state: &mut State, rule: Rule) -> Option<()> {
         }
         Rule::ChainForeign => break_chain_foreign(rng, state)?,
         Rule::LinkBad => break_link(rng, state)?,
+        Rule::FirstNotBelowEnd => break_first_day(rng, state)?,
+        Rule::EndDayOver => break_end_day(rng, state)?,
         Rule::SizeOver => {
             let list = files(state, |_, r| matches!(r.state, FileState::Own | FileState::Marked));
             let (set, file) = rng.pick_any(&list)?;
@@ -1651,13 +1684,39 @@ fn break_block_not_stored(rng: &mut Rng, state: &mut State) -> Option<()> {
 fn break_unused_set(rng: &mut Rng, state: &mut State) -> Option<()> {
     let set = rng.pick_any(&sets(state, |_, record| !record.used))?;
     let record = &mut state.sets[set];
-    match rng.below(5) {
+    match rng.below(8) {
         0 => record.writeable = true,
         1 => record.level = rng.between(1, 7),
         2 => record.parent = NONE,
         3 => record.first_child = NONE,
-        _ => record.next_sibling = NONE,
+        4 => record.next_sibling = NONE,
+        5 => record.first_day = rng.pick(&[1, LATEST_END, (1 << 16) - 1]),
+        // The default term among others.
+        6 => record.end_day = rng.pick(&[1, LATEST_END, LATEST_END, (1 << 16) - 1]),
+        _ => (record.first_day, record.end_day) = (rng.between(1, 100), rng.between(101, 9_999)),
     }
+    Some(())
+}
+
+/// A first day at the end day or over it, the end day being at most 36,525.
+fn break_first_day(rng: &mut Rng, state: &mut State) -> Option<()> {
+    let set = rng.pick_any(&sets(state, |_, record| record.used))?;
+    let any_end = rng.below(LATEST_END + 1);
+    let record = &mut state.sets[set];
+    record.end_day = rng.pick(&[record.end_day, record.end_day, any_end, 0]);
+    let random = rng.between(record.end_day, (1 << 16) - 1);
+    record.first_day = rng.pick(&[record.end_day, record.end_day, random, (1 << 16) - 1]);
+    Some(())
+}
+
+/// An end day over 36,525, the first day being below it.
+fn break_end_day(rng: &mut Rng, state: &mut State) -> Option<()> {
+    let set = rng.pick_any(&sets(state, |_, record| record.used))?;
+    let random = rng.between(LATEST_END + 1, (1 << 16) - 1);
+    let record = &mut state.sets[set];
+    record.end_day = rng.pick(&[LATEST_END + 1, (1 << 16) - 1, random]);
+    let any_first = rng.below(record.end_day);
+    record.first_day = rng.pick(&[record.first_day, record.end_day - 1, any_first]);
     Some(())
 }
 
@@ -1793,6 +1852,8 @@ fn add_child(state: &mut State, parent: usize, set: usize) {
         first_child: NONE,
         next_sibling: NONE,
         zero: 0,
+        first_day: 0,
+        end_day: LATEST_END,
     };
 }
 

@@ -2,7 +2,7 @@
 
 use crate::bench::{Bench, Counts, Other};
 use crate::call::*;
-use crate::gen::{self, panel, Start};
+use crate::gen::{self, panel, terms, Start};
 use crate::judge::Beside;
 use crate::rng::Rng;
 use std::collections::VecDeque;
@@ -19,8 +19,8 @@ pub type Watch<'a> = &'a mut dyn FnMut(&Item);
 /// A random history of its own seed: format, perhaps calls that fill the store,
 /// make a family and drop its pages or write them by groups, or make a line and
 /// read through it, then `length` turns: a random call, or accesses of the panel
-/// that belong together. The counts are added to. Where the other implementation
-/// has only some of the calls, these come more often.
+/// that belong together, or a conversion. The counts are added to. Where the other
+/// implementation has only some of the calls, these come more often.
 pub fn random_history(
     seed: u64,
     block_count: usize,
@@ -43,6 +43,8 @@ pub enum Short {
     Panel,
     /// A family for the room that a write can take.
     Room,
+    /// A family whose sets get terms, and conversions.
+    Terms,
 }
 
 impl Short {
@@ -53,6 +55,7 @@ impl Short {
             Short::Groups => (20, (3, 16), gen::group_start, 10),
             Short::Panel => (20, (1, 12), panel::panel_start, 10),
             Short::Room => (80, (2, 24), gen::room_start, 5),
+            Short::Terms => (10, (1, 12), terms::term_start, 30),
         }
     }
 }
@@ -138,8 +141,8 @@ fn turn(rng: &mut Rng, style: &gen::Style, beside: &Beside, other: &dyn Other) -
 }
 
 /// A random history with a random store size and length. Now and then it begins
-/// with calls made through the panel or with a family for the room that a write can
-/// take, seldom with a delete of many copies.
+/// with calls made through the panel, with a family for the room that a write can take or
+/// with one whose sets get terms, seldom with a delete of many copies.
 pub fn any_history(
     seed: u64,
     other: &mut dyn Other,
@@ -156,6 +159,7 @@ pub fn any_history(
         }
         2..=9 => short_history(Short::Panel, seed, other, counts, watch),
         10..=17 => short_history(Short::Room, seed, other, counts, watch),
+        18..=25 => short_history(Short::Terms, seed, other, counts, watch),
         _ => random_history(seed, block_count, length, other, counts, watch),
     }
 }

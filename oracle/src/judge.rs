@@ -5,12 +5,15 @@
 use crate::call::*;
 use crate::plain::Plain;
 use crate::tally::Tally;
+use crate::term_judge::{self, Terms};
 
-/// Plain store and tally, fed the same calls.
+/// Plain store and tally, fed the same calls, and each set's term, told from the
+/// arguments of calls alone.
 #[derive(Clone, PartialEq, Eq, Debug)]
 pub struct Beside {
     pub plain: Plain,
     pub tally: Tally,
+    pub terms: Terms,
 }
 
 /// The number of an accepted format's pages: "no multiple of 512 from 512 to
@@ -24,12 +27,24 @@ pub fn format_blocks(pages_length: usize) -> Option<usize> {
 /// the calls they run."
 const NOT_LISTED: &str = "a panel access is fed as the call that it runs";
 
+/// The converter's number goes by the older tables alone, and it leaves another store in
+/// its place: see `conversion` and `Beside::converted`.
+const NOT_OF_THIS_STORE: &str = "a conversion is judged by the older tables";
+
 /// One line of the table of numbers: the number, and whether it applies.
 type Lines = Vec<(u32, bool)>;
 
 impl Beside {
     pub fn format(block_count: usize) -> Beside {
-        Beside { plain: Plain::format(), tally: Tally::format(block_count) }
+        let (plain, tally) = (Plain::format(), Tally::format(block_count));
+        Beside { plain, tally, terms: Terms::format() }
+    }
+
+    /// What a conversion of this store's older tables gives: the same plain store and
+    /// tally, as the converter runs none of the listed calls, and "the default term".
+    pub fn converted(&self) -> Beside {
+        let used = |set: &usize| self.plain.sets[*set].is_some();
+        Beside { terms: Terms::default_of((0..SETS).filter(used)), ..self.clone() }
     }
 
     /// The number that the table gives, for tables that are well formed and
@@ -72,6 +87,14 @@ impl Beside {
             Call::Remove { set } => {
                 vec![(2, !self.is_used(set)), (11, self.has_children(set)), (12, set == 0)]
             }
+            // Document 02: "both after 2, with 14 first".
+            Call::SetTerm { set, year, month, day, months } => vec![
+                (2, !self.is_used(set)),
+                (14, !term_judge::is_date(year, month, day)),
+                (15, !(1..=120).contains(&months)),
+            ],
+            Call::Current { set, .. } => vec![(2, !self.is_used(set))],
+            Call::Convert {} => unreachable!("{NOT_OF_THIS_STORE}"),
             // They find nothing to refuse in well-formed tables.
             Call::Free {} | Call::CheckBlocks {} | Call::Check {} => vec![],
             Call::PanelReset {}
@@ -193,11 +216,13 @@ impl Beside {
             Call::Make { parent, set, writeable } => {
                 self.plain.make(parent as usize, set as usize, writeable != 0);
                 self.tally.make(parent as usize, set as usize);
+                self.terms.make(set as usize);
                 [0, 0, 0]
             }
             Call::Remove { set } => {
                 self.plain.remove(set as usize);
                 self.tally.remove(set as usize);
+                self.terms.remove(set as usize);
                 [0, 0, 0]
             }
             Call::Size { set, file } => [self.list(set as usize, file as usize).len() as u32, 0, 0],
@@ -205,6 +230,12 @@ impl Beside {
             // "for plain store and tally it is just the listed calls that it
             // runs, if any": none.
             Call::CheckBlocks {} | Call::Check {} => [0, 0, 0],
+            Call::SetTerm { set, year, month, day, months } => {
+                self.terms.set(set as usize, (year, month, day), months);
+                [0, 0, 0]
+            }
+            Call::Current { set, day } => [self.terms.is_current(set as usize, day), 0, 0],
+            Call::Convert {} => unreachable!("{NOT_OF_THIS_STORE}"),
             Call::PanelReset {}
             | Call::PanelRead { .. }
             | Call::PanelWrite { .. }

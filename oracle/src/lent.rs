@@ -20,7 +20,7 @@ pub enum Buffer {
     Registers,
     /// A spare page.
     Spare,
-    /// Second tables.
+    /// Second tables: the older ones that are converted.
     Second,
 }
 

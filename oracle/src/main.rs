@@ -1,10 +1,10 @@
 //! The program `oracle`: checks a table file, runs a session, shows the rows,
 //! and runs random histories against plain store and tally, what the panel's
-//! registers must show, and the room that a write can take.
+//! registers must show, the room that a write can take, and the sets' terms.
 
 use oracle::bench::{report, Counts, NoOther};
 use oracle::call::*;
-use oracle::check::check_all;
+use oracle::check::{check_all, check_older};
 use oracle::history::any_history;
 use oracle::rng::Rng;
 use oracle::{accesses, bits, rows, session, writes};
@@ -17,12 +17,13 @@ usage:
                                    each rule that is broken, those on block count, next
                                    start, kinds, blocks and bits first; PAGES-BYTES is
                                    the length of the pages buffer (without it: block
-                                   count x 512)
+                                   count x 512); tables of 17,436 bytes, the length
+                                   before Ask 8, are judged by document 01's rules
   oracle session                   the session program, from standard input to output
   oracle rows                      rows M1 to M12 and their results
   oracle random SEED COUNT         COUNT random histories against plain store and tally,
-                                   what the panel's registers must show, and the room
-                                   that a write can take
+                                   what the panel's registers must show, the room that
+                                   a write can take, and the sets' terms
   oracle help                      this text
 exit status: 0 well, 1 a broken table, row or history, 2 bad usage
 ";
@@ -68,7 +69,14 @@ fn check(file: &str, pages_length: Option<usize>) -> Result<bool, String> {
             bits::field(&tables, 0, 13) as usize * PAGE_BYTES
         }
     };
-    let broken = check_all(&tables, pages_length.unwrap_or_else(by_header));
+    let pages_length = pages_length.unwrap_or_else(by_header);
+    let broken = if tables.len() == OLDER_TABLES_BYTES {
+        println!("tables of 17,436 bytes, the length before Ask 8, judged by document 01's rules;");
+        println!("no call takes them but sweep_convert, if they are well formed");
+        check_older(&tables, pages_length)
+    } else {
+        check_all(&tables, pages_length)
+    };
     if broken.is_empty() {
         println!("well formed");
         return Ok(true);
@@ -127,6 +135,7 @@ fn show_counts(counts: &Counts) {
     println!("blocks handed over {} in {} calls", counts.handed_over, counts.handing_calls);
     println!("accepted reads compared {}", counts.reads_beside);
     println!("writes judged by the room they take {}", counts.room);
+    println!("calls of terms {}", counts.terms);
     writes::show("plain store and tally", &counts.writes_beside);
     accesses::show("what is demanded", &counts.panel_judged);
 }

@@ -4,7 +4,7 @@
 /// library has a function for, in the order in which they came, so that none of
 /// them changes its place; a new one stands at their end. Those that the oracle
 /// does alone stand last.
-pub const CALL_NAMES: [&str; 18] = [
+pub const CALL_NAMES: [&str; 21] = [
     "format",
     "create",
     "write",
@@ -22,6 +22,9 @@ pub const CALL_NAMES: [&str; 18] = [
     "panel-read",
     "panel-write",
     "panel-line",
+    "set-term",
+    "current",
+    "convert",
     "write-groups",
 ];
 

@@ -12,12 +12,12 @@ use std::fmt;
 use std::ops::Range;
 
 /// Where the parts of the tables begin, and how long their records are: "header, 4
-/// bytes", "bitmap, 512 bytes", "8 set records, 3 bytes each", "128 file records,
-/// 132 bytes each".
+/// bytes", "bitmap, 512 bytes", "8 set records, 3 bytes each", which Ask 8 made 7,
+/// "128 file records, 132 bytes each".
 const BITMAP: usize = 4;
 const SET_RECORDS: usize = 516;
-const SET_BYTES: usize = 3;
-const FILE_RECORDS: usize = 540;
+const SET_BYTES: usize = 7;
+const FILE_RECORDS: usize = 572;
 const FILE_BYTES: usize = 132;
 /// "State: ... 3 marked out of sync."
 const MARKED: u8 = 3;

@@ -8,7 +8,9 @@ use crate::call::*;
 /// The lengths of the parts, in the order of the tables.
 const HEADER_BYTES: usize = 4;
 const BITMAP_BYTES: usize = 512;
-const SET_BYTES: usize = 3;
+const SET_BYTES: usize = 7;
+/// Before Ask 8: "8 set records, 3 bytes each".
+const OLDER_SET_BYTES: usize = 3;
 const FILE_BYTES: usize = 132;
 
 /// "State: 0 absent, 1 own, 2 virgin (nothing copied yet, size included), 3
@@ -84,6 +86,9 @@ pub struct SetRecord {
     pub first_child: usize,
     pub next_sibling: usize,
     pub zero: usize,
+    /// The set's term. Document 02: "first day 16 bits, end day 16 bits".
+    pub first_day: usize,
+    pub end_day: usize,
 }
 
 pub const UNUSED_SET: SetRecord = SetRecord {
@@ -94,6 +99,8 @@ pub const UNUSED_SET: SetRecord = SetRecord {
     first_child: 0,
     next_sibling: 0,
     zero: 0,
+    first_day: 0,
+    end_day: 0,
 };
 
 #[derive(Clone, PartialEq, Eq, Debug)]
@@ -118,6 +125,8 @@ impl State {
             parent: NONE,
             first_child: NONE,
             next_sibling: NONE,
+            // Document 02: "Format and making a set give 0 and 36,525."
+            end_day: LATEST_END,
             ..UNUSED_SET
         };
         State {
@@ -133,13 +142,29 @@ impl State {
     /// Reads tables of the right length, whatever their bytes.
     pub fn unpack(tables: &[u8]) -> State {
         assert_eq!(tables.len(), TABLES_BYTES);
+        State::unpack_records(tables, SET_BYTES, unpack_set)
+    }
+
+    /// Reads tables of the length before Ask 8, whatever their bytes. Their sets have
+    /// no term; it is 0 and 0 here.
+    pub fn unpack_older(tables: &[u8]) -> State {
+        assert_eq!(tables.len(), OLDER_TABLES_BYTES);
+        State::unpack_records(tables, OLDER_SET_BYTES, unpack_older_set)
+    }
+
+    /// Reads tables with set records of so many bytes.
+    fn unpack_records(
+        tables: &[u8],
+        set_bytes: usize,
+        unpack_set: fn(&[u8]) -> SetRecord,
+    ) -> State {
         let (header, rest) = tables.split_at(HEADER_BYTES);
         let (bitmap, rest) = rest.split_at(BITMAP_BYTES);
-        let (set_records, file_records) = rest.split_at(SETS * SET_BYTES);
+        let (set_records, file_records) = rest.split_at(SETS * set_bytes);
         // "header, 4 bytes: block count B 13, next start 12, zero 7"
         let mut header = Reader::new(header);
         let mut sets = [UNUSED_SET; SETS];
-        for (set, bytes) in sets.iter_mut().zip(set_records.chunks(SET_BYTES)) {
+        for (set, bytes) in sets.iter_mut().zip(set_records.chunks(set_bytes)) {
             *set = unpack_set(bytes);
         }
         State {
@@ -187,7 +212,7 @@ impl State {
 
 /// "8 set records, 3 bytes each: used 1, writeable 1, level 3, parent 4,
 /// first child 4, next sibling 4, zero 7"
-fn unpack_set(bytes: &[u8]) -> SetRecord {
+fn unpack_older_set(bytes: &[u8]) -> SetRecord {
     let mut reader = Reader::new(bytes);
     let mut take = |width| reader.take(width) as usize;
     SetRecord {
@@ -198,7 +223,17 @@ fn unpack_set(bytes: &[u8]) -> SetRecord {
         first_child: take(4),
         next_sibling: take(4),
         zero: take(7),
+        ..UNUSED_SET
     }
+}
+
+/// Document 02: "Each set record grows at its end by 4 bytes: first day 16 bits, end
+/// day 16 bits".
+fn unpack_set(bytes: &[u8]) -> SetRecord {
+    let (older, term) = bytes.split_at(OLDER_SET_BYTES);
+    let mut reader = Reader::new(term);
+    let mut take = |width| reader.take(width) as usize;
+    SetRecord { first_day: take(16), end_day: take(16), ..unpack_older_set(older) }
 }
 
 fn pack_set(bytes: &mut [u8], set: &SetRecord) {
@@ -210,6 +245,8 @@ fn pack_set(bytes: &mut [u8], set: &SetRecord) {
     writer.put(4, set.first_child);
     writer.put(4, set.next_sibling);
     writer.put(7, set.zero);
+    writer.put(16, set.first_day);
+    writer.put(16, set.end_day);
 }
 
 /// "128 file records, 132 bytes each: state 2, size 16, zero 14, then 64
@@ -271,9 +308,29 @@ mod tests {
         let tables = state.packed();
         assert_eq!(tables[0..4], [0x80, 0x07, 0xFF, 0x80]);
         assert_eq!(tables[4..6], [0x00, 0x40]);
-        assert_eq!(tables[516..519], [0xC4, 0x44, 0x00]);
-        let record = 540 + 132 * (16 + 2);
+        // First day 0; end day 36,525.
+        assert_eq!(tables[516..523], [0xC4, 0x44, 0x00, 0x00, 0x00, 0x8E, 0xAD]);
+        let record = 572 + 132 * (16 + 2);
         assert_eq!(tables[record..record + 4], [0x60, 0x00, 0x00, 0x00]);
         assert_eq!(tables[record + 130..record + 132], [0x8F, 0xFF]);
+    }
+
+    /// The same store, packed as document 01 says.
+    #[test]
+    fn older_tables_have_the_same_parts_and_no_terms() {
+        let mut rng = Rng::new(2);
+        for _ in 0..50 {
+            let tables: Vec<u8> = (0..TABLES_BYTES).map(|_| rng.word() as u8).collect();
+            let mut older = tables[..516].to_vec();
+            for set in 0..8 {
+                older.extend_from_slice(&tables[516 + 7 * set..][..3]);
+            }
+            older.extend_from_slice(&tables[572..]);
+            let mut state = State::unpack(&tables);
+            for set in &mut state.sets {
+                (set.first_day, set.end_day) = (0, 0);
+            }
+            assert!(State::unpack_older(&older) == state);
+        }
     }
 }

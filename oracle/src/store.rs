@@ -3,7 +3,8 @@
 //! that applies is given", so the checks stand in the order of the numbers.
 
 use crate::call::*;
-use crate::check::check_state;
+use crate::check::{check_older_state, check_state};
+use crate::dates::{self, Date};
 use crate::maps::*;
 use crate::panel;
 use crate::state::*;
@@ -109,6 +110,28 @@ pub fn check(tables: &[u8], pages: &[u8]) -> Answer {
     answer(try_check(tables, pages))
 }
 
+/// Document 02: "A term may be set from a date and a count of months from 1 to 120".
+pub fn set_term(
+    tables: &mut [u8],
+    pages: &mut [u8],
+    set: u32,
+    year: u32,
+    month: u32,
+    day: u32,
+    months: u32,
+) -> Answer {
+    answer(try_set_term(tables, pages, set, Date { year, month, day }, months))
+}
+
+pub fn current(tables: &[u8], pages: &[u8], set: u32, day: u32) -> Answer {
+    answer(try_current(tables, pages, set, day))
+}
+
+/// From older tables, of the length before Ask 8, to tables.
+pub fn convert(older: &[u8], pages: &[u8], tables: &mut [u8]) -> Answer {
+    answer(try_convert(older, pages, tables))
+}
+
 /// Each call with its numbers on the buffers it is lent, in the order of
 /// `CALL_NAMES`.
 const DOES: [fn(&Numbers, Lent) -> Answer; CALLS] = [
@@ -129,6 +152,9 @@ const DOES: [fn(&Numbers, Lent) -> Answer; CALLS] = [
     |n, lent| panel::read(lent.registers, n[0]),
     |n, lent| panel::write(lent.registers, lent.tables, lent.pages, n[0], n[1] as u8),
     |_, lent| panel::line(lent.registers),
+    |n, lent| set_term(lent.tables, lent.pages, n[0], n[1], n[2], n[3], n[4]),
+    |n, lent| current(lent.tables, lent.pages, n[0], n[1]),
+    |_, lent| convert(lent.second, lent.pages, lent.tables),
     |n, lent| write_groups(lent.tables, lent.pages, n[0] as usize, n[1], n[2], n[3], lent.bytes),
 ];
 
@@ -538,6 +564,10 @@ fn try_make(tables: &mut [u8], pages: &[u8], parent: u32, set: u32, writeable: u
         first_child: NONE,
         next_sibling: NONE,
         zero: 0,
+        // Document 02: "Format and making a set give 0 and 36,525", whatever the
+        // parent's term.
+        first_day: 0,
+        end_day: LATEST_END,
     };
     for file in 0..FILES {
         let made = match state.files[parent][file].state {
@@ -614,5 +644,50 @@ fn try_check_blocks(tables: &[u8]) -> Outcome {
 /// Document 02: "the whole check accepts what it did".
 fn try_check(tables: &[u8], pages: &[u8]) -> Outcome {
     open(tables, pages)?;
+    Ok([0, 0, 0])
+}
+
+/// Document 02: "It refuses a date that does not exist or lies outside these years with
+/// 14, and a month count of 0 or over 120 with 15, both after 2, with 14 first." Any used
+/// set has a term, set 0 and read-only ones too.
+fn try_set_term(tables: &mut [u8], pages: &[u8], set: u32, date: Date, months: u32) -> Outcome {
+    let mut state = open(tables, pages)?;
+    let set = used_set(&state, set)?;
+    let first_day = dates::day_number(date).ok_or(14u32)?;
+    if months == 0 || months > dates::MOST_MONTHS {
+        return Err(15);
+    }
+    state.sets[set].first_day = first_day;
+    state.sets[set].end_day = dates::end_day(date, months);
+    state.pack(tables);
+    Ok([0, 0, 0])
+}
+
+/// Document 02: "A set is current on a day from the first day up to, but without, the
+/// end day. Asking this for a day number gives 1 or 0 as the first count." Any number is
+/// a day number.
+fn try_current(tables: &[u8], pages: &[u8], set: u32, day: u32) -> Outcome {
+    let state = open(tables, pages)?;
+    let record = &state.sets[used_set(&state, set)?];
+    let is_current = (record.first_day..record.end_day).contains(&(day as usize));
+    Ok([u32::from(is_current), 0, 0])
+}
+
+/// Document 02: "A converter, lent the pages too, takes well-formed tables of 17,436
+/// bytes into a second buffer of 17,468, adding the default term to used sets; otherwise
+/// it answers 1 and writes nothing." Well formed is meant by the rules of the older
+/// tables' time, which are document 01's.
+fn try_convert(older: &[u8], pages: &[u8], tables: &mut [u8]) -> Outcome {
+    if older.len() != OLDER_TABLES_BYTES || tables.len() != TABLES_BYTES {
+        return Err(1);
+    }
+    let mut state = State::unpack_older(older);
+    if !check_older_state(&state, pages.len()).is_empty() {
+        return Err(1);
+    }
+    for record in state.sets.iter_mut().filter(|record| record.used) {
+        (record.first_day, record.end_day) = (0, LATEST_END);
+    }
+    state.pack(tables);
     Ok([0, 0, 0])
 }

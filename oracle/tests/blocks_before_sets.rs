@@ -50,13 +50,13 @@ fn after(script: &str) -> (Vec<u8>, Vec<u8>) {
 /// blocks 0 and 1, the others are holes. Set 1 is made from set 0, so file 0 is
 /// virgin in it. Next start is 2. Header: B in 13 bits, next start in 12, so the
 /// bytes are 0, 32, 1, 0. Bitmap: byte 4 is 192. The record of set s begins at
-/// 516 + 3 x s, that of file f of set s at 540 + 132 x (16 x s + f), its entries
+/// 516 + 7 x s, that of file f of set s at 572 + 132 x (16 x s + f), its entries
 /// four bytes later, two bytes each.
 const BASE: &str = "format 2048; create 0 0; write 0 0 0 600 1; make 0 1 1; ";
 
 /// Lines that put an entry: kind 2 bits, block 14 bits.
 fn entry(set: usize, file: usize, page: usize, kind: usize, block: usize) -> String {
-    let at = 540 + 132 * (16 * set + file) + 4 + 2 * page;
+    let at = 572 + 132 * (16 * set + file) + 4 + 2 * page;
     format!("poke {at} {}; poke {} {}; ", kind << 6 | block >> 8, at + 1, block & 255)
 }
 
@@ -103,7 +103,7 @@ fn numbers_after(script: &str) -> Pair {
 #[test]
 fn the_first_part_looks_at_no_rule_of_the_second() {
     use Rule::*;
-    let cases: [(&str, &[Rule]); 43] = [
+    let cases: [(&str, &[Rule]); 48] = [
         // "the pages buffer is B x 512 bytes": the tables do not hold it.
         ("pages 0", &[PagesLength]),
         ("pages 2047", &[PagesLength]),
@@ -115,26 +115,26 @@ fn the_first_part_looks_at_no_rule_of_the_second() {
         ("poke 3 1", &[HeaderZero]),
         ("poke 3 127", &[HeaderZero]),
         ("poke 518 1", &[SetZero]),
-        ("poke 521 127", &[SetZero]),
-        ("poke 543 1", &[FileZero]),
-        ("poke 542 63; poke 543 255", &[FileZero]),
+        ("poke 525 127", &[SetZero]),
+        ("poke 575 1", &[FileZero]),
+        ("poke 574 63; poke 575 255", &[FileZero]),
         // Set 2 is unused: writeable, and its zero field.
-        ("poke 522 64", &[UnusedSetNotZero]),
-        ("poke 524 1", &[SetZero, UnusedSetNotZero]),
+        ("poke 530 64", &[UnusedSetNotZero]),
+        ("poke 532 1", &[SetZero, UnusedSetNotZero]),
         // File 1 of set 0 is absent: size 4, a zero field, and a hole.
-        ("poke 673 1", &[AbsentFileNotZero]),
-        ("poke 675 1", &[FileZero, AbsentFileNotZero]),
-        ("poke 676 64", &[AbsentFileNotZero]),
+        ("poke 705 1", &[AbsentFileNotZero]),
+        ("poke 707 1", &[FileZero, AbsentFileNotZero]),
+        ("poke 708 64", &[AbsentFileNotZero]),
         // File 0 of set 2, unused, is marked, or virgin.
-        ("poke 4764 192", &[UnusedSetHasFile]),
-        ("poke 4764 128", &[UnusedSetHasFile]),
+        ("poke 4796 192", &[UnusedSetHasFile]),
+        ("poke 4796 128", &[UnusedSetHasFile]),
         // Set 0: used 1, writeable 1, level 000, parent 1000 is 196 in byte 516.
         // Not used: its file and its child set break rules too.
         ("poke 516 68", &[UnusedSetNotZero, UnusedSetHasFile, Set0NotUsed, LinkBad]),
         ("remove 1; delete 0 0; poke 516 68", &[UnusedSetNotZero, Set0NotUsed]),
         // All zero, so with parent and sibling 0.
         (
-            "remove 1; delete 0 0; poke 516 0; poke 517 0",
+            "remove 1; delete 0 0; poke 516 0; poke 517 0; poke 521 0; poke 522 0",
             &[Set0NotUsed, Set0NotWriteable, Set0Parent, Set0Sibling],
         ),
         ("poke 516 132", &[Set0NotWriteable]),
@@ -145,42 +145,51 @@ fn the_first_part_looks_at_no_rule_of_the_second() {
         ("poke 517 8; poke 518 128", &[Set0Sibling]),
         // Set 1 has parent 8 (used 1, writeable 1, level 001, parent 1000), and set
         // 0 has no first child.
-        ("poke 517 68; poke 519 204", &[NoParent]),
+        ("poke 517 68; poke 523 204", &[NoParent]),
         // Set 0 has no first child, though set 1 is its child.
         ("poke 517 68", &[NotOnceInChain]),
         // Set 1 at level 2, and at level 6.
-        ("poke 519 208", &[LevelWrong]),
-        ("poke 519 240", &[LevelWrong, LevelOver5]),
+        ("poke 523 208", &[LevelWrong]),
+        ("poke 523 240", &[LevelWrong, LevelOver5]),
         // Sets 2 to 5 in a line, then set 6 under set 5, at level 6: used 1,
-        // writeable 1, level 110, parent 0101, first child 1000, sibling 1000.
+        // writeable 1, level 110, parent 0101, first child 1000, sibling 1000; its end day
+        // is 1.
         (
-            "make 1 2 1; make 2 3 1; make 3 4 1; make 4 5 1; poke 532 52; poke 534 242; \
-                poke 535 196",
+            "make 1 2 1; make 2 3 1; make 3 4 1; make 4 5 1; poke 552 52; poke 558 242; \
+                poke 559 196; poke 564 1",
             &[LevelOver5],
         ),
         // Set 1 is its own sibling: a chain without end.
-        ("poke 520 64; poke 521 128", &[ChainEndless]),
+        ("poke 524 64; poke 525 128", &[ChainEndless]),
         // Set 1 has set 0 as first child.
-        ("poke 520 4", &[ChainForeign]),
+        ("poke 524 4", &[ChainForeign]),
         // Set 1 has first child 9, and first child 2, which is unused.
-        ("poke 520 76", &[LinkBad]),
-        ("poke 520 20", &[LinkBad]),
+        ("poke 524 76", &[LinkBad]),
+        ("poke 524 20", &[LinkBad]),
+        // The term of set 0 stands in bytes 519 to 522: end day 0; 36,526. That of set 1
+        // in bytes 526 to 529: first day 36,525; end day 65,535.
+        ("poke 521 0; poke 522 0", &[FirstNotBelowEnd]),
+        ("poke 522 174", &[EndDayOver]),
+        ("poke 526 142; poke 527 173", &[FirstNotBelowEnd]),
+        ("poke 528 255; poke 529 255", &[EndDayOver]),
+        // The default term in set 2, which is unused.
+        ("poke 535 142; poke 536 173", &[UnusedSetNotZero]),
         // Size 65,535 of file 0 of set 0.
-        ("poke 540 127; poke 541 255; poke 542 192", &[SizeOver]),
+        ("poke 572 127; poke 573 255; poke 574 192", &[SizeOver]),
         // File 0 of set 1 is virgin: size 4, a hole.
-        ("poke 2653 1", &[VirginSize]),
-        ("poke 2656 64", &[VirginMapped]),
+        ("poke 2685 1", &[VirginSize]),
+        ("poke 2688 64", &[VirginMapped]),
         // File 0 of set 0 marked, without a child that needs it, and with one.
-        ("remove 1; poke 540 192", &[Set0State]),
-        ("poke 540 192", &[Set0State, UnmappedNoParentFile]),
+        ("remove 1; poke 572 192", &[Set0State]),
+        ("poke 572 192", &[Set0State, UnmappedNoParentFile]),
         // Virgin: its entries are no longer allowed.
-        ("poke 540 128; poke 541 0", &[VirginMapped, Set0State]),
+        ("poke 572 128; poke 573 0", &[VirginMapped, Set0State]),
         // Page 2 of file 0 of set 0, a hole, becomes unmapped.
-        ("poke 548 0", &[Set0Unmapped]),
+        ("poke 580 0", &[Set0Unmapped]),
         // File 1 of set 1 is virgin, that of set 0 absent.
-        ("poke 2784 128", &[UnmappedNoParentFile]),
+        ("poke 2816 128", &[UnmappedNoParentFile]),
         // Size 512: page 1 is wholly past it.
-        ("poke 541 128; poke 542 0", &[PastSizeStored]),
+        ("poke 573 128; poke 574 0", &[PastSizeStored]),
     ];
     let mut met = BTreeSet::new();
     for (change, wanted) in cases {
@@ -205,13 +214,13 @@ fn entries_with_their_bits_pass_in_any_record() {
         // File 0 of set 1 is virgin.
         (1, 0, ""),
         // The same file, marked.
-        (1, 0, "poke 2652 192; "),
+        (1, 0, "poke 2684 192; "),
         // File 15 of set 7, which is unused: the last record, absent.
         (7, 15, ""),
         // Files of an unused set that are own, virgin and marked.
-        (2, 0, "poke 4764 64; "),
-        (2, 0, "poke 4764 128; "),
-        (2, 0, "poke 4764 192; "),
+        (2, 0, "poke 4796 64; "),
+        (2, 0, "poke 4796 128; "),
+        (2, 0, "poke 4796 192; "),
     ];
     for (set, file, state) in records {
         for page in [0, 63] {
@@ -338,7 +347,7 @@ fn b_and_next_start() {
 #[test]
 fn tables_of_another_length() {
     let (tables, pages) = on_base("");
-    for length in [0, 1, 3, 4, 516, 540, 17_435, 17_437, 34_872] {
+    for length in [0, 1, 3, 4, 516, 572, 17_436, 17_467, 17_469, 34_936] {
         let mut other = tables.clone();
         other.resize(length, 0);
         assert_eq!(numbers(&other, &pages), BOTH_REFUSE, "{length}");
@@ -353,7 +362,7 @@ fn tables_of_another_length() {
 #[test]
 fn rules_of_the_first_part_are_told_by_both() {
     let cases = [
-        ("tables 17435".to_string(), Rule::TablesLength),
+        ("tables 17467".to_string(), Rule::TablesLength),
         (header(4_097, 2), Rule::BlockCount),
         (header(4, 4), Rule::NextStart),
         (entry(0, 0, 2, 3, 0), Rule::KindThree),
@@ -399,7 +408,7 @@ fn each_rule_is_of_one_part() {
         assert_ne!(rule.is_first_part(), Rule::SECOND_PART.contains(rule));
     }
     assert_eq!(Rule::SECOND_PART[0], Rule::PagesLength);
-    assert_eq!((Rule::FIRST_PART.len(), Rule::SECOND_PART.len()), (9, 26));
+    assert_eq!((Rule::FIRST_PART.len(), Rule::SECOND_PART.len()), (9, 28));
 }
 
 /// Both calls only look; the first part is lent the tables alone.
@@ -482,7 +491,7 @@ fn pool(rng: &mut Rng, count: usize) -> Vec<Made> {
 
 /// The first part, reckoned once more, straight by the bytes.
 fn meets_first_part(tables: &[u8]) -> bool {
-    if tables.len() != 17_436 {
+    if tables.len() != 17_468 {
         return false;
     }
     let byte = |at: usize| usize::from(tables[at]);
@@ -494,7 +503,7 @@ fn meets_first_part(tables: &[u8]) -> bool {
     let mut times = [0; 4_096];
     for record in 0..128 {
         for page in 0..64 {
-            let at = 540 + 132 * record + 4 + 2 * page;
+            let at = 572 + 132 * record + 4 + 2 * page;
             let (kind, block) = (byte(at) >> 6, (byte(at) & 63) << 8 | byte(at + 1));
             match kind {
                 0 | 1 if block != 0 => return false,
@@ -657,9 +666,9 @@ struct StoredRecord {
 /// The records with a stored entry, told by the bytes.
 fn stored_records(tables: &[u8]) -> impl Iterator<Item = StoredRecord> + '_ {
     (0..128).filter_map(|record| {
-        let bytes = &tables[540 + 132 * record..][..132];
+        let bytes = &tables[572 + 132 * record..][..132];
         bytes[4..].iter().step_by(2).any(|byte| byte >> 6 == 2).then(|| StoredRecord {
-            used: tables[516 + 3 * (record / 16)] >> 7 == 1,
+            used: tables[516 + 7 * (record / 16)] >> 7 == 1,
             present: bytes[0] >> 6 != 0,
         })
     })
@@ -677,12 +686,12 @@ fn random_bytes_are_judged_by_the_bytes() {
     for round in 0..6_000 {
         let made = &pool[rng.below(pool.len())];
         let mut tables = made.tables.clone();
-        let record = 540 + 132 * rng.below(128);
+        let record = 572 + 132 * rng.below(128);
         let place = round % accepted.len();
         let range = match place {
             0 => record..record + 132,
             1 => record..record + 4,
-            2 => 516..540,
+            2 => 516..572,
             3 => 0..4,
             4 => 4..516,
             _ => 0..TABLES_BYTES,
@@ -726,7 +735,7 @@ fn other_fields_make_no_difference_to_the_first_part() {
         }
         let number = store::check_blocks(&tables).number;
         tables[3] = (tables[3] & 128) | (rng.word() as u8 & 127);
-        let fields = (516..540).chain((540..TABLES_BYTES).filter(|at| (at - 540) % 132 < 4));
+        let fields = (516..572).chain((572..TABLES_BYTES).filter(|at| (at - 572) % 132 < 4));
         for at in fields {
             tables[at] = rng.word() as u8;
         }

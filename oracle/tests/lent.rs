@@ -1,7 +1,6 @@
 //! The calling of exports and the comparing of lent buffers, tried on a
-//! stand-in call with a spare page, second tables, five numbers and bytes that it
-//! leaves free, which no call has yet, and with registers and numbers of two
-//! widths beside them.
+//! stand-in call with a spare page and bytes that it leaves free, which no call has
+//! yet, and with second tables, registers, five numbers and two widths of them beside.
 
 use oracle::call::Answer;
 use oracle::export;

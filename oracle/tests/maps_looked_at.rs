@@ -443,7 +443,9 @@ fn refused_reads_give_no_count() {
         ("read 0 0 0 1", "0; 1, 1, 0"),
     ]);
     // Pages and tables of wrong length, and a block count of 8,160 and more.
-    for change in ["pages 511", "pages 1024", "tables 17435", "tables 17437", "poke 0 255"] {
+    for change in
+        ["pages 511", "pages 1024", "tables 17436", "tables 17467", "tables 17469", "poke 0 255"]
+    {
         let mut store = Store::after(1, script);
         store.answers(&[(change, ""), ("read 0 0 0 1", "1; 0, 0, 0")]);
     }

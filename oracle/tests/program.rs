@@ -1,6 +1,7 @@
 //! The program `oracle` as people use it: what it prints and its exit status.
 
 use oracle::call::*;
+use oracle::conversion::narrowed;
 use oracle::state::State;
 use std::io::Write;
 use std::path::PathBuf;
@@ -58,6 +59,37 @@ fn check_says_well_formed_or_each_broken_rule() {
         assert_eq!(status(&["check", &short]), 1);
         assert!(printed(&["check", &short]).contains("tables-length"));
     }
+}
+
+/// Ask 8 of document 02: broken terms are told with their set, and tables of the length
+/// before it are judged by document 01's rules.
+#[test]
+fn check_tells_of_terms_and_of_older_tables() {
+    let mut state = State::formatted(3);
+    let older = file("older", &narrowed(&state.packed()));
+    let told = "tables of 17,436 bytes, the length before Ask 8, judged by document 01's rules;\n\
+        no call takes them but sweep_convert, if they are well formed\n";
+    assert_eq!(printed(&["check", &older]), format!("{told}well formed\n"));
+    assert_eq!(status(&["check", &older]), 0);
+    assert_eq!(status(&["check", &older, "1535"]), 1);
+
+    state.sets[0].first_day = 40_000;
+    state.sets[0].end_day = 36_526;
+    let bad = file("bad-term", &state.packed());
+    let wanted = "not well formed, broken rules: 2\n\
+        first-day-not-below-end: A used set's first day is not below its end day. set 0\n\
+        end-day-over: A used set's end day is over 36,525. set 0\n";
+    assert_eq!(printed(&["check", &bad]), wanted);
+    assert_eq!(status(&["check", &bad]), 1);
+    // Without its terms the store is well formed.
+    assert_eq!(status(&["check", &file("narrowed", &narrowed(&state.packed()))]), 0);
+
+    state.sets[0].zero = 5;
+    let bad = file("bad-older", &narrowed(&state.packed()));
+    let wanted = "not well formed, broken rules: 1\n\
+        set-zero: The zero field of a set record is not zero. set 0\n";
+    assert_eq!(printed(&["check", &bad]), format!("{told}{wanted}"));
+    assert_eq!(status(&["check", &bad]), 1);
 }
 
 #[test]

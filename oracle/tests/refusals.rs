@@ -56,6 +56,8 @@ fn number_2_and_3() {
             "remove S",
             "size S 0",
             "make S 4 1",
+            "set-term S 2000 2 30 0",
+            "current S 0",
         ] {
             cases.push((call.replace('S', &set.to_string()), 2));
         }
@@ -203,7 +205,7 @@ fn number_1_in_format() {
         assert!(pages.iter().all(|byte| *byte == 0));
         assert_eq!(store::free(&tables, &pages).first as usize, length / 512);
     }
-    for length in [0, 1, TABLES_BYTES - 1, TABLES_BYTES + 1, 3 * TABLES_BYTES] {
+    for length in [0, 1, OLDER_TABLES_BYTES, TABLES_BYTES - 1, TABLES_BYTES + 1, 3 * TABLES_BYTES] {
         let mut tables = vec![9; length];
         let mut pages = vec![7; 512];
         assert_eq!(store::format(&mut tables, &mut pages), Answer::refused(1), "{length}");
@@ -224,11 +226,14 @@ fn number_1_in_every_other_call() {
         "size 9 99",
         "free",
         "check",
+        "set-term 9 0 0 0 0",
+        "current 9 0",
     ];
     let damages = [
         "tables 0",
-        "tables 17435",
-        "tables 17437",
+        "tables 17436",
+        "tables 17467",
+        "tables 17469",
         "pages 0",
         "pages 511",
         "pages 513",

@@ -514,7 +514,7 @@ fn turn_bit(tables: &mut [u8], block: usize) {
 
 /// Gives a file the state 3.
 fn mark(tables: &mut [u8], set: usize, file: usize) {
-    tables[540 + 132 * (set * 16 + file)] |= 0xC0;
+    tables[572 + 132 * (set * 16 + file)] |= 0xC0;
 }
 
 /// What is changed in an answer or in the tables after a write.

@@ -4,7 +4,7 @@ use oracle::agree::{agree, read_off};
 use oracle::bench::{Bench, NoOther};
 use oracle::call::*;
 use oracle::check::{check_all, check_blocks, is_well_formed, rules_broken, Rule};
-use oracle::gen::{self, panel, Made};
+use oracle::gen::{self, panel, Made, CONVERT};
 use oracle::panel_judge;
 use oracle::rng::Rng;
 use oracle::state::State;
@@ -35,6 +35,7 @@ fn plain_store_and_tally_are_read_off() {
         let state = State::unpack(&made.tables);
         let beside = read_off(&state, &made.pages);
         assert_eq!(beside.tally, made.beside.tally);
+        assert_eq!(beside.terms, made.beside.terms);
         assert_eq!(agree(&state, &made.pages, &beside), Ok(()));
         assert_eq!(agree(&state, &made.pages, &made.beside), Ok(()));
         let (mut tables, mut pages) = (made.tables, made.pages);
@@ -112,9 +113,10 @@ fn reported(script: &str) -> Vec<Rule> {
 /// Damages by hand, byte by byte: the packing is looked at once more.
 #[test]
 fn damages_by_hand() {
-    // The record of file f of set s begins at 540 + 132 x (16 x s + f).
+    // The record of set s begins at 516 + 7 x s, that of file f of set s at
+    // 572 + 132 x (16 x s + f).
     let base = "format 2048; create 0 0; write 0 0 0 600 1; make 0 1 1; ";
-    let cases: [(&str, &[Rule]); 26] = [
+    let cases: [(&str, &[Rule]); 34] = [
         ("", &[]),
         ("poke 3 1", &[Rule::HeaderZero]),
         ("poke 1 34", &[Rule::NextStart]),
@@ -122,31 +124,45 @@ fn damages_by_hand() {
         ("poke 0 128; poke 1 8; pages 2097664", &[Rule::BlockCount]),
         ("remove 1; delete 0 0; poke 1 0; pages 0", &[Rule::BlockCount, Rule::NextStart]),
         ("pages 2047", &[Rule::PagesLength]),
-        ("tables 17437", &[Rule::TablesLength]),
+        ("tables 17469", &[Rule::TablesLength]),
         ("poke 4 64", &[Rule::EntryWithoutBit]),
         ("poke 4 224", &[Rule::BitWithoutEntry]),
         ("poke 515 1", &[Rule::BitWithoutEntry]),
         ("poke 516 132", &[Rule::Set0NotWriteable]),
         ("poke 516 204", &[Rule::Set0Level, Rule::LevelWrong]),
         ("poke 518 1", &[Rule::SetZero]),
-        ("poke 522 64", &[Rule::UnusedSetNotZero]),
-        ("poke 522 1", &[Rule::UnusedSetNotZero]),
-        ("poke 524 1", &[Rule::SetZero, Rule::UnusedSetNotZero]),
-        ("poke 542 1", &[Rule::FileZero]),
-        ("poke 543 1", &[Rule::FileZero]),
+        ("poke 530 64", &[Rule::UnusedSetNotZero]),
+        ("poke 530 1", &[Rule::UnusedSetNotZero]),
+        ("poke 532 1", &[Rule::SetZero, Rule::UnusedSetNotZero]),
+        ("poke 574 1", &[Rule::FileZero]),
+        ("poke 575 1", &[Rule::FileZero]),
         // Entry 2 of file 0 of set 0.
-        ("poke 548 192", &[Rule::KindThree]),
-        ("poke 549 1", &[Rule::BlockNotStored]),
-        ("poke 548 0", &[Rule::Set0Unmapped]),
+        ("poke 580 192", &[Rule::KindThree]),
+        ("poke 581 1", &[Rule::BlockNotStored]),
+        ("poke 580 0", &[Rule::Set0Unmapped]),
         // Size 600 becomes 512: page 1 is wholly past it.
-        ("poke 541 128; poke 542 0", &[Rule::PastSizeStored]),
+        ("poke 573 128; poke 574 0", &[Rule::PastSizeStored]),
         // Entry 1 names block 0, entry 0 block 0 too.
-        ("poke 547 0; poke 4 128", &[Rule::BlockNamedTwice]),
+        ("poke 579 0; poke 4 128", &[Rule::BlockNamedTwice]),
         // File 0 of set 1 is virgin: a size, a hole.
-        ("poke 2653 1", &[Rule::VirginSize]),
-        ("poke 2656 64", &[Rule::VirginMapped]),
+        ("poke 2685 1", &[Rule::VirginSize]),
+        ("poke 2688 64", &[Rule::VirginMapped]),
+        // The term of set 0, first day 0 and end day 36,525 (142, 173): end day 0, end
+        // day 36,526, first day 36,525, first day 65,535, end day 65,535.
+        ("poke 521 0; poke 522 0", &[Rule::FirstNotBelowEnd]),
+        ("poke 522 174", &[Rule::EndDayOver]),
+        ("poke 519 142; poke 520 173", &[Rule::FirstNotBelowEnd]),
+        ("poke 519 142; poke 520 172", &[]),
+        (
+            "poke 519 255; poke 520 255; poke 521 255; poke 522 255",
+            &[Rule::FirstNotBelowEnd, Rule::EndDayOver],
+        ),
+        // The term of set 1, and a term in set 2, which is not used.
+        ("poke 528 0; poke 529 0", &[Rule::FirstNotBelowEnd]),
+        ("poke 533 1", &[Rule::UnusedSetNotZero]),
+        ("poke 535 142; poke 536 173", &[Rule::UnusedSetNotZero]),
         // File 0 of set 2, which is not used.
-        ("poke 4764 192", &[Rule::UnusedSetHasFile]),
+        ("poke 4796 192", &[Rule::UnusedSetHasFile]),
     ];
     for (damage, wanted) in cases {
         assert_eq!(reported(&format!("{base}{damage}")), wanted, "{damage}");
@@ -174,7 +190,9 @@ fn any_bytes_are_judged() {
         let well_formed = is_well_formed(&tables, made.pages.len());
         let mut bench = Bench::with(tables, made.pages.clone());
         let turn_of = |index| panel::turn_of(&mut rng, &made.style, &made.beside, index);
-        for item in (1..CALLS).flat_map(turn_of) {
+        // A conversion is judged by the older tables, and may mend the tables.
+        let calls = (1..CALLS).filter(|index| *index != CONVERT);
+        for item in calls.flat_map(turn_of) {
             let Item::Call(call) = item else { unreachable!() };
             let command = panel_judge::call_run(&call, bench.registers());
             let answer = bench.call(&call, &mut NoOther).unwrap();
@@ -201,5 +219,5 @@ fn any_bytes_are_judged() {
 fn every_rule_has_a_name_of_its_own() {
     let names: BTreeSet<&str> = Rule::ALL.iter().map(|rule| rule.name()).collect();
     assert_eq!(names.len(), Rule::ALL.len());
-    assert_eq!(Rule::ALL.len(), 35);
+    assert_eq!(Rule::ALL.len(), 37);
 }

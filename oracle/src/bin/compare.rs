@@ -1,6 +1,6 @@
 //! The program `compare`: runs the C library libsweep.a beside the oracle,
 //! compares answers and every byte, and judges the library's writes by the room
-//! they take. The library is linked when SWEEP_LIB (its
+//! they take. Terms are set from every date. The library is linked when SWEEP_LIB (its
 //! folder) is set at build time; SWEEP_CALLS says which calls it has.
 
 use std::process::ExitCode;
@@ -70,6 +70,9 @@ mod sweep {
         sweep_panel_read(look registers, u32 0);
         sweep_panel_write(change registers, change tables, change pages, u32 0, u8 1);
         sweep_panel_line(look registers);
+        sweep_set_term(change tables, change pages, u32 0, u32 1, u32 2, u32 3, u32 4);
+        sweep_current(look tables, look pages, u32 0, u32 1);
+        sweep_convert(look second, look pages, change tables);
         sweep_write_groups;
     }
 
@@ -101,10 +104,13 @@ mod linked {
     use oracle::bench::{replay, report, Bench, Counts, Other};
     use oracle::call::*;
     use oracle::check::{rules_broken, Rule};
-    use oracle::gen::{self, panel, Made, Style};
+    use oracle::conversion::narrowed;
+    use oracle::dates::{date_of, day_number, end_day, Date, DAYS};
+    use oracle::gen::{self, panel, terms, Made, Style, CONVERT, CURRENT, SET_TERM};
     use oracle::history::{any_history, many_copies_history, short_history};
     use oracle::history::{Failure, Short, Watch};
     use oracle::judge::Beside;
+    use oracle::lent::{Buffers, Guarded};
     use oracle::rng::Rng;
     use oracle::state::State;
     use oracle::writes;
@@ -119,7 +125,7 @@ usage:
                                      library that ends the program
   compare replay FILE                run the script in FILE
   compare help                       this text
-exit status: 0 no difference, 1 a difference or a case that no write met, 2 bad usage
+exit status: 0 no difference, 1 a difference or a case that no call met, 2 bad usage
 ";
 
     /// Each elementary rule is broken at least so many times.
@@ -130,6 +136,8 @@ exit status: 0 no difference, 1 a difference or a case that no write met, 2 bad 
     const GROUP_HISTORIES: usize = 100;
     const PANEL_HISTORIES: usize = 100;
     const ROOM_HISTORIES: usize = 300;
+    const TERM_HISTORIES: usize = 150;
+    const CONVERSIONS: usize = 100;
     const STATES: usize = 60;
     const LENGTH_ROUNDS: usize = 15;
 
@@ -210,9 +218,12 @@ exit status: 0 no difference, 1 a difference or a case that no write met, 2 bad 
             counts: Counts::default(),
             states: Vec::new(),
             histories: 0,
-            short_histories: [0; 3],
+            short_histories: [0; 4],
             many_copies: 0,
             twists: 0,
+            conversions: 0,
+            terms_by_date: 0,
+            days_by_date: 0,
             by_first_part: [0; 2],
             trace: Trace(file),
         };
@@ -228,10 +239,16 @@ exit status: 0 no difference, 1 a difference or a case that no write met, 2 bad 
         states: Vec<Made>,
         histories: u64,
         /// In the order of `Short`.
-        short_histories: [u64; 3],
+        short_histories: [u64; 4],
         /// Histories in which a panel command can make more than 255 copies.
         many_copies: u64,
         twists: u64,
+        /// Well-formed stores whose older tables were converted, with wrong lengths and
+        /// broken rules between.
+        conversions: u64,
+        /// Terms set from every date, and days asked for then.
+        terms_by_date: u64,
+        days_by_date: u64,
         /// Damaged tables that the first part of the check accepts, and those
         /// that it refuses.
         by_first_part: [u64; 2],
@@ -284,15 +301,22 @@ exit status: 0 no difference, 1 a difference or a case that no write met, 2 bad 
             for _ in 0..ROOM_HISTORIES {
                 self.short_history(Short::Room)?;
             }
-            Ok(())
+            for _ in 0..TERM_HISTORIES {
+                self.short_history(Short::Terms)?;
+            }
+            for _ in 0..CONVERSIONS {
+                self.converted()?;
+            }
+            self.every_date()
         }
 
         /// Some more of everything.
         fn round(&mut self) -> Outcome {
             self.history()?;
-            for short in [Short::Groups, Short::Panel, Short::Room] {
+            for short in [Short::Groups, Short::Panel, Short::Room, Short::Terms] {
                 self.short_history(short)?;
             }
+            self.converted()?;
             for _ in 0..5 {
                 self.damaged(None)?;
                 self.twisted()?;
@@ -388,12 +412,14 @@ exit status: 0 no difference, 1 a difference or a case that no write met, 2 bad 
             }
         }
 
-        /// A store in which one rule is broken alone: every linked call on it.
+        /// A store in which one rule is broken alone: every linked call on it, and the
+        /// check, linked or not.
         fn broken_alone(&mut self, rule: Rule) -> Outcome {
             let broke = gen::break_alone(&mut self.rng, rule);
             self.count_damage(&broke.tables, broke.pages.len());
             let script = script_to(&broke.made, &broke.tables, &broke.pages);
-            let items = self.each_call(&broke.made.style, &broke.made.beside);
+            let mut items = self.each_call(&broke.made.style, &broke.made.beside);
+            items.insert(0, Item::Call(Call::Check {}));
             self.items_on(Bench::with(broke.tables, broke.pages), script, items)
         }
 
@@ -422,17 +448,56 @@ exit status: 0 no difference, 1 a difference or a case that no write met, 2 bad 
             for _ in 0..3 {
                 turns.extend(self.turns(&made.style, &beside));
             }
+            if linked(CONVERT) {
+                turns.push(terms::any_conversion(&mut self.rng));
+            }
             self.rng.shuffle(&mut turns);
             self.items_on(Bench::with(tables, pages), script, turns.concat())
         }
 
-        /// A turn of each linked kind but format, in any order, with numbers in
-        /// range and out of it. Panel accesses sometimes find any bytes in the
+        /// Older tables of a well-formed store: conversions of them, and of what wrong
+        /// lengths and broken rules make of them.
+        fn converted(&mut self) -> Outcome {
+            let made = self.rng.pick(&self.states);
+            let (mut tables, mut pages) = (made.tables.clone(), made.pages.clone());
+            if self.rng.percent(50) {
+                gen::twist(&mut self.rng, &mut tables, &mut pages);
+            }
+            self.conversions += 1;
+            let script = script_to(&made, &tables, &pages);
+            let items = terms::conversions(&mut self.rng, &tables, pages.len());
+            self.items_on(Bench::with(tables, pages), script, items)
+        }
+
+        /// Every date of the hundred years with a count of months that goes through all
+        /// of them, and all counts of months for the first and the last days of some
+        /// years' months: the library's tables are compared with the dates counted day by
+        /// day, and the days at both edges of the term are asked for.
+        fn every_date(&mut self) -> Outcome {
+            let Some(mut dated) = Dated::new(&mut self.trace) else { return Ok(()) };
+            for day in 0..DAYS {
+                dated.term(date_of(day), 1 + (day as u32 * 7) % 120)?;
+                dated.days_at_first()?;
+                dated.days_at_end()?;
+            }
+            for date in (0..DAYS).map(date_of).filter(is_edge) {
+                for months in 1..=120 {
+                    dated.term(date, months)?;
+                    dated.days_at_end()?;
+                }
+            }
+            let Dated { terms, days, .. } = dated;
+            (self.terms_by_date, self.days_by_date) = (terms, days);
+            Ok(())
+        }
+
+        /// A turn of each linked kind but format and the converter, in any order, with
+        /// numbers in range and out of it. Panel accesses sometimes find any bytes in the
         /// registers.
         fn turns(&mut self, style: &Style, beside: &Beside) -> Vec<Vec<Item>> {
             let mut style = style.clone();
             style.wild = self.rng.pick(&[0, 0, 10, 50, 100]);
-            let indices = (1..CALLS).filter(|index| linked(*index));
+            let indices = (1..CALLS).filter(|index| linked(*index) && *index != CONVERT);
             let turn_of = |index| panel::turn_of(&mut self.rng, &style, beside, index);
             let mut turns: Vec<Vec<Item>> = indices.map(turn_of).collect();
             if self.rng.percent(30) {
@@ -442,9 +507,13 @@ exit status: 0 no difference, 1 a difference or a case that no write met, 2 bad 
             turns
         }
 
-        /// Such turns one after the other, and a format last.
+        /// Such turns one after the other, a conversion, which may mend the tables, and a
+        /// format last.
         fn each_call(&mut self, style: &Style, beside: &Beside) -> Vec<Item> {
             let mut items = self.turns(style, beside).concat();
+            if linked(CONVERT) {
+                items.extend(terms::any_conversion(&mut self.rng));
+            }
             if linked(0) {
                 items.extend(panel::turn_of(&mut self.rng, style, beside, 0));
             }
@@ -455,7 +524,15 @@ exit status: 0 no difference, 1 a difference or a case that no write met, 2 bad 
         fn wrong_lengths(&mut self) -> Outcome {
             let made = self.rng.pick(&self.states);
             let right = made.pages.len();
-            let tables = [TABLES_BYTES, 0, 1, TABLES_BYTES - 1, TABLES_BYTES + 1, 100_000];
+            let tables = [
+                TABLES_BYTES,
+                0,
+                1,
+                OLDER_TABLES_BYTES,
+                TABLES_BYTES - 1,
+                TABLES_BYTES + 1,
+                100_000,
+            ];
             let pages = [right, 0, 1, right - 1, right + 1, right - 512, right + 512, 3_000_000];
             let mut pairs: Vec<(usize, usize)> = tables.iter().map(|t| (*t, right)).collect();
             pairs.extend(pages.iter().map(|p| (TABLES_BYTES, *p)));
@@ -477,7 +554,18 @@ exit status: 0 no difference, 1 a difference or a case that no write met, 2 bad 
                 }
                 self.items_on(bench, script, items)?;
             }
-            Ok(())
+            self.older_tables()
+        }
+
+        /// The tables that a store had before Ask 8: every linked call on them, and the
+        /// check, linked or not.
+        fn older_tables(&mut self) -> Outcome {
+            let made = self.rng.pick(&self.states);
+            let older = narrowed(&made.tables);
+            let script = script_to(&made, &older, &made.pages);
+            let mut items = self.each_call(&made.style, &made.beside);
+            items.insert(0, Item::Call(Call::Check {}));
+            self.items_on(Bench::with(older, made.pages), script, items)
         }
 
         /// Wrong lengths of registers and offsets that no register has, on tables
@@ -545,12 +633,14 @@ exit status: 0 no difference, 1 a difference or a case that no write met, 2 bad 
 
         fn show(&self) {
             let counts = &self.counts;
-            let [groups, panel, room] = self.short_histories;
+            let [groups, panel, room, terms] = self.short_histories;
             println!(
                 "histories {}, short ones with writes by groups {groups}, through the panel {panel}, \
-                with many copies {}, for the room of a write {room}",
+                with many copies {}, for the room of a write {room}, with terms {terms}",
                 self.histories, self.many_copies
             );
+            println!("stores converted {}", self.conversions);
+            println!("terms set by date {}, days asked {}", self.terms_by_date, self.days_by_date);
             println!("well-formed stores changed by hand {}", self.twists);
             for (index, name) in CALL_NAMES.iter().enumerate() {
                 println!(
@@ -572,15 +662,16 @@ exit status: 0 no difference, 1 a difference or a case that no write met, 2 bad 
             println!("accepted reads compared with the library {}", counts.reads_linked);
             println!("accepted reads compared with plain store and tally {}", counts.reads_beside);
             println!("writes judged by the room they take {}", counts.room);
+            println!("calls of terms {}", counts.terms);
             writes::show("the library", &counts.writes_linked);
             writes::show("plain store and tally", &counts.writes_beside);
             accesses::show("the library", &counts.panel_linked);
         }
 
         /// Says how the run ended: well, if there was no difference and some write met
-        /// each case of the room that a write can take.
+        /// each case of the room that a write can take, and some call each case of terms.
         fn ends_well(&self, outcome: Outcome) -> bool {
-            let unmet = self.counts.room.unmet();
+            let unmet = [self.counts.room.unmet(), self.counts.terms.unmet()].concat();
             match outcome {
                 Err(failure) => {
                     println!("compare: DIFFERENCE: {}", failure.text);
@@ -588,7 +679,7 @@ exit status: 0 no difference, 1 a difference or a case that no write met, 2 bad 
                     false
                 }
                 Ok(()) if !unmet.is_empty() => {
-                    println!("compare: NOT MET by any write: {}", unmet.join("; "));
+                    println!("compare: NOT MET by any call: {}", unmet.join("; "));
                     false
                 }
                 Ok(()) => {
@@ -596,6 +687,95 @@ exit status: 0 no difference, 1 a difference or a case that no write met, 2 bad 
                     true
                 }
             }
+        }
+    }
+
+    /// The first and the last day of a month in 1998 to 2001, four years that come again
+    /// and again, and in 2096 and 2097.
+    fn is_edge(date: &Date) -> bool {
+        let year = matches!(date.year, 1998..=2001 | 2096 | 2097);
+        year && (date.day == 1 || date.day >= 28)
+    }
+
+    /// A store of one block, lent to the library for one term after the other. The
+    /// bench would be too slow for so many.
+    struct Dated<'a> {
+        trace: &'a mut Trace,
+        lent: Guarded,
+        /// The tables that the library must leave.
+        wanted: Buffers,
+        /// The call that set the term, and this term.
+        set: Call,
+        term: (u32, u32),
+        terms: u64,
+        days: u64,
+    }
+
+    impl Dated<'_> {
+        /// None where the library cannot set terms.
+        fn new(trace: &mut Trace) -> Option<Dated<'_>> {
+            if !linked(SET_TERM) {
+                return None;
+            }
+            let mut wanted = Buffers::default();
+            wanted[Buffer::Tables] = State::formatted(1).packed();
+            wanted[Buffer::Pages] = vec![0; PAGE_BYTES];
+            let (lent, set) = (Guarded::new(&wanted), Call::Free {});
+            Some(Dated { trace, lent, wanted, set, term: (0, 36_525), terms: 0, days: 0 })
+        }
+
+        /// Sets the term of set 0.
+        fn term(&mut self, date: Date, months: u32) -> Outcome {
+            let Date { year, month, day } = date;
+            let first = day_number(date).expect("the date exists");
+            let end = end_day(date, months);
+            let bytes = [first >> 8, first & 255, end >> 8, end & 255].map(|byte| byte as u8);
+            self.wanted[Buffer::Tables][519..523].copy_from_slice(&bytes);
+            self.terms += 1;
+            self.term = (first as u32, end as u32);
+            self.set = Call::SetTerm { set: 0, year, month, day, months };
+            self.run(&self.set.clone(), Answer::default())
+        }
+
+        fn days_at_first(&mut self) -> Outcome {
+            let (first, _) = self.term;
+            if first > 0 {
+                self.day(first - 1, 0)?;
+            }
+            self.day(first, 1)
+        }
+
+        fn days_at_end(&mut self) -> Outcome {
+            let (_, end) = self.term;
+            self.day(end - 1, 1)?;
+            self.day(end, 0)
+        }
+
+        /// Asks for a day, if the library can tell it.
+        fn day(&mut self, day: u32, is_current: u32) -> Outcome {
+            if !linked(CURRENT) {
+                return Ok(());
+            }
+            self.days += 1;
+            self.run(&Call::Current { set: 0, day }, Answer::accepted([is_current, 0, 0]))
+        }
+
+        /// Does a call, and compares its answer and every byte. Its script is the term and
+        /// the call.
+        fn run(&mut self, call: &Call, wanted: Answer) -> Outcome {
+            let format = Call::Format { pages_length: PAGE_BYTES };
+            let script = [&format, &self.set, call].map(|call| Item::Call(call.clone()));
+            self.trace.restart();
+            script.iter().for_each(|item| self.trace.line(item));
+            let found = Sweep.run(call.index(), &call.numbers(), self.lent.lend());
+            let bytes = self.lent.compare(call.row(), true, &mut self.wanted);
+            let same = match found == wanted {
+                true => bytes,
+                false => Err(format!("the answer is {found}; by the date it is {wanted}")),
+            };
+            let failure =
+                |text| Failure { text: format!("{call}: {text}"), script: script.to_vec() };
+            same.map_err(failure)
         }
     }
 

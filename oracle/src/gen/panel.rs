@@ -177,17 +177,24 @@ fn accesses(rng: &mut Rng, style: &Style, beside: &Beside) -> Vec<Item> {
     })
 }
 
-/// What comes next in a history: a call, or accesses of the panel.
+/// What comes next in a history: a call, or accesses of the panel, or a conversion.
 pub fn turn(rng: &mut Rng, style: &Style, beside: &Beside) -> Vec<Item> {
     if rng.percent(style.panel) {
         return accesses(rng, style, beside);
+    }
+    if rng.percent(style.convert) {
+        return terms::conversion(rng, style, beside);
     }
     vec![Item::Call(call(rng, style, beside))]
 }
 
 /// A call of the kind at this place in `CALL_NAMES`; of panel writes, a command
-/// with the registers it uses, sometimes after other writes.
+/// with the registers it uses, sometimes after other writes; of conversions, one with
+/// the older tables that it takes.
 pub fn turn_of(rng: &mut Rng, style: &Style, beside: &Beside, index: usize) -> Vec<Item> {
+    if index == CONVERT {
+        return terms::conversion(rng, style, beside);
+    }
     if index != PANEL_WRITE {
         return vec![Item::Call(call_of(rng, style, beside, index))];
     }
