@@ -8,7 +8,7 @@
  *   bench loop N store|twin COUNT   runs case N so often and prints nothing: for a profiler
  *
  * Method. All cases are gone through several times. Each time a case is run in short batches, store and twin in turn, the copy
- * of the tables (memcpy of 17,436 bytes) among them; the best batch of each counts. A call that changes nothing, or registers
+ * of the tables (memcpy of 17,468 bytes) among them; the best batch of each counts. A call that changes nothing, or registers
  * alone, is repeated in a row under one reading of the clock. A call that changes the tables is timed by itself: tables and
  * registers are put back before it, outside the time, and the cost of reading the clock is taken off. Pages are not put back:
  * what they hold decides nothing. Before the timing each case is done once by both, and answer, tables, pages, read buffer and
@@ -26,7 +26,8 @@
 #include <x86intrin.h>
 
 enum { TABLES = SWEEP_TABLES_BYTES, PAGE = SWEEP_PAGE_BYTES, MAX_BLOCKS = SWEEP_BLOCKS_MAX, FILE_BYTES = SWEEP_FILE_BYTES_MAX };
-enum { REGISTERS = SWEEP_PANEL_REGISTERS };
+enum { REGISTERS = SWEEP_PANEL_REGISTERS, OLD_TABLES = SWEEP_OLD_TABLES_BYTES };
+enum { BITMAP = 4, SETS_AT = 516, SET_BYTES = 7, OLD_SET_BYTES = 3, FILES_AT = 572, OLD_FILES_AT = 540, RECORD = 132 };
 enum { PASSES = 5, ROUNDS = 300 };
 
 /* ---- the two implementations ---- */
@@ -50,12 +51,16 @@ struct calls {
     sweep_answer (*panel_read)(const uint8_t *, size_t, uint32_t);
     sweep_answer (*panel_write)(uint8_t *, size_t, uint8_t *, size_t, uint8_t *, size_t, uint32_t, uint8_t);
     sweep_answer (*panel_line)(const uint8_t *, size_t);
+    sweep_answer (*set_term)(uint8_t *, size_t, uint8_t *, size_t, uint32_t, uint32_t, uint32_t, uint32_t, uint32_t);
+    sweep_answer (*current)(const uint8_t *, size_t, const uint8_t *, size_t, uint32_t, uint32_t);
+    sweep_answer (*convert)(const uint8_t *, size_t, const uint8_t *, size_t, uint8_t *, size_t);
 };
 
 #define ALL(prefix)                                                                                                    \
     prefix##_format, prefix##_create, prefix##_write, prefix##_write_narrow, prefix##_read, prefix##_truncate,         \
         prefix##_delete, prefix##_make, prefix##_remove, prefix##_size, prefix##_free, prefix##_check_blocks,          \
-        prefix##_check, prefix##_panel_reset, prefix##_panel_read, prefix##_panel_write, prefix##_panel_line
+        prefix##_check, prefix##_panel_reset, prefix##_panel_read, prefix##_panel_write, prefix##_panel_line,          \
+        prefix##_set_term, prefix##_current, prefix##_convert
 static const struct calls store = { "store", ALL(sweep) };
 static const struct calls twin = { "twin", ALL(twin) };
 
@@ -63,6 +68,7 @@ static const struct calls twin = { "twin", ALL(twin) };
 
 static _Alignas(4096) uint8_t tables[TABLES];          /* what the calls are given */
 static _Alignas(4096) uint8_t kept[TABLES];            /* the tables before the call */
+static _Alignas(4096) uint8_t old[OLD_TABLES];         /* tables of before the terms, only read */
 static _Alignas(64) uint8_t registers[REGISTERS], registers_kept[REGISTERS];
 static _Alignas(4096) uint8_t pages[MAX_BLOCKS * PAGE];
 static _Alignas(4096) uint8_t pages_kept[MAX_BLOCKS * PAGE];
@@ -173,20 +179,20 @@ static void put16(size_t at, unsigned v)
 
 static void put_head(unsigned s, unsigned f, uint32_t state, uint32_t size)
 {
-    size_t at = 540 + (s * 16 + f) * 132;
+    size_t at = FILES_AT + (s * 16 + f) * RECORD;
     put16(at, state << 14 | size >> 2);
     put16(at + 2, (size & 3) << 14);
 }
 
 static void put_entry(unsigned s, unsigned f, unsigned page, unsigned entry)
 {
-    put16(540 + (s * 16 + f) * 132 + 4 + page * 2, entry);
+    put16(FILES_AT + (s * 16 + f) * RECORD + 4 + page * 2, entry);
 }
 
 static void put_stored(unsigned s, unsigned f, unsigned page, unsigned block)
 {
     put_entry(s, f, page, 0x8000 | block);
-    tables[4 + block / 8] |= (uint8_t)(0x80 >> block % 8);
+    tables[BITMAP + block / 8] |= (uint8_t)(0x80 >> block % 8);
 }
 
 /* The sets of `deep`, with own files and no entries yet. */
@@ -288,6 +294,27 @@ static void line_on(unsigned blocks)
         registers[i] = (uint8_t)(i * 7 + 1);
 }
 
+/* Such stores as they were before the terms; the tables that are written to hold something else. */
+static void age(void)
+{
+    memcpy(old, tables, SETS_AT);
+    for (unsigned s = 0; s < 8; s++)
+        memcpy(old + SETS_AT + s * OLD_SET_BYTES, tables + SETS_AT + s * SET_BYTES, OLD_SET_BYTES);
+    memcpy(old + OLD_FILES_AT, tables + FILES_AT, OLD_TABLES - OLD_FILES_AT);
+    memset(tables, 0xee, TABLES);
+}
+#define OLD(name, build)                                                                                               \
+    static void name(unsigned blocks)                                                                                  \
+    {                                                                                                                  \
+        build(blocks);                                                                                                 \
+        age();                                                                                                         \
+    }
+OLD(old_empty, empty)
+OLD(old_file, full_file)
+OLD(old_typical, typical)
+OLD(old_deep, deep)
+OLD(old_scattered, scattered)
+
 /* ---- the cases ---- */
 
 /* Each of the two is called from a place of its own: one call instruction with two targets is slower for one of them, by as
@@ -333,6 +360,13 @@ COMMAND(panel_create, SWEEP_PANEL_CREATE)
 COMMAND(panel_delete, SWEEP_PANEL_DELETE)
 COMMAND(panel_make, SWEEP_PANEL_MAKE_WRITEABLE)
 COMMAND(panel_remove, SWEEP_PANEL_REMOVE)
+
+CASE(term_root, set_term(LENT, 0, 1998, 1, 31, 12))
+CASE(term_far, set_term(LENT, 7, 2026, 11, 30, 15))
+CASE(term_none, set_term(LENT, 0, 2026, 11, 31, 12))
+CASE(current_root, current(LENT, 0, 10547))
+CASE(current_far, current(LENT, 7, 10547))
+CASE(convert_it, convert(old, OLD_TABLES, pages, length, tables, TABLES))
 
 /* File 0 of set 0 rewritten from front to back, a page a call; gives the counts of all, and the first number that is not 0. */
 #define REWRITE(name, call)                                                                                            \
@@ -444,6 +478,18 @@ static const struct bench_case cases[] = {
     { "panel", "delete, 384 copies", "seven children", panel_delete, seven_children, true, 0, { 1024, 4096 }, { 0, 0 } },
     { "panel", "delete, marks", "seven children", panel_delete, seven_children, true, 0, { 64, 0 }, { 0, 0 } },
     { "panel", "delete", "typical", panel_delete, typical, true, 0, { 64, 4096 }, { 0, 0 } },
+    { "set_term", "12 months", "one file", term_root, full_file, true, 0, { 64, 4096 }, { 0, 0 } },
+    { "set_term", "15 months, set 7", "typical", term_far, typical, true, 0, { 64, 4096 }, { 0, 0 } },
+    { "set_term", "15 months, set 7", "full, deep", term_far, deep, true, 0, { 64, 4096 }, { 0, 0 } },
+    { "set_term", "no date, refused", "one file", term_none, full_file, false, SWEEP_NO_DATE, { 64, 4096 }, { 0, 0 } },
+    { "current", "set 0", "one file", current_root, full_file, false, 0, { 64, 4096 }, { 0, 0 } },
+    { "current", "set 7", "typical", current_far, typical, false, 0, { 64, 4096 }, { 0, 0 } },
+    { "current", "set 7", "full, deep", current_far, deep, false, 0, { 64, 4096 }, { 0, 0 } },
+    { "convert", "", "empty", convert_it, old_empty, true, 0, { 64, 4096 }, { 0, 0 } },
+    { "convert", "", "one file", convert_it, old_file, true, 0, { 64, 4096 }, { 0, 0 } },
+    { "convert", "", "typical", convert_it, old_typical, true, 0, { 64, 4096 }, { 0, 0 } },
+    { "convert", "", "full, deep", convert_it, old_deep, true, 0, { 64, 4096 }, { 0, 0 } },
+    { "convert", "", "scattered", convert_it, old_scattered, true, 0, { 64, 4096 }, { 0, 0 } },
 };
 enum { CASES = sizeof cases / sizeof cases[0] };
 

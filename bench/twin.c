@@ -12,8 +12,10 @@
 
 enum {
     SETS = 8, FILES = 16, PAGES = 64, NONE = 8, LEVELS = 5, PAGE = 512, MAX_SIZE = 32768, MAX_BLOCKS = 4096,
-    TABLES = 17436, BITMAP = 4, RECORDS = 516, HEADS = 540, RECORD = 132, SET_FILES = FILES * RECORD
+    TABLES = 17468, BITMAP = 4, RECORDS = 516, SET_BYTES = 7, HEADS = 572, RECORD = 132, SET_FILES = FILES * RECORD,
+    OLD_TABLES = 17436, OLD_SET_BYTES = 3, OLD_HEADS = 540 /* before sets had terms */
 };
+enum { END_DAY = 36525 }; /* the default term is the word of days 0 and END_DAY */
 enum { ABSENT, OWN, VIRGIN, MARKED };
 enum { UNMAPPED = 0x0000, HOLE = 0x4000, STORED = 0x8000, BLOCK = 0x3fff };
 
@@ -106,6 +108,7 @@ struct store {
     uint8_t parent[SETS], level[SETS], first[SETS], next[SETS], writeable[SETS];
 };
 
+static inline size_t set_at(unsigned set) { return RECORDS + set * SET_BYTES; }
 static inline size_t record_at(unsigned set, unsigned file) { return HEADS + (set * FILES + file) * RECORD; }
 static inline unsigned state_of(uint32_t head) { return head >> 30; }
 static inline unsigned size_of(uint32_t head) { return head >> 14 & 0xffff; }
@@ -114,18 +117,24 @@ static inline bool live(unsigned state) { return state - 1 < 2; }
 
 /* ---- the well-formed check ---- */
 
-/* The set records: zero fields, the root, and a walk over the chains from it, which must meet each used set once. */
-static bool check_sets(const uint8_t *t, struct store *x)
+/* The tables as they are, or as they were before sets had terms. */
+struct layout {
+    size_t tables, heads;
+    unsigned set_bytes;
+};
+static const struct layout now = { TABLES, HEADS, SET_BYTES }, before_terms = { OLD_TABLES, OLD_HEADS, OLD_SET_BYTES };
+
+/* The set records: zero fields, terms, the root, and a walk over the chains from it, which must meet each used set once. */
+static bool check_sets(const uint8_t *t, const struct layout l, struct store *x)
 {
     x->used = 0;
     for (unsigned s = 0; s < SETS; s++) {
-        uint32_t w = load24(t + RECORDS + s * 3);
-        if (w >> 23 == 0) {
-            if (w != 0)
-                return false;
+        const uint8_t *r = t + RECORDS + s * l.set_bytes;
+        uint64_t record = l.set_bytes == SET_BYTES ? load64(r) >> 8 : (uint64_t)load24(r) << 32;
+        if (record == 0)
             continue;
-        }
-        if (w & 0x7f)
+        uint32_t w = (uint32_t)(record >> 32), first = (uint32_t)record >> 16, end = record & 0xffff;
+        if (w >> 23 == 0 || w & 0x7f || (l.set_bytes == SET_BYTES && (first >= end || end > END_DAY)))
             return false;
         x->used |= 1u << s;
         x->writeable[s] = w >> 22 & 1;
@@ -248,11 +257,11 @@ static inline bool head_formed(uint32_t head)
 }
 
 /* The files of one number, parents first: their records, and what their pages resolve to. */
-static bool check_number(const uint8_t *t, const struct store *x, unsigned file, const struct masks *masks)
+static bool check_number(const uint8_t *heads, const struct store *x, unsigned file, const struct masks *masks)
 {
     uint64_t resolved[SETS]; /* the pages that resolve to stored, in the order of the sets */
     unsigned alive = 0;      /* where the file is own or virgin */
-    const uint8_t *files = t + HEADS + file * RECORD;
+    const uint8_t *files = heads + file * RECORD;
     uint32_t head = load32(files);
     if (head == 0) {
         if (~masks[file].unmapped)
@@ -315,23 +324,24 @@ static bool check_bits(const uint8_t *t, const struct pass *k, unsigned b)
 
 /* The first part of the check: the header, the entries of every record and the bits. The masks of the records of the sets
  * before set *to are kept where they are wanted; the records from set *to on are zero. */
-static inline __attribute__((always_inline)) bool check_blocks(const uint8_t *t, size_t length, struct masks *masks, unsigned *to)
+static inline __attribute__((always_inline)) bool check_blocks(const uint8_t *t, size_t length, const struct layout l,
+                                                               struct masks *masks, unsigned *to)
 {
-    if (length != TABLES)
+    if (length != l.tables)
         return false;
     uint32_t head = load32(t);
     unsigned b = head >> 19, n = SETS;
     if (b - 1 >= MAX_BLOCKS || (head >> 7 & 0xfff) >= b)
         return false;
-    while (n > 0 && !(t[RECORDS + (n - 1) * 3] >> 7))
+    while (n > 0 && !(t[RECORDS + (n - 1) * l.set_bytes] >> 7))
         n--;
     for (unsigned s = n; s < SETS; s++)
-        if (!zero_words(t + record_at(s, 0), SET_FILES / 8))
+        if (!zero_words(t + l.heads + s * SET_FILES, SET_FILES / 8))
             n = SETS;
     struct pass k;
     zero_bytes((uint8_t *)&k, sizeof k);
     for (unsigned i = 0; i < n * FILES; i++) {
-        const uint8_t *r = t + HEADS + i * RECORD;
+        const uint8_t *r = t + l.heads + i * RECORD;
         bool blank = !(load32(r) & 0x7fffffff) && zero_words(r + 4, 16);
         struct masks m = blank ? (struct masks){ 0, ~(uint64_t)0 } : pass_map(&k, r + 4);
         if (masks)
@@ -341,26 +351,36 @@ static inline __attribute__((always_inline)) bool check_blocks(const uint8_t *t,
     return !k.bad && !k.twice && check_bits(t, &k, b);
 }
 
-static bool well_formed(const uint8_t *t, size_t length, size_t pages, struct store *x)
+static bool formed_as(const uint8_t *t, size_t length, const struct layout l, size_t pages, struct store *x)
 {
     struct masks masks[SETS * FILES];
     unsigned n;
-    if (!check_blocks(t, length, masks, &n))
+    if (!check_blocks(t, length, l, masks, &n))
         return false;
     uint32_t head = load32(t);
     unsigned b = head >> 19;
     if (head & 0x7f || pages != (size_t)b * PAGE)
         return false;
-    if (!check_sets(t, x))
+    if (!check_sets(t, l, x))
         return false;
     for (unsigned s = 0; s < n; s++)
-        if (!(x->used >> s & 1) && !zero_words(t + record_at(s, 0), SET_FILES / 8))
+        if (!(x->used >> s & 1) && !zero_words(t + l.heads + s * SET_FILES, SET_FILES / 8))
             return false;
     for (unsigned f = 0; f < FILES; f++)
-        if (!check_number(t, x, f, masks))
+        if (!check_number(t + l.heads, x, f, masks))
             return false;
     x->blocks = b;
     return true;
+}
+
+static bool well_formed(const uint8_t *t, size_t length, size_t pages, struct store *x)
+{
+    return formed_as(t, length, now, pages, x);
+}
+
+static bool old_formed(const uint8_t *t, size_t length, size_t pages, struct store *x)
+{
+    return formed_as(t, length, before_terms, pages, x);
 }
 
 /* ---- looking ---- */
@@ -466,7 +486,7 @@ sweep_answer twin_free(const uint8_t *t, size_t tl, const uint8_t *p, size_t pl)
 sweep_answer twin_check_blocks(const uint8_t *t, size_t tl)
 {
     unsigned n;
-    return refused(check_blocks(t, tl, NULL, &n) ? SWEEP_OK : SWEEP_BAD_TABLES);
+    return refused(check_blocks(t, tl, now, NULL, &n) ? SWEEP_OK : SWEEP_BAD_TABLES);
 }
 
 sweep_answer twin_check(const uint8_t *t, size_t tl, const uint8_t *p, size_t pl)
@@ -509,6 +529,7 @@ sweep_answer twin_format(uint8_t *t, size_t tl, uint8_t *p, size_t pl)
     zero_bytes(t, TABLES);
     store32(t, (uint32_t)(pl / PAGE) << 19);
     store24(t + RECORDS, 0xc44400);
+    store32(t + RECORDS + 3, END_DAY);
     zero_bytes(p, pl);
     return refused(0);
 }
@@ -543,16 +564,17 @@ sweep_answer twin_make(uint8_t *t, size_t tl, uint8_t *p, size_t pl, uint32_t pa
         return refused(SWEEP_PRESENT);
     if (x.level[parent] == LEVELS)
         return refused(SWEEP_TOO_DEEP);
-    store24(t + RECORDS + set * 3,
+    store24(t + set_at(set),
             1u << 23 | (uint32_t)(writeable != 0) << 22 | (x.level[parent] + 1u) << 19 | parent << 15 | NONE << 11 | NONE << 7);
+    store32(t + set_at(set) + 3, END_DAY);
     if (x.first[parent] == NONE) {
-        uint8_t *r = t + RECORDS + parent * 3;
+        uint8_t *r = t + set_at(parent);
         store24(r, (load24(r) & ~(15u << 11)) | set << 11);
     } else {
         unsigned last = x.first[parent];
         while (x.next[last] != NONE)
             last = x.next[last];
-        uint8_t *r = t + RECORDS + last * 3;
+        uint8_t *r = t + set_at(last);
         store24(r, (load24(r) & ~(15u << 7)) | set << 7);
     }
     for (unsigned f = 0; f < FILES; f++) {
@@ -592,16 +614,77 @@ sweep_answer twin_remove(uint8_t *t, size_t tl, uint8_t *p, size_t pl, uint32_t 
     zero_bytes(t + record_at(set, 0), SET_FILES);
     unsigned up = x.parent[set], after = x.next[set];
     if (x.first[up] == set) {
-        uint8_t *r = t + RECORDS + up * 3;
+        uint8_t *r = t + set_at(up);
         store24(r, (load24(r) & ~(15u << 11)) | after << 11);
     } else {
         unsigned before = x.first[up];
         while (x.next[before] != set)
             before = x.next[before];
-        uint8_t *r = t + RECORDS + before * 3;
+        uint8_t *r = t + set_at(before);
         store24(r, (load24(r) & ~(15u << 7)) | after << 7);
     }
-    store24(t + RECORDS + set * 3, 0);
+    zero_bytes(t + set_at(set), SET_BYTES);
+    return refused(0);
+}
+
+/* ---- terms ---- */
+
+/* Dates from 1998 to 2097, where every fourth year is a leap year: y counts the years from 1998, m the months from 1. */
+static inline bool leap(unsigned y) { return y % 4 == 2; }
+static inline unsigned month_length(unsigned y, unsigned m) { return m == 2 ? 28u + leap(y) : 30 + ((m + m / 8) & 1); }
+
+static inline unsigned day_number(unsigned y, unsigned m, unsigned day)
+{
+    return (1461 * y + 1) / 4 + 275 * m / 9 - (m > 2 ? 2 - leap(y) : 0) + day - 31;
+}
+
+sweep_answer twin_set_term(uint8_t *t, size_t tl, uint8_t *p, size_t pl, uint32_t set, uint32_t year, uint32_t month,
+                           uint32_t day, uint32_t months)
+{
+    (void)p;
+    struct store x;
+    if (!well_formed(t, tl, pl, &x))
+        return refused(SWEEP_BAD_TABLES);
+    if (!is_used(&x, set))
+        return refused(SWEEP_NO_SET);
+    unsigned y = year - 1998;
+    if (y >= 100 || month - 1 >= 12 || day - 1 >= month_length(y, month))
+        return refused(SWEEP_NO_DATE);
+    if (months - 1 >= 120)
+        return refused(SWEEP_BAD_MONTHS);
+    unsigned later = y * 12 + month - 1 + months, end = END_DAY;
+    if (later < 1200) {
+        unsigned ly = later / 12, lm = later % 12 + 1, most = month_length(ly, lm);
+        end = day_number(ly, lm, day < most ? day : most);
+    }
+    store32(t + set_at(set) + 3, day_number(y, month, day) << 16 | end);
+    return refused(0);
+}
+
+sweep_answer twin_current(const uint8_t *t, size_t tl, const uint8_t *p, size_t pl, uint32_t set, uint32_t day)
+{
+    (void)p;
+    struct store x;
+    if (!well_formed(t, tl, pl, &x))
+        return refused(SWEEP_BAD_TABLES);
+    if (!is_used(&x, set))
+        return refused(SWEEP_NO_SET);
+    uint32_t term = load32(t + set_at(set) + 3);
+    return answer(0, term >> 16 <= day && day < (term & 0xffff), 0, 0);
+}
+
+sweep_answer twin_convert(const uint8_t *old, size_t ol, const uint8_t *p, size_t pl, uint8_t *t, size_t tl)
+{
+    (void)p;
+    struct store x;
+    if (tl != TABLES || !old_formed(old, ol, pl, &x))
+        return refused(SWEEP_BAD_TABLES);
+    copy_bytes(t, old, RECORDS);
+    for (unsigned s = 0; s < SETS; s++) {
+        memcpy(t + set_at(s), old + RECORDS + s * OLD_SET_BYTES, OLD_SET_BYTES);
+        store32(t + set_at(s) + 3, is_used(&x, s) ? END_DAY : 0);
+    }
+    copy_bytes(t + HEADS, old + OLD_HEADS, SETS * SET_FILES);
     return refused(0);
 }
 

@@ -30,5 +30,11 @@ sweep_answer twin_panel_read(const uint8_t *registers, size_t registers_length, 
 sweep_answer twin_panel_write(uint8_t *registers, size_t registers_length, uint8_t *tables, size_t tables_length,
                               uint8_t *pages, size_t pages_length, uint32_t offset, uint8_t value);
 sweep_answer twin_panel_line(const uint8_t *registers, size_t registers_length);
+sweep_answer twin_set_term(uint8_t *tables, size_t tables_length, uint8_t *pages, size_t pages_length, uint32_t set,
+                           uint32_t year, uint32_t month, uint32_t day, uint32_t months);
+sweep_answer twin_current(const uint8_t *tables, size_t tables_length, const uint8_t *pages, size_t pages_length,
+                          uint32_t set, uint32_t day);
+sweep_answer twin_convert(const uint8_t *old, size_t old_length, const uint8_t *pages, size_t pages_length, uint8_t *tables,
+                          size_t tables_length);
 
 #endif

@@ -115,7 +115,7 @@ int main(void)
         return 1;
     save();
     memcpy(kept, flash, sizeof kept);
-    for (long cut = 0; cut <= IMAGE_BYTES; cut += cut < IMAGE_BYTES - 20 ? 61 : 1, cuts++) {
+    for (long cut = 0; cut <= IMAGE_BYTES; cut += cut < IMAGE_BYTES - 80 ? 61 : 1, cuts++) {
         memcpy(flash, kept, sizeof flash);
         if (fill_store(30, 31)) /* a day's work in memory, then a save that is cut */
             return 1;

@@ -6,16 +6,17 @@
  *   tables  SWEEP_TABLES_BYTES bytes: header, bitmap, set records, file records;
  *   pages   the blocks, SWEEP_PAGE_BYTES bytes each, at least one and at most SWEEP_BLOCKS_MAX.
  * The calls of the front panel are lent a third, its registers, SWEEP_PANEL_REGISTERS bytes; three of the four want it alone.
+ * sweep_convert is lent older tables too, SWEEP_OLD_TABLES_BYTES bytes, from before sets had terms; no other call takes those.
  * sweep_format makes a store of as many blocks as the pages buffer holds; every later call wants the same length.
  *
  * Rules for callers
  *   - A slice is a pointer and its length in bytes; that many bytes must be there. A pointer must not be null, also where
  *     the length is 0.
- *   - The buffers of one call (tables, pages, data or read buffer, registers) do not overlap.
+ *   - The buffers of one call (tables, pages, data or read buffer, registers, older tables) do not overlap.
  *   - While a call runs nobody else writes to its buffers, and nobody else reads those that it may change (the ones
  *     without const).
  *   - Nothing else is asked: the buffers may hold any bytes and the numbers may be any. Each call tests for itself what it
- *     was given. A call that is refused gives one of the numbers 1 to 13 and zero counts, and every byte stays as it was.
+ *     was given. A call that is refused gives one of the numbers 1 to 15 and zero counts, and every byte stays as it was.
  */
 #ifndef SWEEP_H
 #define SWEEP_H
@@ -34,7 +35,8 @@ extern "C" {
 #define SWEEP_VERSION_PATCH 0
 
 /* Sizes */
-#define SWEEP_TABLES_BYTES 17436u   /* the tables */
+#define SWEEP_TABLES_BYTES 17468u   /* the tables */
+#define SWEEP_OLD_TABLES_BYTES 17436u /* the tables before sets had terms: for sweep_convert alone */
 #define SWEEP_PAGE_BYTES 512u       /* a page, and a block */
 #define SWEEP_BLOCKS_MAX 4096u      /* blocks of a store */
 #define SWEEP_PAGES_BYTES_MAX 2097152u /* the pages buffer: SWEEP_BLOCKS_MAX blocks */
@@ -45,6 +47,13 @@ extern "C" {
 #define SWEEP_GROUP_PAGES 8u        /* pages of a group, by which sweep_write copies: 0 to 7, 8 to 15, ... */
 #define SWEEP_LEVEL_MAX 5u          /* level of a set: the root has 0, a copy its parent's plus one */
 #define SWEEP_PANEL_REGISTERS 16u   /* registers of the front panel, a byte each, at offsets 0 to 15 */
+
+/* Terms: days are numbered from SWEEP_FIRST_YEAR-01-01, day 0, to SWEEP_LAST_YEAR-12-31, day SWEEP_END_DAY - 1 */
+#define SWEEP_FIRST_YEAR 1998u      /* years of a date that a term can begin with */
+#define SWEEP_LAST_YEAR 2097u
+#define SWEEP_END_DAY 36525u        /* the latest end of a term: the day after the last */
+#define SWEEP_MOST_MONTHS 120u      /* months of a term that is set, at least 1 */
+#define SWEEP_UNIX_DAY_0 10227u     /* day 0 in days from 1970-01-01 */
 
 /* The number that a call gives: the lowest that applies */
 enum sweep_number {
@@ -61,7 +70,9 @@ enum sweep_number {
     SWEEP_TOO_DEEP = 10,    /* make from a set of level SWEEP_LEVEL_MAX */
     SWEEP_HAS_CHILDREN = 11, /* remove of a set with children */
     SWEEP_ROOT = 12,        /* remove of set 0 */
-    SWEEP_NO_REGISTER = 13  /* front panel: an offset over 15, or registers of another length; before all others */
+    SWEEP_NO_REGISTER = 13, /* front panel: an offset over 15, or registers of another length; before all others */
+    SWEEP_NO_DATE = 14,     /* set_term: there is no such date, or it lies outside 1998-01-01 to 2097-12-31 */
+    SWEEP_BAD_MONTHS = 15   /* set_term: the month count is 0 or over SWEEP_MOST_MONTHS */
 };
 
 /* What every call gives: a number of enum sweep_number, and three counts, all 0 unless the call says otherwise */
@@ -72,7 +83,8 @@ typedef struct sweep_answer {
     uint32_t third;
 } sweep_answer;
 
-/* Makes set 0 alone, without files, all blocks free, every page zero. What the buffers held does not matter. */
+/* Makes set 0 alone, without files, all blocks free, every page zero. What the buffers held does not matter. Set 0's term is the
+ * longest there is, 0 to SWEEP_END_DAY. */
 sweep_answer sweep_format(uint8_t *tables, size_t tables_length, uint8_t *pages, size_t pages_length);
 
 /* Makes an empty file. */
@@ -117,11 +129,12 @@ sweep_answer sweep_truncate(uint8_t *tables, size_t tables_length, uint8_t *page
 sweep_answer sweep_delete(uint8_t *tables, size_t tables_length, uint8_t *pages, size_t pages_length,
                           uint32_t set, uint32_t file);
 
-/* Makes set a copy of parent; writeable 0 makes it read-only, any other value writeable. */
+/* Makes set a copy of parent; writeable 0 makes it read-only, any other value writeable. Its term is the longest there is, 0 to
+ * SWEEP_END_DAY, whatever its parent's. */
 sweep_answer sweep_make(uint8_t *tables, size_t tables_length, uint8_t *pages, size_t pages_length,
                         uint32_t parent, uint32_t set, uint32_t writeable);
 
-/* Removes a set that has no children, and frees its blocks. */
+/* Removes a set that has no children, and frees its blocks. Its term is gone with it. */
 sweep_answer sweep_remove(uint8_t *tables, size_t tables_length, uint8_t *pages, size_t pages_length,
                           uint32_t set);
 
@@ -142,6 +155,37 @@ sweep_answer sweep_check_blocks(const uint8_t *tables, size_t tables_length);
 /* The whole check: SWEEP_OK where the tables are well formed and the pages have the length that the tables tell; else
  * SWEEP_BAD_TABLES. What the pages hold does not matter. */
 sweep_answer sweep_check(const uint8_t *tables, size_t tables_length, const uint8_t *pages, size_t pages_length);
+
+/* TERMS: every used set has a first day and an end day. It is current from the first day up to, but without, the end day. Days are
+ * numbered by the Gregorian calendar: 1998-01-01 is day 0, 2097-12-31 day 36,524. The first day is below the end day, and the end day
+ * at most SWEEP_END_DAY; tables that break this are not well formed. A term only says whether a reference is still to be trusted: no
+ * other call depends on it, so a set that is not current is read and written as before. The store has no clock; the caller
+ * knows the day. */
+
+/* Sets the term of a used set, set 0 and read-only ones too. The first day is the date; year, month and day are as people count
+ * them, 1 to 12 and 1 to 31. The end day is the same day so many months later, or that month's last day if it has no such day (from
+ * January 31, one month: February 28 or 29), and SWEEP_END_DAY where that lies later. Changes no page, and nothing but these two days
+ * of the tables.
+ * SWEEP_NO_DATE is looked at before SWEEP_BAD_MONTHS. */
+sweep_answer sweep_set_term(uint8_t *tables, size_t tables_length, uint8_t *pages, size_t pages_length,
+                            uint32_t set, uint32_t year, uint32_t month, uint32_t day, uint32_t months);
+
+/* Is the set current on a day? Counts: 1 where first day <= day < end day, else 0; 0; 0. The day is a number, not a date: the days
+ * since 1998-01-01. From a time_t that counts seconds from 1970-01-01 (POSIX) it is seconds / 86400 - SWEEP_UNIX_DAY_0, the day in UTC;
+ * for the day of a place add that place's seconds first. Any number is taken; from SWEEP_END_DAY on no set is current. Nor is any
+ * before 1998, as the difference then goes round to such a number. */
+sweep_answer sweep_current(const uint8_t *tables, size_t tables_length, const uint8_t *pages, size_t pages_length,
+                           uint32_t set, uint32_t day);
+
+/* Takes a store of before the terms into this layout. Lend it the old tables, SWEEP_OLD_TABLES_BYTES of them, the store's pages, and a
+ * second buffer for the new tables, SWEEP_TABLES_BYTES, which may hold anything and must not overlap the old tables. Where the old
+ * tables are well formed by the rules of their time, the pages' length included, the second buffer gets the same store: each
+ * used set with the term 0 to SWEEP_END_DAY, all else as it was. From then on lend the new tables with the same pages, whose bytes
+ * stay; the old tables are not needed any more. Else SWEEP_BAD_TABLES, also for other lengths of the two tables, and not a byte of the
+ * second buffer is written: so it is safe to try it on any image. Old tables and pages are only read.
+ * A firmware that finds an image of the older length converts it once, when it starts, and saves the new one. */
+sweep_answer sweep_convert(const uint8_t *old, size_t old_length, const uint8_t *pages, size_t pages_length,
+                           uint8_t *tables, size_t tables_length);
 
 /* THE FRONT PANEL: sixteen byte-wide registers, which the caller keeps and lends. Only the four calls below write them from a reset
  * on. The register at each offset, and whether a write changes it: */

@@ -2,7 +2,7 @@
 """places.py [ROOT]: no file of the crates but the one of the laws has a place or width of the tables as a bare number.
 
 The numbers are those of the laws in crates/tables/proofs/LayoutNumbers.antt, each beside its name. Looked at are all files of
-crates/*/src, specs and proofs: their text and their comments, where a number may also be written 17,436. A sentence of
+crates/*/src, specs and proofs: their text and their comments, where a number may also be written 17,468. A sentence of
 document 01 that a comment quotes may have them.
 """
 import glob
@@ -11,7 +11,7 @@ import re
 import sys
 
 LAWS = "crates/tables/proofs/LayoutNumbers.antt"
-NAMES = ("setsAt", "filesAt", "mapsAt", "fileBytes", "setFilesBytes", "tableBytes")
+NAMES = ("setsAt", "filesAt", "mapsAt", "fileBytes", "setFilesBytes", "tableBytes", "oldFilesAt", "oldTableBytes")
 NUMBER = re.compile(r"(?<![\w.])(0x[0-9a-fA-F_]+|\d{1,3}(?:,\d{3})+|\d[\d_]*)(?:[iu](?:8|16|32|64|size))?(?!\w)")
 
 

@@ -733,7 +733,7 @@ class Places(unittest.TestCase):
 
     def test_a_law_that_is_gone_is_missed(self):
         with self.assertRaises(SystemExit):
-            self.found(places.LAWS, "bytes-said : (tableBytes ≡ 17436)")
+            self.found(places.LAWS, "bytes-said : (tableBytes ≡ 17468)")
 
 
 if __name__ == "__main__":

@@ -1,5 +1,6 @@
 /* The exported functions, each a row for the harness. To test one more: its place in calls.h, its line of RUN and its row here,
  * how often lists have it (lists.c), and its rows in the second implementation (oracle/README.md). */
+#include <string.h>
 #include "calls.h"
 #include "lists.h"
 
@@ -31,6 +32,9 @@ RUN(panel_reset, sweep_panel_reset(SLICE(REGISTERS)))
 RUN(panel_read, sweep_panel_read(SLICE(REGISTERS), N(0)))
 RUN(panel_write, sweep_panel_write(SLICE(REGISTERS), STORE, N(0), (uint8_t)N(1)))
 RUN(panel_line, sweep_panel_line(SLICE(REGISTERS)))
+RUN(set_term, sweep_set_term(STORE, N(0), N(1), N(2), N(3), N(4)))
+RUN(current, sweep_current(STORE, N(0), N(1)))
+RUN(convert, sweep_convert(SLICE(SECOND), SLICE(PAGES), SLICE(TABLES)))
 
 /* The rows */
 
@@ -65,6 +69,12 @@ static const struct function functions[CALLS] = {
     [PANEL_WRITE] = {.name = "panel_write", .run = run_panel_write, .lends = {STORE_CHANGED, [REGISTERS] = CHANGED},
                      .numbers = {A_REGISTER, {8, panel_value}}, .unchecked = 1},
     [PANEL_LINE] = {.name = "panel_line", .run = run_panel_line, .lends = {[REGISTERS] = READ_ONLY}, .unchecked = 1},
+    [SET_TERM] = {.name = "set_term", .run = run_set_term, .lends = {STORE_CHANGED},
+                  .numbers = {SET, {32, year_of_date}, {32, month_of_date}, {32, day_of_date}, {32, count_of_months}}},
+    [CURRENT] = {.name = "current", .run = run_current, .lends = {STORE_READ}, .numbers = {SET, {32, day_near_term}}},
+    /* the second tables are the old ones; what the new buffer holds does not matter */
+    [CONVERT] = {.name = "convert", .run = run_convert,
+                 .lends = {[TABLES] = CHANGED, [PAGES] = READ_ONLY, [SECOND] = READ_ONLY}, .unchecked = 1, .prepare = old_tables},
 };
 
 struct suite exported = {functions, CALLS, judge, {{{0}}, 0, 0}};
@@ -72,6 +82,40 @@ struct suite exported = {functions, CALLS, judge, {{{0}}, 0, 0}};
 int is_command(uint32_t value)
 {
     return value == SWEEP_PANEL_CREATE || (value >= SWEEP_PANEL_DELETE && value <= SWEEP_PANEL_REMOVE);
+}
+
+int set_is_used(const uint8_t *tables, uint32_t set)
+{
+    return tables[SETS_AT + SET_BYTES * set] >> 7;
+}
+
+static const uint8_t *term_of(const uint8_t *tables, uint32_t set)
+{
+    return tables + SETS_AT + SET_BYTES * set + TERM_AT;
+}
+
+uint32_t first_day(const uint8_t *tables, uint32_t set)
+{
+    return (uint32_t)term_of(tables, set)[0] << 8 | term_of(tables, set)[1];
+}
+
+uint32_t end_day(const uint8_t *tables, uint32_t set)
+{
+    return (uint32_t)term_of(tables, set)[2] << 8 | term_of(tables, set)[3];
+}
+
+void put_term(uint8_t *tables, uint32_t set, uint32_t first, uint32_t end)
+{
+    const uint8_t days[] = {(uint8_t)(first >> 8), (uint8_t)first, (uint8_t)(end >> 8), (uint8_t)end};
+    memcpy(tables + SETS_AT + SET_BYTES * set + TERM_AT, days, sizeof days);
+}
+
+void narrow(uint8_t *old, const uint8_t *tables)
+{
+    memmove(old, tables, SETS_AT);
+    for (size_t set = 0; set < SWEEP_SETS; set++)
+        memmove(old + SETS_AT + OLD_SET_BYTES * set, tables + SETS_AT + SET_BYTES * set, OLD_SET_BYTES);
+    memmove(old + OLD_FILES_AT, tables + FILES_AT, SWEEP_TABLES_BYTES - FILES_AT);
 }
 
 sweep_answer call_plainly(const struct call *call)

@@ -14,7 +14,7 @@ enum buffer {
     BYTES,     /* the data of a write, the buffer of a read */
     REGISTERS,
     SPARE,     /* a spare page */
-    SECOND,    /* second tables */
+    SECOND,    /* second tables: the older ones that are converted */
     BUFFERS
 };
 

@@ -19,7 +19,7 @@ static const uint32_t numbers_out_of_range[] = {7, 8, 15, 16, 255, 0x7FFFFFFF, 0
 /* What the tables say, whatever they hold: whether a set is used, and whether a file is present. */
 static int is_used(const struct buffers *world, uint32_t set)
 {
-    return set < SWEEP_SETS && world->of[TABLES][SETS_AT + SET_BYTES * set] >> 7;
+    return set < SWEEP_SETS && set_is_used(world->of[TABLES], set);
 }
 
 static int is_present(const struct buffers *world, uint32_t set, uint32_t file)
@@ -135,6 +135,64 @@ uint32_t panel_value(const struct buffers *world, const struct call *so_far, str
     }
 }
 
+/* The numbers of a date: mostly one of these years, and often near the end of a month, so that some do not exist. */
+uint32_t year_of_date(const struct buffers *world, const struct call *so_far, struct cursor *cursor)
+{
+    static const uint32_t out_of_range[] = {1997, 2098, 0, 98, 65536 + 1998, 0x80000000 + 2000, 0xFFFFFFFF};
+    static const uint32_t edges[] = {1998, 1999, 2000, 2001, 2096, 2097};
+    (void)world;
+    (void)so_far;
+    uint8_t byte = next(cursor);
+    if (byte >= 240)
+        return PICK(out_of_range, byte);
+    return byte < 96 ? PICK(edges, byte) : SWEEP_FIRST_YEAR + (uint32_t)next(cursor) % 100;
+}
+
+uint32_t month_of_date(const struct buffers *world, const struct call *so_far, struct cursor *cursor)
+{
+    static const uint32_t out_of_range[] = {0, 13, 256 + 1, 65536 + 2, 0xFFFFFFFF};
+    (void)world;
+    (void)so_far;
+    uint8_t byte = next(cursor);
+    if (byte >= 240)
+        return PICK(out_of_range, byte);
+    return byte < 64 ? 2 : 1 + byte % 12u;
+}
+
+uint32_t day_of_date(const struct buffers *world, const struct call *so_far, struct cursor *cursor)
+{
+    static const uint32_t out_of_range[] = {0, 32, 256 + 1, 65536 + 2, 0xFFFFFFFF};
+    static const uint32_t edges[] = {1, 28, 29, 30, 31};
+    (void)world;
+    (void)so_far;
+    uint8_t byte = next(cursor);
+    if (byte >= 240)
+        return PICK(out_of_range, byte);
+    return byte < 160 ? PICK(edges, byte) : 1 + byte % 31u;
+}
+
+uint32_t count_of_months(const struct buffers *world, const struct call *so_far, struct cursor *cursor)
+{
+    static const uint32_t out_of_range[] = {0, 121, 255, 256 + 12, 65536 + 1, 0x80000000, 0xFFFFFFFF};
+    static const uint32_t edges[] = {1, 2, 11, 12, 13, 119, 120};
+    (void)world;
+    (void)so_far;
+    uint8_t byte = next(cursor);
+    if (byte >= 224)
+        return PICK(out_of_range, byte);
+    return byte < 128 ? PICK(edges, byte) : 1 + (byte - 128u) % SWEEP_MOST_MONTHS;
+}
+
+/* Mostly at the edges of the set's term; sometimes one on which no set is current. */
+uint32_t day_near_term(const struct buffers *world, const struct call *so_far, struct cursor *cursor)
+{
+    static const uint32_t others[] = {0, 1, 36524, 36525, 36526, 65535, 65536, 0x80000000, 0xFFFFFFFF};
+    uint32_t set = so_far->n[0] % SWEEP_SETS, first = first_day(world->of[TABLES], set), end = end_day(world->of[TABLES], set);
+    const uint32_t edges[] = {first - 1, first, first + 1, end - 1, end, end + 1, first + 65536, (first + end) / 2};
+    uint8_t byte = next(cursor);
+    return byte < 192 ? PICK(edges, byte) : PICK(others, byte);
+}
+
 /* Buffers */
 
 static size_t some_length(struct cursor *cursor)
@@ -186,12 +244,35 @@ void pages_for_format(struct buffers *world, const struct call *call, struct cur
 
 /* Changes from outside */
 
-/* Turns one bit of the tables over: mostly of header, bitmap, sets and the files that are used most. */
-static void damage_tables(struct buffers *world, struct cursor *cursor)
+/* Turns one bit of tables over: mostly of header, bitmap, sets and the files that are used most. */
+static void damage(uint8_t *tables, size_t length, struct cursor *cursor)
 {
     size_t at = (size_t)next(cursor) << 8;
     at |= next(cursor);
-    world->of[TABLES][at < 0x8000 ? at % 1000 : at % SWEEP_TABLES_BYTES] ^= (uint8_t)(1 << next(cursor) % 8);
+    tables[at < 0x8000 ? at % 1000 : at % length] ^= (uint8_t)(1 << next(cursor) % 8);
+}
+
+static void damage_tables(struct buffers *world, struct cursor *cursor)
+{
+    damage(world->of[TABLES], SWEEP_TABLES_BYTES, cursor);
+}
+
+/* Puts days into a set record, used or not: a term that is well formed, or one that is not. */
+static void change_a_term(struct buffers *world, struct cursor *cursor)
+{
+    static const uint32_t days[][2] = {{0, 1}, {0, 36525}, {36524, 36525}, {100, 465}, {0, 0}, {7, 7}, {8, 7}, {36525, 36525},
+                                       {0, 36526}, {36525, 36526}, {0, 65535}, {65535, 0}};
+    uint32_t set = next(cursor) % SWEEP_SETS;
+    const uint32_t *term = days[next(cursor) % (sizeof days / sizeof *days)];
+    put_term(world->of[TABLES], set, term[0], term[1]);
+}
+
+/* Puts the tables of before the terms in the place of the tables, with their length: no call but the converter takes them. */
+static void give_old_tables(struct buffers *world, struct cursor *cursor)
+{
+    (void)cursor;
+    narrow(world->of[TABLES], world->of[TABLES]);
+    world->length[TABLES] = SWEEP_OLD_TABLES_BYTES;
 }
 
 static void change_a_page(struct buffers *world, struct cursor *cursor)
@@ -205,7 +286,7 @@ static void change_a_page(struct buffers *world, struct cursor *cursor)
 static void choose_lengths(struct buffers *world, struct cursor *cursor)
 {
     enum { ALL = SWEEP_TABLES_BYTES };
-    static const uint32_t tables[] = {0, 1, 4, SETS_AT, ALL - 1, ALL, ALL + 1, 32768};
+    static const uint32_t tables[] = {0, 1, SWEEP_OLD_TABLES_BYTES, SETS_AT, ALL - 1, ALL, ALL + 1, 32768};
     size_t *length = &world->length[PAGES];
     uint8_t byte = next(cursor);
     size_t step = byte & 4 && (byte & 2 || *length >= SWEEP_PAGE_BYTES) ? SWEEP_PAGE_BYTES : 1;
@@ -236,6 +317,35 @@ static void choose_registers(struct buffers *world, struct cursor *cursor)
     world->length[REGISTERS] = PICK(lengths, next(cursor));
 }
 
+/* For the converter: the store's tables as they were before the terms. Sometimes the new buffer holds other bytes, and sometimes
+ * something is wrong: a bit of the old tables, the length of the old ones, the new ones or the pages. */
+void old_tables(struct buffers *world, const struct call *call, struct cursor *cursor)
+{
+    enum { OLD = SWEEP_OLD_TABLES_BYTES, NEW = SWEEP_TABLES_BYTES };
+    static const uint32_t old_lengths[] = {NEW, 0, 1, SETS_AT, OLD - 1, OLD + 1, NEW, 32768};
+    static const uint32_t new_lengths[] = {OLD, 0, 1, FILES_AT, NEW - 1, NEW + 1, OLD, 32768};
+    (void)call;
+    uint8_t byte = next(cursor);
+    if (world->length[TABLES] == OLD)
+        memcpy(world->of[SECOND], world->of[TABLES], OLD);
+    else
+        narrow(world->of[SECOND], world->of[TABLES]);
+    world->length[SECOND] = OLD;
+    world->length[TABLES] = NEW;
+    if (byte >= 88 && byte < 136)
+        fill(world->of[TABLES], NEW, byte);
+    if (byte >= 120 && byte < 168)
+        damage(world->of[SECOND], OLD, cursor);
+    if (byte >= 168 && byte < 196)
+        world->length[SECOND] = PICK(old_lengths, byte);
+    if (world->length[SECOND] == NEW) /* the store's tables as they are */
+        memcpy(world->of[SECOND], world->of[TABLES], NEW);
+    if (byte >= 196 && byte < 224)
+        world->length[TABLES] = PICK(new_lengths, byte);
+    if (byte >= 224)
+        choose_lengths(world, cursor);
+}
+
 typedef void changes(struct buffers *world, struct cursor *cursor);
 
 /* Lists */
@@ -254,7 +364,8 @@ static const struct kind kinds[] = {
     {8, REMOVE, 0}, {12, READ, 0},         {4, SIZE, 0},          {4, FREE, 0},           {5, 0, damage_tables},
     {4, 0, change_a_page}, {2, 0, choose_lengths}, {1, FORMAT, 0},        {4, CHECK_BLOCKS, 0},   {4, CHECK, 0},
     {36, WRITE, 0}, {10, PANEL_WRITE, 0}, {4, PANEL_READ, 0}, {3, PANEL_LINE, 0}, {1, PANEL_RESET, 0},
-    {16, COMMAND, 0}, {2, 0, change_registers}, {1, 0, choose_registers},
+    {16, COMMAND, 0}, {2, 0, change_registers}, {1, 0, choose_registers}, {14, SET_TERM, 0}, {8, CURRENT, 0}, {8, CONVERT, 0},
+    {3, 0, change_a_term}, {2, 0, give_old_tables},
 };
 enum { KINDS = sizeof kinds / sizeof *kinds };
 

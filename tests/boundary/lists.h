@@ -16,9 +16,10 @@ void run_list(const uint8_t *data, size_t length, caller how);
  * set that is the call's first number. */
 typedef uint32_t chooses(const struct buffers *world, const struct call *so_far, struct cursor *cursor);
 chooses used_set, unused_set, present_file, absent_file, place_in_file, yes_or_no, panel_offset, panel_value;
+chooses year_of_date, month_of_date, day_of_date, count_of_months, day_near_term;
 
 /* Give buffers lengths and contents. */
 typedef void prepares(struct buffers *world, const struct call *call, struct cursor *cursor);
-prepares pages_for_format, data_to_write, buffer_to_read;
+prepares pages_for_format, data_to_write, buffer_to_read, old_tables;
 
 #endif

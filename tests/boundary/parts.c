@@ -1,10 +1,12 @@
 /* The two parts of the check, rule by rule: stores in which one rule is broken, and no other where that can be; the judge makes
  * them. A rule of the first part: both checks refuse. A rule of the second part: sweep_check_blocks accepts, sweep_check
  * refuses. Either way every other call on the store but a format refuses with 1, and so does a command of the front panel, in its
- * register. All calls are compared with the judge too.
+ * register. The same tables without their terms are then refused by the converter, unless only terms broke the rule. All calls are
+ * compared with the judge too.
  * Exit status: 0 all well, 1 not. */
 #include <stdbool.h>
 #include <stdio.h>
+#include <string.h>
 #include "calls.h"
 
 enum { STORES_OF_EACH_RULE = 40 };
@@ -54,7 +56,36 @@ static void expect_of_command(const struct buffers *world, const char *rule, uin
     wrong = 1;
 }
 
-static void try_store(const struct buffers *world, const struct broken *made, unsigned turn)
+/* The rules on terms, which tables of before them cannot break. That an unused set is all zero holds of its term too. */
+static int is_about_terms(const struct buffers *world, const char *rule)
+{
+    if (!strcmp(rule, "first-day-not-below-end") || !strcmp(rule, "end-day-over"))
+        return 1;
+    int others = strcmp(rule, "unused-set-not-zero") != 0;
+    for (uint32_t set = 0; set < SWEEP_SETS; set++)
+        for (int i = 0; !set_is_used(world->of[TABLES], set) && i < TERM_AT; i++)
+            others |= world->of[TABLES][SETS_AT + SET_BYTES * set + (uint32_t)i];
+    return !others;
+}
+
+/* The store as it was before the terms, converted into its own tables; the old ones are short where the tables' length is wrong. */
+static void expect_of_conversion(struct buffers *world, const struct broken *made, unsigned turn)
+{
+    const struct call call = {CONVERT, {0}, {{0, 0}}};
+    int right = made->tables_length == SWEEP_TABLES_BYTES;
+    uint32_t number = right && is_about_terms(world, made->name) ? SWEEP_OK : SWEEP_BAD_TABLES;
+    narrow(world->of[SECOND], world->of[TABLES]);
+    world->length[SECOND] = SWEEP_OLD_TABLES_BYTES - (size_t)!right;
+    world->length[TABLES] = SWEEP_TABLES_BYTES;
+    uint32_t given = number_of(world, &call, turn);
+    world->length[SECOND] = 0;
+    if (given == number)
+        return;
+    printf("parts: %s is broken: convert gave %u, not %u\n", made->name, given, number);
+    wrong = 1;
+}
+
+static void try_store(struct buffers *world, const struct broken *made, unsigned turn)
 {
     expect(world, made->name, CHECK_BLOCKS, made->first_part ? SWEEP_BAD_TABLES : SWEEP_OK, turn);
     for (unsigned name = 0; name < CALLS; name++)
@@ -64,6 +95,7 @@ static void try_store(const struct buffers *world, const struct broken *made, un
         uint32_t number = is_command(value) ? SWEEP_BAD_TABLES : SWEEP_OK;
         expect_of_command(world, made->name, value, number, turn);
     }
+    expect_of_conversion(world, made, turn);
 }
 
 int main(void)

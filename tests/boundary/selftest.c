@@ -137,6 +137,185 @@ static void check_tables_before_registers(struct done *done)
             done->answer.number = SWEEP_BAD_TABLES;
 }
 
+/* Terms and the converter: the set records before the call, where the tables had their length. */
+static uint8_t set_records[FILES_AT];
+#define TOOK(which) (IS(which) && done->answer.number == SWEEP_OK)
+#define REFUSED(which) (IS(which) && done->answer.number != SWEEP_OK)
+#define LONG_ENOUGH (LENT(TABLES).length == SWEEP_TABLES_BYTES)
+#define HAS_TERM(set) (LONG_ENOUGH && (set) < SWEEP_SETS && set_is_used(START(TABLES), set))
+
+static void look_past_old_tables(struct done *done) { if (IS(CONVERT)) look(END(SECOND)); }
+static void look_before_old_tables(struct done *done) { if (IS(CONVERT)) look(START(SECOND) - 1); }
+static void touch_old_tables(struct done *done) { if (TOOK(CONVERT)) touch(START(SECOND)); }
+static void touch_pages_in_convert(struct done *done) { if (TOOK(CONVERT)) touch(START(PAGES)); }
+static void touch_tables_in_current(struct done *done) { if (TOOK(CURRENT)) touch(START(TABLES)); }
+static void change_before_new_tables(struct done *done) { if (IS(CONVERT)) change_before(LENT(TABLES)); }
+static void change_past_new_tables(struct done *done) { if (IS(CONVERT)) change_past(LENT(TABLES)); }
+static void change_a_page_with_the_term(struct done *done) { if (TOOK(SET_TERM)) START(PAGES)[0] ^= 1; }
+
+/* Other calls are done (call_made): with the first of the next month, where the day is the one after the month's last, as in
+ * 31 April; with month and day exchanged; with numbers cut to 16 bits; with 12 months, where they are out of range; with a
+ * month less. */
+static void take_the_day_after_the_last(struct done *done) { (void)done; }
+static void exchange_month_and_day(struct done *done) { (void)done; }
+static void cut_the_year(struct done *done) { (void)done; }
+static void cut_the_day_number(struct done *done) { (void)done; }
+static void take_any_months(struct done *done) { (void)done; }
+static void count_months_from_one(struct done *done) { (void)done; }
+
+static void look_at_months_before_the_date(struct done *done)
+{
+    if (IS(SET_TERM) && done->answer.number == SWEEP_NO_DATE && TOLD(4) - 1 >= SWEEP_MOST_MONTHS)
+        done->answer.number = SWEEP_BAD_MONTHS;
+}
+
+static void look_at_the_date_before_the_set(struct done *done)
+{
+    if (IS(SET_TERM) && done->answer.number == SWEEP_NO_SET && (TOLD(2) - 1 >= 12 || TOLD(3) - 1 >= 31))
+        done->answer.number = SWEEP_NO_DATE;
+}
+
+static void refuse_terms_of_read_only_sets(struct done *done)
+{
+    if (TOOK(SET_TERM) && !(START(TABLES)[SETS_AT + SET_BYTES * TOLD(0)] >> 6 & 1))
+        done->answer.number = SWEEP_READ_ONLY;
+}
+
+static void set_a_term_though_refused(struct done *done)
+{
+    if (REFUSED(SET_TERM) && HAS_TERM(TOLD(0)))
+        put_term(START(TABLES), TOLD(0), 0, 1);
+}
+
+static void set_terms_of_unused_sets(struct done *done)
+{
+    if (IS(SET_TERM) && done->answer.number == SWEEP_NO_SET && TOLD(0) < SWEEP_SETS)
+        done->answer.number = SWEEP_OK;
+}
+
+/* The end is not cut, but a day more. */
+static void cut_no_end(struct done *done)
+{
+    if (TOOK(SET_TERM) && end_day(START(TABLES), TOLD(0)) == SWEEP_END_DAY)
+        put_term(START(TABLES), TOLD(0), first_day(START(TABLES), TOLD(0)), SWEEP_END_DAY + 1);
+}
+
+/* The 28th where the later month has no such day. */
+static void end_on_the_28th(struct done *done)
+{
+    if (!TOOK(SET_TERM) || TOLD(3) <= 28 || end_day(START(TABLES), TOLD(0)) == SWEEP_END_DAY)
+        return;
+    uint32_t first = first_day(START(TABLES), TOLD(0)), end = end_day(START(TABLES), TOLD(0));
+    sweep_set_term(START(TABLES), LENT(TABLES).length, START(PAGES), LENT(PAGES).length, TOLD(0), TOLD(1), TOLD(2), 28, TOLD(4));
+    uint32_t on_28th = end_day(START(TABLES), TOLD(0));
+    put_term(START(TABLES), TOLD(0), first, end - on_28th == TOLD(3) - 28 ? end : on_28th);
+}
+
+static void count_the_end_day(struct done *done)
+{
+    if (TOOK(CURRENT) && TOLD(1) == end_day(START(TABLES), TOLD(0)))
+        done->answer.first = 1;
+}
+
+static void leave_out_the_first_day(struct done *done)
+{
+    if (TOOK(CURRENT) && TOLD(1) == first_day(START(TABLES), TOLD(0)))
+        done->answer.first = 0;
+}
+
+static void refuse_days_that_are_no_dates(struct done *done)
+{
+    if (TOOK(CURRENT) && TOLD(1) >= SWEEP_END_DAY)
+        done->answer.number = SWEEP_NO_DATE;
+}
+
+static void make_with_the_parents_term(struct done *done)
+{
+    if (TOOK(MAKE))
+        put_term(START(TABLES), TOLD(1), first_day(START(TABLES), TOLD(0)), end_day(START(TABLES), TOLD(0)));
+}
+
+static void keep_the_term_of_a_removed_set(struct done *done)
+{
+    if (TOOK(REMOVE))
+        put_term(START(TABLES), TOLD(0), first_day(set_records, TOLD(0)), end_day(set_records, TOLD(0)));
+}
+
+static void format_without_a_term(struct done *done) { if (TOOK(FORMAT)) put_term(START(TABLES), 0, 0, 0); }
+
+/* The check of tables in which some terms are as they should be: what a check says that does not look at these. */
+static void check_with(struct done *done, int used)
+{
+    static uint8_t tables[SWEEP_TABLES_BYTES];
+    if (!IS(CHECK) || !LONG_ENOUGH)
+        return;
+    memcpy(tables, START(TABLES), sizeof tables);
+    for (uint32_t set = 0; set < SWEEP_SETS; set++)
+        if (set_is_used(tables, set) == used)
+            put_term(tables, set, 0, used ? SWEEP_END_DAY : 0);
+    done->answer = sweep_check(tables, sizeof tables, START(PAGES), LENT(PAGES).length);
+}
+
+static void check_no_terms(struct done *done) { check_with(done, 1); }
+static void check_no_terms_of_unused_sets(struct done *done) { check_with(done, 0); }
+
+/* The check and the count of free blocks take tables of before the terms. */
+static void take_old_tables(struct done *done)
+{
+    static uint8_t tables[SWEEP_TABLES_BYTES];
+    if (!IS(CHECK) && !IS(FREE))
+        return;
+    sweep_answer made = sweep_convert(START(TABLES), LENT(TABLES).length, START(PAGES), LENT(PAGES).length, tables, sizeof tables);
+    if (made.number == SWEEP_OK)
+        done->answer = IS(FREE) ? sweep_free(tables, sizeof tables, START(PAGES), LENT(PAGES).length) : made;
+}
+
+/* The converter writes as it goes, and finds what is wrong too late. */
+static void convert_before_checking(struct done *done)
+{
+    if (REFUSED(CONVERT) && LONG_ENOUGH && LENT(SECOND).length == SWEEP_OLD_TABLES_BYTES)
+        memcpy(START(TABLES), START(SECOND), SETS_AT);
+}
+
+static void convert_with_terms_in_unused_sets(struct done *done)
+{
+    for (uint32_t set = 0; TOOK(CONVERT) && set < SWEEP_SETS; set++)
+        put_term(START(TABLES), set, 0, SWEEP_END_DAY);
+}
+
+static void convert_without_terms(struct done *done)
+{
+    for (uint32_t set = 0; TOOK(CONVERT) && set < SWEEP_SETS; set++)
+        put_term(START(TABLES), set, 0, 0);
+}
+
+/* The terms that the new buffer held stay. */
+static void convert_and_keep_terms(struct done *done)
+{
+    for (uint32_t set = 0; TOOK(CONVERT) && set < SWEEP_SETS; set++)
+        put_term(START(TABLES), set, first_day(set_records, set), end_day(set_records, set));
+}
+
+static void convert_tables_with_terms(struct done *done)
+{
+    if (!IS(CONVERT) || !LONG_ENOUGH || LENT(SECOND).length != SWEEP_TABLES_BYTES)
+        return;
+    done->answer = sweep_check(START(SECOND), LENT(SECOND).length, START(PAGES), LENT(PAGES).length);
+    if (done->answer.number == SWEEP_OK)
+        memcpy(START(TABLES), START(SECOND), SWEEP_TABLES_BYTES);
+}
+
+/* The pages' length is not looked at. */
+static void convert_without_pages(struct done *done)
+{
+    static uint8_t pages[ROOM_BYTES];
+    if (!REFUSED(CONVERT) || !LONG_ENOUGH || LENT(SECOND).length != SWEEP_OLD_TABLES_BYTES)
+        return;
+    size_t length = ((size_t)START(SECOND)[0] << 5 | START(SECOND)[1] >> 3) * SWEEP_PAGE_BYTES;
+    if (length <= ROOM_BYTES)
+        done->answer = sweep_convert(START(SECOND), LENT(SECOND).length, pages, length, START(TABLES), LENT(TABLES).length);
+}
+
 static const struct fault faults[] = {
     {"none", 0}, FAULT(look_past_tables), FAULT(look_before_tables), FAULT(look_past_pages), FAULT(look_before_pages),
     FAULT(look_past_bytes), FAULT(look_before_bytes), FAULT(touch_tables_in_free), FAULT(touch_pages_in_read),
@@ -153,13 +332,54 @@ static const struct fault faults[] = {
     FAULT(change_register_15), FAULT(turn_the_line_over), FAULT(clear_the_number_without_a_command),
     FAULT(keep_the_counts_of_the_command_before), FAULT(reset_all_but_the_mask), FAULT(change_tables_for_a_register),
     FAULT(check_tables_before_registers), FAULT(exchange_makings), FAULT(cut_the_command),
+    FAULT(look_past_old_tables), FAULT(look_before_old_tables), FAULT(touch_old_tables), FAULT(touch_pages_in_convert),
+    FAULT(touch_tables_in_current), FAULT(change_before_new_tables), FAULT(change_past_new_tables),
+    FAULT(change_a_page_with_the_term), FAULT(take_the_day_after_the_last), FAULT(exchange_month_and_day), FAULT(cut_the_year),
+    FAULT(cut_the_day_number), FAULT(take_any_months), FAULT(count_months_from_one), FAULT(look_at_months_before_the_date),
+    FAULT(look_at_the_date_before_the_set), FAULT(refuse_terms_of_read_only_sets), FAULT(set_a_term_though_refused),
+    FAULT(set_terms_of_unused_sets), FAULT(cut_no_end), FAULT(end_on_the_28th), FAULT(count_the_end_day),
+    FAULT(leave_out_the_first_day), FAULT(refuse_days_that_are_no_dates), FAULT(make_with_the_parents_term),
+    FAULT(keep_the_term_of_a_removed_set), FAULT(format_without_a_term), FAULT(check_no_terms),
+    FAULT(check_no_terms_of_unused_sets), FAULT(take_old_tables), FAULT(convert_before_checking),
+    FAULT(convert_with_terms_in_unused_sets), FAULT(convert_without_terms), FAULT(convert_and_keep_terms),
+    FAULT(convert_tables_with_terms), FAULT(convert_without_pages),
 };
 enum { FAULTS = sizeof faults / sizeof *faults };
 static void (*fault)(struct done *done);
 
+/* The day after a month's last, in a common year. */
+static uint32_t day_past(uint32_t month)
+{
+    return month == 2 ? 29 : month == 4 || month == 6 || month == 9 || month == 11 ? 31 : 32;
+}
+
+static void change_a_term_told(uint32_t *n)
+{
+    uint32_t month = n[2];
+    if (fault == take_the_day_after_the_last && month - 1 < 12 && n[3] == day_past(month) && (month != 2 || n[1] % 4 != 0)) {
+        n[1] += month == 12;
+        n[2] = month % 12 + 1;
+        n[3] = 1;
+    }
+    if (fault == exchange_month_and_day) {
+        n[2] = n[3];
+        n[3] = month;
+    }
+    if (fault == cut_the_year)
+        n[1] &= 0xFFFF;
+    if (fault == take_any_months && n[4] - 1 >= SWEEP_MOST_MONTHS)
+        n[4] = 12;
+    if (fault == count_months_from_one)
+        n[4]--;
+}
+
 static struct call call_made(const struct call *call)
 {
     struct call made = *call;
+    if (call->name == SET_TERM)
+        change_a_term_told(made.n);
+    if (call->name == CURRENT && fault == cut_the_day_number)
+        made.n[1] &= 0xFFFF;
     uint32_t *value = call->name == PANEL_WRITE && call->n[0] == SWEEP_PANEL_COMMAND ? &made.n[1] : 0;
     if (fault == exchange_writes && (call->name == WRITE || call->name == WRITE_NARROW))
         made.name = WRITE + WRITE_NARROW - call->name;
@@ -175,6 +395,8 @@ static sweep_answer call_with_fault(const struct call *call)
     const struct call made = call_made(call);
     if (call->lent[REGISTERS].length == sizeof before)
         memcpy(before, call->lent[REGISTERS].at, sizeof before);
+    if (call->lent[TABLES].length == SWEEP_TABLES_BYTES)
+        memcpy(set_records, call->lent[TABLES].at, sizeof set_records);
     struct done done = {call, call_plainly(&made)};
     if (fault)
         fault(&done);
@@ -186,7 +408,7 @@ static void run_lists(void (*does)(struct done *done))
     uint8_t data[900];
     uint32_t state = 12345;
     fault = does;
-    for (int list = 0; list < 60; list++) {
+    for (int list = 0; list < 400; list++) {
         for (size_t i = 0; i < sizeof data; i++) {
             state = state * 1664525u + 1013904223u;
             data[i] = (uint8_t)(state >> 20);
