@@ -77,16 +77,17 @@ static void as_in_the_field(uint8_t *old)
 /* An image of the older length: no other call takes it, and the converter takes it only if it is well formed. */
 static void convert(void)
 {
-    static uint8_t old[SWEEP_OLD_TABLES_BYTES], zeros[SWEEP_TABLES_BYTES];
+    static uint8_t old[SWEEP_OLD_TABLES_BYTES], before[SWEEP_TABLES_BYTES];
     as_in_the_field(old);
     printf("an image of %u bytes, as it is: %u\n", (unsigned)sizeof old,
            (unsigned)sweep_check(old, sizeof old, pages, sizeof pages).number);
 
-    memset(tables, 0, sizeof tables); /* the second buffer; what it holds does not matter */
+    memset(tables, 0xE7, sizeof tables); /* the second buffer; what it holds does not matter */
+    memcpy(before, tables, sizeof before);
     old[3] ^= 1;
     sweep_answer done = sweep_convert(old, sizeof old, pages, sizeof pages, tables, sizeof tables);
     printf("the same image, a bit turned over: %u, %s\n", (unsigned)done.number,
-           memcmp(tables, zeros, sizeof tables) ? "something written" : "nothing written");
+           memcmp(tables, before, sizeof tables) ? "something written" : "nothing written");
 
     old[3] ^= 1;
     done = sweep_convert(old, sizeof old, pages, sizeof pages, tables, sizeof tables);

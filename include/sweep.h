@@ -158,8 +158,8 @@ sweep_answer sweep_check(const uint8_t *tables, size_t tables_length, const uint
 
 /* TERMS: every used set has a first day and an end day. It is current from the first day up to, but without, the end day. Days are
  * numbered by the Gregorian calendar: 1998-01-01 is day 0, 2097-12-31 day 36,524. The first day is below the end day, and the end day
- * at most SWEEP_END_DAY; tables that break this are not well formed. A term only says whether a reference is still to be trusted: no
- * other call depends on it, so a set that is not current is read and written as before. The store has no clock; the caller
+ * at most SWEEP_END_DAY; tables that break this are not well formed. A term only says whether a reference is still to be trusted: but
+ * for the check of the tables nothing but sweep_current looks at it, so a set that is not current is read and written as before. The store has no clock; the caller
  * knows the day. */
 
 /* Sets the term of a used set, set 0 and read-only ones too. The first day is the date; year, month and day are as people count

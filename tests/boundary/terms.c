@@ -3,7 +3,7 @@
  *                with months and days out of range among them
  *   days         each term asked at its edges, and on days that are none
  *   conversions  a store with terms as it was before them, converted; then with wrong lengths of each buffer, and with each bit of
- *                header, bitmap and set records turned over; and such tables under every other call
+ *                header, bitmap, set records and the first two file records turned over; and such tables under every other call
  * Exit status: 0 all well, 1 not. */
 #include <stdio.h>
 #include <string.h>
@@ -272,8 +272,11 @@ static void try_old_tables(void)
     for (unsigned name = 0; name < CALLS; name++)
         if (exported.functions[name].lends[TABLES] != NOT_LENT && name != CONVERT && name != PANEL_WRITE)
             expect(exported.functions[name].name, CALL(name).number, SWEEP_BAD_TABLES);
-    for (uint32_t value = SWEEP_PANEL_CREATE; value <= SWEEP_PANEL_REMOVE; value++) {
-        expect("a write of the command register", DO(PANEL_WRITE, SWEEP_PANEL_COMMAND, value).number, SWEEP_OK);
+    static const uint32_t commands[] = {SWEEP_PANEL_CREATE, SWEEP_PANEL_DELETE, SWEEP_PANEL_MAKE, SWEEP_PANEL_MAKE_WRITEABLE,
+                                        SWEEP_PANEL_REMOVE};
+    for (size_t i = 0; i < sizeof commands / sizeof *commands; i++) {
+        expect("a reset of the registers", CALL(PANEL_RESET).number, SWEEP_OK);
+        expect("a write of the command register", DO(PANEL_WRITE, SWEEP_PANEL_COMMAND, commands[i]).number, SWEEP_OK);
         expect("the number register", world.of[REGISTERS][SWEEP_PANEL_NUMBER], SWEEP_BAD_TABLES);
     }
 }

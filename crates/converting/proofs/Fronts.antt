@@ -1,25 +1,25 @@
 -- What stands before the file records, as it is made set by set; with the file records of the old tables behind it these are the new tables. Assumes nothing.
-use mathlib.Core.Bool.{_&&_, Bool, cond, false, not, true}
+use mathlib.Core.Bool.{_&&_, Bool, cond, false, true}
 use mathlib.Core.List.{_++_, List}
-use mathlib.Core.Logic.{inl, inr}
+use mathlib.Core.Logic.{inl}
 use mathlib.Core.Path.{_≡_, ap, refl, subst, sym, _∙_}
-use Prim.Native.Nat.{_*_, _+_, _-_, _/_, _<_, ℕ, _≤_}
+use Prim.Native.Nat.{_+_, _-_, _/_, _<_, ℕ, _≤_}
 use native.Mathlib.Omega.{arith}
 use lib.Dec.{eqb, ltb}
 use lib.ListN.{List·getD-append, drop, getD, length, length-append, length-drop, length-take, take}
 use lib.Seq.{getD-append-add, getD-drop, getD-take}
-use borrow.Author.Tests.{eq-eqb, ltb-false, ltb-true, ne-eqb, not-false, not-true}
+use borrow.Author.Tests.{eq-eqb, ltb-false, ltb-true, ne-eqb}
 use Rattle.base.specs.Logic.{and-false, same?, test?}
-use Rattle.base.specs.Tabulate.{tab, tab-of}
+use Rattle.base.specs.Tabulate.{tab-of}
 use Rattle.converting.specs.Front.{FrontOf, FrontTo, usedWord}
 use Rattle.packing.specs.Bitmap.{is-one}
-use Rattle.packing.specs.Words.{Bytes, byte, byte-put-other, get-put-other, get-put-same, getWord, length-put, putWord, word-byte}
+use Rattle.packing.specs.Words.{Bytes, byte, byte-put-other, get-put-other, get-put-same, length-put, putWord, word-byte}
 use Rattle.pages.specs.Run.{length-run, run, run-in, run-out}
 use Rattle.rules.specs.State.{setCount}
 use Rattle.rules.specs.Terms.{lastEnd}
 use Rattle.tables.proofs.Widening.{old-length, used-is, widened-formed, widened-packs}
 use Rattle.tables.specs.Convert.{Widened, oldFilesAt, oldSetAt, oldSetWord, oldTableBytes, oldUnpack, oldWellFormed}
-use Rattle.tables.specs.Layout.{allFilesBytes, filesAt, readSet, setAt, setWord, setsAt, tableBytes, termAt, termWord, treeBytes}
+use Rattle.tables.specs.Layout.{allFilesBytes, filesAt, readSet, setAt, setWord, setsAt, tableBytes, termAt, termWord}
 use Rattle.tables.specs.Packed.{pack, wellFormed}
 
 -- ---- the term of a set
@@ -124,7 +124,7 @@ module _ (old front : List ℕ) (bo : Bytes old) (len : length old ≡ oldTableB
   used-same s h = sym (used-is old s h)
 
   -- LAW
-  pub front-widened : Widened old (front ++ files)
+  front-widened : Widened old (front ++ files)
   front-widened = record {
     new-length = length-append front files ∙ (λ i. k .len i + files-length i);
     front = λ i l. in-front i (omega (arith, l)) ∙ k .before i l;

@@ -1,5 +1,5 @@
 -- The claims. Assumes nothing.
-use Rattle.history.proofs.Conversion.{conversion, goes-on}
+use Rattle.history.proofs.Conversion.{conversion, every-store, goes-on}
 use Rattle.history.proofs.Demand3.{demand3}
 use Rattle.history.proofs.Events.{listed-run}
 use Rattle.history.proofs.Formed.{formed-after, formed-marks}
@@ -15,6 +15,7 @@ use Rattle.tables.proofs.BlocksAlone.{blocks-alone}
 use Rattle.tables.proofs.OneReading.{one-reading}
 use Rattle.tables.proofs.PanelRows.{panel-rows}
 use Rattle.tables.proofs.Registers.{panel-table}
+use Rattle.tables.proofs.TermCalls.{term-numbers}
 
 -- THEOREM
 pub claims : Claims
@@ -32,7 +33,9 @@ claims = record {
   room = room;
   rows = rows-hold;
   terms = terms-claim;
+  term-numbers = term-numbers;
   term-set = term-set;
   goes-on = goes-on;
   conversion = conversion;
+  every-store = every-store;
 }

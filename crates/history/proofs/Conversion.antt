@@ -1,26 +1,27 @@
 -- Well-formed bytes that agree with a plain store and a tally go on under demand 3; conversion keeps the history. Assumes nothing.
 use mathlib.Core.Bool.{true}
-use mathlib.Core.List.{List}
+use mathlib.Core.List.{List, []}
 use mathlib.Core.Path.{_≡_, ap, subst, sym, _∙_}
 use Prim.Native.Nat.{ℕ}
 use lib.ListN.{length}
 use Rattle.history.proofs.Demand3.{follows-of}
 use Rattle.history.proofs.Formed.{formed, image-of, order-of}
-use Rattle.history.specs.Conversion.{Conversion, ConversionClaim, GoesOnClaim, converted, oldStoreIn}
+use Rattle.history.specs.Conversion.{Conversion, ConversionClaim, EveryStoreClaim, GoesOnClaim, converted, oldStoreIn}
 use Rattle.history.specs.Demand3.{Follows}
 use Rattle.history.specs.Image.{Image, imageLeft, storeIn}
 use Rattle.packing.specs.Words.{Bytes}
 use Rattle.rules.proofs.Whole.HoldsOf.{holds-of}
 use Rattle.rules.specs.Agreement.{Agrees, AgreesPlain, AgreesTally}
 use Rattle.rules.specs.Calls.{Store}
-use Rattle.rules.specs.Numbers.{Answer}
+use Rattle.rules.specs.Numbers.{noCounts}
 use Rattle.rules.specs.State.{Tables}
 use Rattle.rules.specs.Storage.{real}
+use Rattle.tables.proofs.Narrowing.{narrowed, narrowed-bytes, narrowed-formed}
 use Rattle.tables.proofs.Widening.{convert-accepted, converted-is, is-widened, old-length, unpack-widened, widened, widened-bytes, widened-formed}
-use Rattle.tables.specs.Calls.{Outcome, pagesOf}
-use Rattle.tables.specs.Convert.{Widened, oldUnpack, oldWellFormed}
+use Rattle.tables.specs.Calls.{Outcome, lookedAt, pagesOf}
+use Rattle.tables.specs.Convert.{Widened, oldWellFormed}
 use Rattle.tables.specs.Layout.{tableBytes}
-use Rattle.tables.specs.Packed.{pack, unpack, wellFormed}
+use Rattle.tables.specs.Packed.{unpack, wellFormed}
 
 -- THEOREM
 pub goes-on : GoesOnClaim
@@ -72,3 +73,12 @@ module _ (m : Image) (second : List ℕ) (bs : Bytes (m .tables)) (f : oldWellFo
 -- THEOREM
 pub conversion : ConversionClaim
 conversion m second bs f l = conversion-of m second bs f l
+
+-- THEOREM
+pub every-store : EveryStoreClaim
+every-store m bs f default =
+    let t : List ℕ = m .tables in
+    let n : ℕ = length (m .pages) in
+    let fs = formed t (m .pages) f in
+    let q = narrowed-formed t bs n (fs .packed) (fs .sets-ok .blank) default f in
+    (narrowed t, narrowed-bytes t bs, λ second l. convert-accepted (narrowed t) (m .pages) second (q .0) l ∙ ap (λ (x : List ℕ). lookedAt noCounts x (m .pages) []) (q .1))

@@ -109,8 +109,3 @@ pub shows-at : (m : Image) (r : List ℕ) (before rest : List Event) (offset val
     → let b : Both = bothRun (blocksOf h) (runsAll before h) plainFormat (tallyFormat (length (m .pages) / 512)) in
     eventOn (panelWrite offset value) here .registers ≡ answered (bothGive (blocksOf h) c (b .plain) (b .tally) .answer) (entered offset value (here .registers))
 shows-at m r before rest offset value c d = d .follows .shows before rest offset value c refl
-
--- And of the list itself
-pub formed-at : (m : Image) (r : List ℕ) (es : List Event) → Demand3 m r es
-    → wellFormed (eventsOn es (formattedOf m r) .image .tables) (length (eventsOn es (formattedOf m r) .image .pages)) ≡ true
-formed-at m r es d = d .follows .formed

@@ -13,14 +13,14 @@ use Rattle.history.proofs.CallImage.{gave-image}
 use Rattle.history.proofs.Formed.{of-image}
 use Rattle.history.proofs.Image.{image-formed, image-store, imageOf}
 use Rattle.history.proofs.TermSet.{new-image, new-order, newStore, set-low, set-used}
-use Rattle.history.specs.Image.{Image, gave, storeIn}
+use Rattle.history.specs.Image.{Image, gave}
 use Rattle.history.specs.Terms.{TermSet, TermSetClaim, termSet}
 use Rattle.rules.proofs.Storages.CountCalls.{countOf, modelOf}
-use Rattle.rules.proofs.Tally.TallyNumbers.{Tallies, tallyOf}
+use Rattle.rules.proofs.Tally.TallyNumbers.{tallyOf}
 use Rattle.rules.proofs.Terms.TermSet.{term-tree}
 use Rattle.rules.proofs.Whole.Order.{InOrder, answer-tally}
-use Rattle.rules.specs.Agreement.{bufferAfter, bufferOf, front, storeGive}
-use Rattle.rules.specs.Calls.{Store, blankMemory, byteByReading, readCount, readInto, step, treeIn, viewOf}
+use Rattle.rules.specs.Agreement.{bufferOf, front, storeGive}
+use Rattle.rules.specs.Calls.{Store, blankMemory, byteByReading, readCount, readInto, step, viewOf}
 use Rattle.rules.specs.Numbers.{Answer, Call, Look, bytesAsked, lookOf, lowest, noCounts, noneAsked, refusal, sizeAsked}
 use Rattle.rules.specs.Plain.{Plain}
 use Rattle.rules.specs.Reading.{resolve, sizeByReading}

@@ -3,7 +3,7 @@ use mathlib.Core.Bool.{true}
 use mathlib.Core.List.{List}
 use mathlib.Core.Path.{_≡_}
 use lib.ListN.{length}
-use Rattle.history.specs.Conversion.{ConversionClaim, GoesOnClaim}
+use Rattle.history.specs.Conversion.{ConversionClaim, EveryStoreClaim, GoesOnClaim}
 use Rattle.history.specs.Demand3.{Demand3Claim, MarksThroughout}
 use Rattle.history.specs.Events.{Event, eventsOn, listedAll, runsAll}
 use Rattle.history.specs.Image.{Held, Image}
@@ -20,6 +20,7 @@ use Rattle.tables.specs.OneReading.{OneReadingClaim}
 use Rattle.tables.specs.Packed.{wellFormed}
 use Rattle.tables.specs.Panel.{PanelTableClaim}
 use Rattle.tables.specs.PanelRows.{PanelRowsClaim}
+use Rattle.tables.specs.Terms.{TermNumbersClaim}
 
 -- ANY WELL-FORMED BYTES, whoever made them, any registers, and all lists of events: the bytes stay well formed, and what becomes marked is as in demand 3
 abbrev pub FormedClaim : Type 0
@@ -45,8 +46,10 @@ pub record Claims : Type 0 where
   -- document 02, Ask 7: how much room a write can take
   pub room : RoomClaim
   pub rows : RowsClaim
-  -- document 02, Ask 8: dates and terms; what setting a term leaves; a store that agrees with plain store and tally goes on under demand 3; conversion keeps the history
+  -- document 02, Ask 8: dates and terms; the numbers of setting a term, and what it leaves; a store that agrees with plain store and tally goes on under demand 3; conversion keeps the history
   pub terms : TermsClaim
+  pub term-numbers : TermNumbersClaim
   pub term-set : TermSetClaim
   pub goes-on : GoesOnClaim
   pub conversion : ConversionClaim
+  pub every-store : EveryStoreClaim

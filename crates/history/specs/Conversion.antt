@@ -1,7 +1,7 @@
 -- CONVERSION KEEPS THE HISTORY. Document 02, Ask 8: tables of document 01's length are converted, and the plain store and the tally that agreed with them agree with
 -- the new ones, through every list of events that follows.
 use mathlib.Core.Bool.{true}
-use mathlib.Core.List.{List}
+use mathlib.Core.List.{List, []}
 use mathlib.Core.Path.{_≡_}
 use Prim.Native.Nat.{ℕ}
 use lib.ListN.{length}
@@ -15,6 +15,8 @@ use Rattle.rules.specs.Numbers.{noCounts}
 use Rattle.rules.specs.Plain.{Plain}
 use Rattle.rules.specs.Storage.{real}
 use Rattle.rules.specs.Tally.{Tally}
+use Rattle.rules.specs.Terms.{defaultTerm}
+use Rattle.tables.specs.Calls.{lookedAt}
 use Rattle.tables.specs.Convert.{Widened, convertOn, oldStoreOf, oldWellFormed}
 use Rattle.tables.specs.Layout.{tableBytes}
 use Rattle.tables.specs.Packed.{wellFormed}
@@ -53,3 +55,11 @@ pub record Conversion (m : Image) (second : List ℕ) : Type 0 where
 abbrev pub ConversionClaim : Type 0
 ConversionClaim =
     (m : Image) (second : List ℕ) → Bytes (m .tables) → oldWellFormed (m .tables) (length (m .pages)) ≡ true → length second ≡ tableBytes → Conversion m second
+
+-- AND IT MAKES EVERY STORE that had no term set: well-formed tables whose used sets have the default term are what the converter makes of some tables of document 01's
+-- length, with the same pages, in any second buffer
+abbrev pub EveryStoreClaim : Type 0
+EveryStoreClaim =
+    (m : Image) → Bytes (m .tables) → wellFormed (m .tables) (length (m .pages)) ≡ true
+    → ((s : ℕ) → storeIn m .sets s .used ≡ true → storeIn m .sets s .term ≡ defaultTerm)
+    → (old : List ℕ) × Bytes old × ((second : List ℕ) → length second ≡ tableBytes → convertOn old (m .pages) second ≡ lookedAt noCounts (m .tables) (m .pages) [])

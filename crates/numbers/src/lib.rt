@@ -309,7 +309,8 @@ pub fn of_current(t: &[u8], p: &[u8], set: u32) -> u32
     requires { ⌜ FormedStore (now t) (now p) ⌝ }
     ensures { λ r. ⌜ r ≡ lowest (currentConditions (viewOf real true true (storeOf (now (t .entry)) (now (p .entry)))) set) ⌝ }
 {
-    if !is_used(t, set) {
+    let used = is_used(t, set);
+    if !used {
         return 2;
     }
     0

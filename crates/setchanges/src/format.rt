@@ -39,7 +39,7 @@ pub fn format_tables(t: &mut [u8], blocks: usize)
             first_child: 8,
             next_sibling: 8,
             first_day: 0,
-            end_day: 36525,
+            end_day: sets::END_DAY,
         },
     );
 }

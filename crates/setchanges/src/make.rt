@@ -50,7 +50,7 @@ fn put_child(t: &mut [u8], s: usize, c: usize, writeable: bool)
             first_child: 8,
             next_sibling: 8,
             first_day: 0,
-            end_day: 36525,
+            end_day: sets::END_DAY,
         },
     );
 }

@@ -15,7 +15,7 @@ use Rattle.rules.specs.State.{isAbsent}
 use Rattle.rules.specs.WellFormed.{allFiles, allSets, bitsFormed, filesFormed, headerFormed, pagesFit, termFormed, termsFormed, treeFormed, zeroFile, zeroSet, zerosFormed}
 use Rattle.setcheck.specs.Records.{fileRecordsFormed, headerZero, recordFormed, recordsAlone, setRecordsFormed, setZero}
 use Rattle.tables.proofs.ReadParts.{set-default}
-use Rattle.tables.specs.Layout.{headWidths, headWord, setWidths, setWord, tableBytes}
+use Rattle.tables.specs.Layout.{headWidths, headWord, tableBytes}
 use Rattle.tables.specs.Packed.{blockRules, fieldsFormed, kindsFormed, setRules, unpack, wellFormed}
 
 -- the parts of `setRules` in another order

@@ -10,6 +10,7 @@ ghost use Rattle.setcheck.specs.Records.{recordFormed, recordsAlone, set
 use packing::words;
 use tables::places::SET_BYTES;
 use tables::places::SETS_AT;
+use tables::sets::END_DAY;
 use tables::sets::SetRecord;
 use tables::sets::set_at;
 
@@ -58,7 +59,7 @@ fn record_formed(t: &[u8], s: usize) -> bool
     if r.first_day >= r.end_day {
         return false;
     }
-    r.end_day <= 36525
+    r.end_day <= END_DAY
 }
 
 // The rules above, which look at one set record each, for all sets.

@@ -11,6 +11,7 @@ pub mod PackUnpack
 pub mod OneReading
 pub mod Widening
 pub mod TermCalls
+pub mod Narrowing
 pub mod Operations
 pub mod Kept
 pub mod Stores

@@ -132,7 +132,7 @@ module _ (t : List ℕ) (h : PackedTables t) (bs : Bytes t) where
   set-again : (s : ℕ) → s < setCount → writeSet (unpack t .sets s) ≡ setWord t s
   set-again s hs = ap writeSet (read-set t s hs) ∙ write-read-set (setWord t s) (termWord t s) (get-lt 2 t (setAt s) bs) (h .set-ok s hs)
 
-  term-again : (s : ℕ) → s < setCount → writeTerm (unpack t .sets s .term) ≡ termWord t s
+  pub term-again : (s : ℕ) → s < setCount → writeTerm (unpack t .sets s .term) ≡ termWord t s
   term-again s hs =
       ap (λ (r : SetRecord). writeTerm (r .term)) (read-set t s hs) ∙ ap writeTerm (read-set-term (setWord t s) (termWord t s))
       ∙ write-read-term (termWord t s) (get-lt 3 t (termAt s) bs)

@@ -1,21 +1,21 @@
 -- The calls on terms by their cases: tables not well formed, refused, accepted; and what a setting that is accepted has passed. Assumes nothing.
-use mathlib.Core.Bool.{Bool, _&&_, false, not, true}
+use mathlib.Core.Bool.{Bool, _&&_, false, true}
 use mathlib.Core.List.{List, _∷_, []}
 use mathlib.Core.Path.{_≡_, ap, refl, sym, _∙_}
 use Prim.Native.Nat.{_<_, suc, zero, ℕ}
 use native.Mathlib.Omega.{arith}
 use lib.Dec.{ltb}
 use lib.ListN.{length}
-use borrow.Author.Tests.{ltb-true, not-false}
-use Rattle.base.specs.Logic.{and-left, and-right}
+use borrow.Author.Tests.{lt-ltb, ltb-true, not-false}
+use Rattle.base.specs.Logic.{and-false, and-left, and-right}
 use Rattle.rules.specs.Calls.{viewOf}
 use Rattle.rules.specs.Numbers.{View, lowest, noCounts, refusal}
 use Rattle.rules.specs.State.{setCount}
 use Rattle.rules.specs.Storage.{real}
 use Rattle.rules.specs.Terms.{countFits, dateExists, isCurrent, termFrom}
-use Rattle.tables.specs.Calls.{lookedAt, storeOf, viewOn}
+use Rattle.tables.specs.Calls.{lookedAt, storeOf}
 use Rattle.tables.specs.Packed.{pack, unpack, wellFormed}
-use Rattle.tables.specs.Terms.{currentConditions, currentOn, putOrRefused, putTermIn, setTermConditions, setTermOn, toldOrRefused}
+use Rattle.tables.specs.Terms.{TermNumbersClaim, currentConditions, currentOn, putOrRefused, putTermIn, setTermConditions, setTermOn, toldOrRefused}
 
 -- the conditions on a store that is well formed
 abbrev pub termIn : List ℕ → List ℕ → ℕ → ℕ → ℕ → ℕ → ℕ → List (Bool × ℕ)
@@ -76,6 +76,16 @@ term-passed v s y m d k e =
       exists = not-false (dateExists y m d) (c .0);
       fits = not-false (countFits k) (f .0);
     }
+
+-- THEOREM: the numbers of a setting
+pub term-numbers : TermNumbersClaim
+unfolding setTermConditions lowest
+term-numbers v f s y m d k = record {
+  no-set = λ u. rw (f, u, and-false (ltb s setCount));
+  no-date = λ l u e. rw (f, lt-ltb s setCount l, u, e);
+  bad-count = λ l u e c. rw (f, lt-ltb s setCount l, u, e, c);
+  accepted = λ l u e c. rw (f, lt-ltb s setCount l, u, e, c);
+}
 
 -- IS THE SET CURRENT
 module _ (s day : ℕ) (t p : List ℕ) where

@@ -8,14 +8,14 @@ use native.Mathlib.Omega.{arith}
 use lib.Dec.{eqb, ltb}
 use lib.ListN.{List·getD-eq-default, getD, length}
 use borrow.Author.Tests.{eq-eqb, eqb-true, le-ltb, lt-ltb, ltb-false, ltb-true}
-use Rattle.base.specs.Count.{all, all-same}
+use Rattle.base.specs.Count.{all-same}
 use Rattle.base.specs.Logic.{and-left, test?}
 use Rattle.base.specs.Tabulate.{getD-tab, length-tab, tab}
 use Rattle.packing.specs.Bitmap.{bitAt}
 use Rattle.packing.specs.Fields.{getField}
 use Rattle.packing.specs.Words.{Bytes, byte, byte-lt, bytes-word, getWord, word-byte}
 use Rattle.rules.specs.Numbers.{noCounts}
-use Rattle.rules.specs.State.{SetRecord, Tables, fileCount, largestBlocks, pageCount, setCount, unusedSet}
+use Rattle.rules.specs.State.{SetRecord, fileCount, largestBlocks, pageCount, setCount}
 use Rattle.rules.specs.Terms.{defaultTerm, lastEnd, withTerm}
 use Rattle.rules.specs.WellFormed.{allFiles, allPages, allSets, blocksFormed, pagesFit, setsFormed}
 use Rattle.tables.proofs.InRange.{file-in, page-in}
@@ -24,7 +24,7 @@ use Rattle.tables.proofs.OneReading.{formed-packed}
 use Rattle.tables.proofs.PackUnpack.{pack-unpack}
 use Rattle.tables.specs.Calls.{lookedAt}
 use Rattle.tables.specs.Convert.{Widened, convertOn, oldEntryAt, oldEntryWord, oldFieldsFormed, oldFileAt, oldFilesAt, oldHeadWord, oldKindsFormed, oldSetAt, oldSetWord, oldTableBytes, oldUnpack, oldWellFormed, withDefault}
-use Rattle.tables.specs.Layout.{allFilesBytes, bitmapAt, entryAt, entryBytes, entryWord, fileAt, fileBytes, filesAt, headBytes, headWidths, headWord, headerAt, headerWidths, headerWord, readBlocks, readEntry, readNext, readSet, readSize, readState, readTerm, setAt, setBytes, setWidths, setWord, setsAt, tableBytes, termAt, termBytes, termWord, treeBytes}
+use Rattle.tables.specs.Layout.{bitmapAt, entryAt, entryBytes, entryWord, fileAt, fileBytes, filesAt, headBytes, headWidths, headWord, headerAt, headerWidths, headerWord, readBlocks, readNext, readSet, readTerm, setAt, setBytes, setWidths, setWord, setsAt, tableBytes, termAt, termWord, treeBytes}
 use Rattle.tables.specs.Packed.{blockRules, entryFormed, fieldsFormed, isFile, isPage, kindsFormed, pack, setRules, unpack, wellFormed}
 
 -- ---- the new tables of old ones

@@ -1,11 +1,12 @@
 -- The calls on reference terms, on bytes: setting a term, and asking whether a set is current. Document 02, Ask 8.
-use mathlib.Core.Bool.{Bool, not}
+use mathlib.Core.Bool.{Bool, false, not, true}
 use mathlib.Core.List.{List, _∷_, []}
-use Prim.Native.Nat.{suc, zero, ℕ}
+use mathlib.Core.Path.{_≡_}
+use Prim.Native.Nat.{_<_, suc, zero, ℕ}
 use Rattle.base.specs.Logic.{digit}
 use Rattle.base.specs.Update.{upd}
 use Rattle.rules.specs.Numbers.{Answer, View, lowest, noCounts, noSuchSet, notFormed, refusal}
-use Rattle.rules.specs.State.{Tables, Term}
+use Rattle.rules.specs.State.{Tables, Term, setCount}
 use Rattle.rules.specs.Terms.{countFits, dateExists, isCurrent, termFrom, withTerm}
 use Rattle.tables.specs.Calls.{Outcome, lookedAt, viewOn}
 use Rattle.tables.specs.Packed.{pack, unpack}
@@ -18,6 +19,16 @@ setTermConditions v s y m d k = notFormed v ∷ noSuchSet v s ∷ (not (dateExis
 -- of asking whether a set is current; a day number is no date
 unfoldable pub currentConditions : View → ℕ → List (Bool × ℕ)
 currentConditions v s = notFormed v ∷ noSuchSet v s ∷ []
+
+-- THE NUMBERS of a setting on well-formed tables: 2 of a set that is not used, whatever the date and the count; then 14, whatever the count; then 15; else none
+pub record TermNumbers (v : View) (s y m d k : ℕ) : Type 0 where
+  pub no-set : v .tree .used s ≡ false → lowest (setTermConditions v s y m d k) ≡ 2
+  pub no-date : s < setCount → v .tree .used s ≡ true → dateExists y m d ≡ false → lowest (setTermConditions v s y m d k) ≡ 14
+  pub bad-count : s < setCount → v .tree .used s ≡ true → dateExists y m d ≡ true → countFits k ≡ false → lowest (setTermConditions v s y m d k) ≡ 15
+  pub accepted : s < setCount → v .tree .used s ≡ true → dateExists y m d ≡ true → countFits k ≡ true → lowest (setTermConditions v s y m d k) ≡ 0
+
+abbrev pub TermNumbersClaim : Type 0
+TermNumbersClaim = (v : View) → v .formed ≡ true → (s y m d k : ℕ) → TermNumbers v s y m d k
 
 -- set s has the term x; all else stays
 unfoldable pub putTermIn : ℕ → Term → Tables → Tables

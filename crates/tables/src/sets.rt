@@ -14,6 +14,9 @@ use crate::places::SETS_AT;
 use crate::places::TREE_BYTES;
 use packing::words;
 
+// "end at most 36,525": the latest end day, the day after the last.
+pub const END_DAY: usize = 36525;
+
 pub struct SetRecord {
     pub used: bool,
     pub writeable: bool,

@@ -469,21 +469,23 @@ exit status: 0 no difference, 1 a difference or a case that no call met, 2 bad u
             self.items_on(Bench::with(tables, pages), script, items)
         }
 
-        /// Every date of the hundred years with a count of months that goes through all
-        /// of them, and all counts of months for the first and the last days of some
-        /// years' months: the library's tables are compared with the dates counted day by
-        /// day, and the days at both edges of the term are asked for.
+        /// Every date of the hundred years with every count of months: the library's
+        /// tables are compared with the dates counted day by day. For one count of each
+        /// date, and for all counts of the first and the last days of some years' months,
+        /// the days at the edges of the term are asked for.
         fn every_date(&mut self) -> Outcome {
             let Some(mut dated) = Dated::new(&mut self.trace) else { return Ok(()) };
             for day in 0..DAYS {
-                dated.term(date_of(day), 1 + (day as u32 * 7) % 120)?;
-                dated.days_at_first()?;
-                dated.days_at_end()?;
-            }
-            for date in (0..DAYS).map(date_of).filter(is_edge) {
+                let date = date_of(day);
                 for months in 1..=120 {
                     dated.term(date, months)?;
-                    dated.days_at_end()?;
+                    let asked = months == 1 + (day as u32 * 7) % 120;
+                    if asked {
+                        dated.days_at_first()?;
+                    }
+                    if asked || is_edge(&date) {
+                        dated.days_at_end()?;
+                    }
                 }
             }
             let Dated { terms, days, .. } = dated;

@@ -1,7 +1,6 @@
 -- `converting::convert_tables` meets its contract. Assumes nothing.
 use mathlib.Core.Path.{refl, sym, _∙_}
 use Prim.Native.Nat.{ℕ}
-use native.Mathlib.Omega.{arith}
 use borrow.Author.Needs.{needs}
 use borrow.Author.Tests.{not-false, not-true}
 use Rattle.converting.proofs.Fronts.{by-check, parts-say, written, wrong-old, wrong-second}

@@ -35,25 +35,25 @@ start-closed (suc n) l =
     start-next n ∙ ap (λ x. x + monthLength n) (start-closed n (omega arith)) ∙ eqb-true (closed n + monthLength n) (closed (suc n)) (all-at 1200 stepOk steps-ok n (omega arith))
 
 -- "day 36,524 is 2097-12-31": the day after it is the first of month 1,200
-pub start-1200 : monthStart 1200 ≡ 36525
+start-1200 : monthStart 1200 ≡ 36525
 unfolding closed
 start-1200 = start-closed 1200 (omega arith) ∙ refl
 
 -- a later month begins after the days of an earlier one
-pub start-later : (n k : ℕ) → monthStart n + monthLength n ≤ monthStart (n + suc k)
+start-later : (n k : ℕ) → monthStart n + monthLength n ≤ monthStart (n + suc k)
 start-later n zero = let e : n + 1 ≡ suc n = omega arith in rw e (omega (arith, start-next n))
 start-later n (suc k) =
     let e : n + suc (suc k) ≡ suc (n + suc k) = omega arith in
     rw e (omega (arith, start-later n k, start-next (n + suc k)))
 
-pub start-after : (n k : ℕ) → 1 ≤ k → monthStart n + monthLength n ≤ monthStart (n + k)
+start-after : (n k : ℕ) → 1 ≤ k → monthStart n + monthLength n ≤ monthStart (n + k)
 start-after n k l = let e : n + suc (k - 1) ≡ n + k = omega arith in rw (← e) (start-later n (k - 1))
 
 -- the days of these months end by 36,525, the later months begin there or after
 pub start-within : (n : ℕ) → n < 1200 → monthStart n + monthLength n ≤ 36525
 start-within n l = let e : n + suc (1199 - n) ≡ 1200 = omega arith in omega (arith, start-1200, ap monthStart e, start-later n (1199 - n))
 
-pub start-past : (n : ℕ) → 1200 ≤ n → 36525 ≤ monthStart n
+start-past : (n : ℕ) → 1200 ≤ n → 36525 ≤ monthStart n
 start-past n l =
     let e : 1200 + (n - 1200) ≡ n = omega arith in
     go (n - 1200) e
@@ -126,7 +126,7 @@ in-month y m d h =
     }
 
 -- all days of these months lie below 36,525, all of later months do not
-pub day-within : (n d : ℕ) → n < 1200 → 1 ≤ monthLength n → dayOrLast n d < 36525
+day-within : (n d : ℕ) → n < 1200 → 1 ≤ monthLength n → dayOrLast n d < 36525
 unfolding dayOrLast
 day-within n d l a = omega (arith, start-within n l)
 
@@ -140,11 +140,11 @@ day-below y m d h =
     omega (arith, day-within (monthNumber y m) d (x .month) (omega (arith, x .day-from, x .day-to)))
 
 -- a day lies before the same day of a later month, or that month's last
-pub day-later : (n d k : ℕ) → InMonth n d → 1 ≤ k → dayOrLast n d < dayOrLast (n + k) d
+day-later : (n d k : ℕ) → InMonth n d → 1 ≤ k → dayOrLast n d < dayOrLast (n + k) d
 unfolding dayOrLast
 day-later n d k x l = omega (arith, x .day-from, x .day-to, start-after n k l)
 
-pub count-from : (k : ℕ) → countFits k ≡ true → 1 ≤ k
+count-from : (k : ℕ) → countFits k ≡ true → 1 ≤ k
 unfolding countFits
 count-from k h = leb-true 1 k (and-left (leb 1 k) (leb k mostMonths) h)
 

@@ -1,25 +1,23 @@
 -- A set record with another term: the tree stays, the rules on sets hold again, and a store in order is in order again. Assumes nothing.
 use mathlib.Core.Bool.{false, true, true≢false}
-use mathlib.Core.List.{List, []}
 use mathlib.Core.Path.{_≡_, ap, refl, subst, sym, _∙_}
-use Prim.Native.Nat.{_<_, suc, zero, ℕ, _≤_}
-use native.Mathlib.Omega.{arith}
+use Prim.Native.Nat.{suc, zero, ℕ}
 use lib.Dec.{ltb}
 use Rattle.base.specs.Logic.{same?, test?}
 use Rattle.base.specs.Update.{upd, upd-keeps, upd-other, upd-same}
 use Rattle.rules.proofs.Formed.Shape.{FilesFormed}
 use Rattle.rules.proofs.Storages.CountCalls.{modelOf}
-use Rattle.rules.proofs.Tree.Chains.{Follows, follows-frame}
-use Rattle.rules.proofs.Tree.SetsOk.{SetsOk, tree-ext, used-below}
+use Rattle.rules.proofs.Tree.Chains.{follows-frame}
+use Rattle.rules.proofs.Tree.SetsOk.{SetsOk, tree-ext}
 use Rattle.rules.proofs.Whole.Order.{InOrder}
-use Rattle.rules.specs.Calls.{Store, treeIn}
+use Rattle.rules.specs.Calls.{Store}
 use Rattle.rules.specs.State.{SetRecord, Term, Tree, chain, childrenOf, treeOf, unusedSet}
 use Rattle.rules.specs.Storage.{real}
 use Rattle.rules.specs.Terms.{withTerm}
 use Rattle.rules.specs.WellFormed.{termFormed}
 
 -- the sets, one of them with another term
-abbrev pub termed : (ℕ → SetRecord) → ℕ → Term → ℕ → SetRecord
+abbrev termed : (ℕ → SetRecord) → ℕ → Term → ℕ → SetRecord
 termed sets s x = upd sets s (withTerm (sets s) x)
 
 module _ (sets : ℕ → SetRecord) (s : ℕ) (x : Term) where
@@ -63,7 +61,7 @@ module _ (sets : ℕ → SetRecord) (s : ℕ) (x : Term) where
         (λ e. subst (λ z. termFormed (termed sets s x z .term) ≡ true) e (ap (λ (r : SetRecord). termFormed (r .term)) (upd-same sets s (withTerm (sets s) x)) ∙ f))
         (λ n. ap (λ (r : SetRecord). termFormed (r .term)) (upd-other sets s (withTerm (sets s) x) y n) ∙ ok .terms y h)
 
-    pub term-sets : SetsOk (termed sets s x)
+    term-sets : SetsOk (termed sets s x)
     term-sets = record {
       root-used = used-kept 0 ∙ ok .root-used;
       root-writeable = field-kept (λ r. r .writeable) (λ r. refl) 0 ∙ ok .root-writeable;

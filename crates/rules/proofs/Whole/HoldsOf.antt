@@ -4,7 +4,7 @@ use mathlib.Core.Bool.{false, true, true≢false}
 use mathlib.Core.List.{List}
 use mathlib.Core.Option.{some}
 use mathlib.Core.Path.{_≡_, refl, sym, _∙_}
-use Prim.Native.Nat.{_%_, _/_, _<_, ℕ, _≤_}
+use Prim.Native.Nat.{_<_, ℕ}
 use native.Mathlib.Omega.{arith}
 use lib.Dec.{ltb}
 use lib.ListN.{List·getD-eq-default, getD, length}
@@ -17,13 +17,13 @@ use Rattle.rules.proofs.Steps.WriterSteps.{bytes}
 use Rattle.rules.proofs.Storages.CountCalls.{countOf, modelOf}
 use Rattle.rules.proofs.Tally.TallyNumbers.{Tallies}
 use Rattle.rules.proofs.Whole.Holds.{Holds}
-use Rattle.rules.proofs.Whole.HoldsMeans.{agrees-plain, agrees-tally, byte-model, kind-of, size-model}
+use Rattle.rules.proofs.Whole.HoldsMeans.{byte-model, kind-of, size-model}
 use Rattle.rules.proofs.Whole.Order.{InOrder}
-use Rattle.rules.specs.Agreement.{Agrees, AgreesPlain, AgreesTally, ZeroPast}
+use Rattle.rules.specs.Agreement.{Agrees, ZeroPast}
 use Rattle.rules.specs.Calls.{Store, byteByReading, treeIn}
-use Rattle.rules.specs.Plain.{Plain, isNone}
-use Rattle.rules.specs.Reading.{resolve, sizeByReading}
-use Rattle.rules.specs.State.{State, isAbsent, isMarked, live, absent, marked, own, virgin}
+use Rattle.rules.specs.Plain.{Plain}
+use Rattle.rules.specs.Reading.{sizeByReading}
+use Rattle.rules.specs.State.{State, isMarked, live, absent, marked, own, virgin}
 use Rattle.rules.specs.Storage.{real}
 use Rattle.rules.specs.Tally.{Tally}
 
@@ -76,6 +76,3 @@ module _ (B : ℕ) (r : Store real) (pl : Plain) (ta : Tally) where
         let n = v .plainly .agree f .size s (k .0) (k .1) h in
         let z : getD (k .0) i 0 ≡ 0 = List·getD-eq-default (k .0) 0 (omega (arith, l, n, size-model r s f)) in
         byte-model r s f i ∙ v .plainly .agree f .byte s (k .0) (k .1) h i b ∙ z
-
-    pub agrees-of : Agrees r pl ta
-    agrees-of = record { plain = agrees-plain B r pl ta v; tally = agrees-tally B r pl ta v; past = zero-past }

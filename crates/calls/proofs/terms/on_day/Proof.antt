@@ -1,6 +1,4 @@
 -- `calls::terms::on_day` meets its contract. Assumes nothing.
-use native.Mathlib.Omega.{arith}
-use borrow.Author.Needs.{needs}
 use Rattle.calls.proofs.TermCases.{before-first, from-end, within-term}
 use Rattle.calls.proofs.terms.on_day.Statement.{statement}
 use Rattle.calls.proofs.terms.on_day.Tie as tie
