@@ -272,7 +272,7 @@ static void try_old_tables(void)
     for (unsigned name = 0; name < CALLS; name++)
         if (exported.functions[name].lends[TABLES] != NOT_LENT && name != CONVERT && name != PANEL_WRITE)
             expect(exported.functions[name].name, CALL(name).number, SWEEP_BAD_TABLES);
-    static const uint32_t commands[] = {SWEEP_PANEL_CREATE, SWEEP_PANEL_DELETE, SWEEP_PANEL_MAKE, SWEEP_PANEL_MAKE_WRITEABLE,
+    static const uint32_t commands[] = {SWEEP_PANEL_CREATE, SWEEP_PANEL_DELETE, SWEEP_PANEL_MAKE_READ_ONLY, SWEEP_PANEL_MAKE_WRITEABLE,
                                         SWEEP_PANEL_REMOVE};
     for (size_t i = 0; i < sizeof commands / sizeof *commands; i++) {
         expect("a reset of the registers", CALL(PANEL_RESET).number, SWEEP_OK);
