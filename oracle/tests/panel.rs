@@ -14,7 +14,7 @@ use oracle::rng::Rng;
 use oracle::store;
 
 mod script;
-use script::Store;
+use script::{call_at, Named, Store};
 
 type Registers = [u8; 16];
 
@@ -88,9 +88,6 @@ fn family(blocks: usize) -> Store {
 
 // Names, what is lent, lines of scripts.
 
-/// A call, the numbers it is told, and the buffers it is lent.
-type Named = (&'static str, &'static [u32], &'static [(Buffer, Lending)]);
-
 /// "lent as sixteen bytes that only the panel's calls write from reset on".
 #[test]
 fn names_and_what_the_calls_are_lent() {
@@ -106,14 +103,8 @@ fn names_and_what_the_calls_are_lent() {
         ),
         ("panel-line", &[], &[(Registers, ReadOnly)]),
     ];
-    for (place, (line, numbers, lent)) in (13..).zip(wanted) {
-        let Item::Call(call) = Item::parse(line).unwrap() else { unreachable!() };
-        assert_eq!((call.index(), call.to_string().as_str()), (place, line));
-        assert_eq!(CALL_NAMES[place], line.split(' ').next().unwrap());
-        assert_eq!(&call.numbers()[..numbers.len()], numbers);
-        let found: Vec<_> = call.row().lent().map(|b| (b, call.row().lends(b))).collect();
-        assert_eq!(found, lent, "{line}");
-        assert!(call.is_of_panel());
+    for (place, named) in (13..).zip(wanted) {
+        assert!(call_at(place, named).is_of_panel());
     }
     for row in (0..13).chain(17..CALLS).map(|place| &ROWS[place]) {
         assert_eq!(row.lends(Registers), NotLent);

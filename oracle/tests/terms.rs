@@ -17,7 +17,7 @@ use oracle::terms::{Case, Met};
 use std::collections::BTreeSet;
 
 mod script;
-use script::{pages, Store};
+use script::{call_at, pages, Named, Store};
 
 const SEED: u64 = 80_000_008;
 
@@ -614,8 +614,7 @@ fn the_judge_of_conversions_can_say_no() {
 fn calls_and_lines() {
     use Buffer::{Pages, Second, Tables};
     use Lending::{Changed, ReadOnly};
-    type Wanted = (&'static str, &'static [u32], &'static [(Buffer, Lending)]);
-    let wanted: [Wanted; 3] = [
+    let wanted: [Named; 3] = [
         (
             "set-term 1 2000 2 29 120",
             &[1, 2000, 2, 29, 120],
@@ -624,13 +623,8 @@ fn calls_and_lines() {
         ("current 7 4294967295", &[7, u32::MAX], &[(Tables, ReadOnly), (Pages, ReadOnly)]),
         ("convert", &[], &[(Tables, Changed), (Pages, ReadOnly), (Second, ReadOnly)]),
     ];
-    for (place, (line, numbers, lent)) in (17..).zip(wanted) {
-        let Item::Call(call) = Item::parse(line).unwrap() else { unreachable!() };
-        assert_eq!((call.index(), call.to_string().as_str()), (place, line));
-        assert_eq!(CALL_NAMES[place], line.split(' ').next().unwrap());
-        assert_eq!(&call.numbers()[..numbers.len()], numbers);
-        let found: Vec<_> = call.row().lent().map(|b| (b, call.row().lends(b))).collect();
-        assert_eq!(found, lent, "{line}");
+    for (place, named) in (17..).zip(wanted) {
+        call_at(place, named);
     }
     assert_eq!((gen::SET_TERM, gen::CURRENT, gen::CONVERT), (17, 18, 19));
     assert_eq!(CALL_NAMES[20], "write-groups");

@@ -9,9 +9,9 @@ use lib.ListN.{getD, set}
 use lib.Seq.{set-getD}
 use Rattle.packing.specs.Bitmap.{is-one, isOne}
 use Rattle.packing.specs.Words.{Bytes, getWord, putWord}
-use Rattle.rules.specs.State.{SetRecord, State, Term, fileCount, hole, marked, pageCount, setCount, stored, unmapped}
+use Rattle.rules.specs.State.{SetRecord, State, fileCount, hole, marked, pageCount, setCount, stored, unmapped}
 use Rattle.tables.proofs.ReadParts.{read-blocks, read-map, read-next, read-set, read-size, read-state}
-use Rattle.tables.specs.Layout.{entryWord, fileAt, headerAt, readBlocks, readEntry, readNext, readSet, readSize, readState, readTerm, setAt, stateNumber, stateOf, termAt, writeEntry, writeHead, writeHeader, writeTerm}
+use Rattle.tables.specs.Layout.{entryWord, fileAt, headerAt, readBlocks, readEntry, readNext, readSet, readSize, readState, readTerm, setAt, stateNumber, stateOf, termAt, writeEntry, writeHead, writeHeader}
 use Rattle.tables.specs.Packed.{unpack}
 
 -- ---- an entry
@@ -116,11 +116,6 @@ module _ (w v : ℕ) where
 -- LAW: the set record that the code reads
 pub set-read : (t : List ℕ) (s w v : ℕ) → s < setCount → (w ≡ getWord 2 t (setAt s)) × (w < 16777216) → v ≡ getWord 3 t (termAt s) → setFields w v ≡ unpack t .sets s
 set-read t s w v hs h k = set-fields w v (h .1) ∙ ap₂ readSet (h .0) k ∙ sym (read-set t s hs)
-
--- LAW: the word of a term that the code makes
-pub term-word : (x : Term) → x .firstDay * 65536 + x .endDay ≡ writeTerm x
-unfolding writeTerm
-term-word x = omega arith
 
 -- ---- the header
 

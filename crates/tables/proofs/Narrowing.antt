@@ -5,16 +5,16 @@ use mathlib.Core.Path.{_≡_, ap, refl, sym, _∙_}
 use Prim.Native.Nat.{_%_, _+_, _-_, _/_, _<_, ℕ}
 use native.Mathlib.Omega.{arith}
 use lib.Dec.{ltb}
-use lib.ListN.{List·getD-eq-default, getD, length}
-use borrow.Author.Tests.{le-ltb, lt-ltb, ltb-false, ltb-true}
+use lib.ListN.{getD, length}
+use borrow.Author.Tests.{le-ltb, lt-ltb}
 use Rattle.base.specs.Logic.{test?}
 use Rattle.base.specs.Tabulate.{getD-tab, length-tab, tab}
-use Rattle.packing.specs.Words.{Bytes, byte, bytes-word, word-byte}
+use Rattle.packing.specs.Words.{Bytes, byte, word-byte}
 use Rattle.rules.specs.State.{SetRecord, noTerm, setCount, unusedSet}
 use Rattle.rules.specs.Terms.{defaultTerm, lastEnd}
 use Rattle.tables.proofs.PackUnpack.{term-again}
 use Rattle.tables.proofs.ReadParts.{read-set}
-use Rattle.tables.proofs.Widening.{used-is, widened-formed, widened-packs}
+use Rattle.tables.proofs.Widening.{tab-bytes, used-is, widened-formed, widened-packs, word-moved}
 use Rattle.tables.specs.Convert.{Widened, oldFilesAt, oldSetAt, oldSetWord, oldTableBytes, oldUnpack, oldWellFormed}
 use Rattle.tables.specs.Layout.{allFilesBytes, filesAt, readSet, setAt, setWord, setsAt, termAt, termWord, treeBytes, writeTerm}
 use Rattle.tables.specs.Packed.{pack, unpack, wellFormed}
@@ -56,18 +56,16 @@ module _ (t : List ℕ) where
       at (oldFilesAt + i) (omega arith) ∙ rw (le-ltb (oldFilesAt + i) setsAt (omega arith), le-ltb (oldFilesAt + i) oldFilesAt (omega arith), a)
 
   pub narrowed-bytes : Bytes t → Bytes (narrowed t)
-  narrowed-bytes bs i = test? (ltb i oldTableBytes)
-      (λ e. rw (at i (ltb-true i oldTableBytes e)) (test? (ltb i setsAt) (λ a. rw a (bs i))
-      (λ a. test? (ltb i oldFilesAt) (λ b. rw (a, b) (bs _)) (λ b. rw (a, b) (bs _)))))
-      (λ e. let l = ltb-false i oldTableBytes e in
-      let z : getD (narrowed t) i 0 ≡ 0 = List·getD-eq-default (narrowed t) 0 (omega (arith, l, narrowed-length)) in rw z (omega arith))
+  unfolding narrowed
+  narrowed-bytes bs = tab-bytes oldTableBytes (narrowedByte t) (λ i. test? (ltb i setsAt) (λ a. rw a (bs i))
+      (λ a. test? (ltb i oldFilesAt) (λ b. rw (a, b) (bs _)) (λ b. rw (a, b) (bs _))))
 
 -- ---- tables whose terms are the default ones
 
 module _ (t : List ℕ) (bs : Bytes t) (n : ℕ) (p : PackedTables t) (blank : (s : ℕ) → unpack t .sets s .used ≡ false → unpack t .sets s ≡ unusedSet)
     (default : (s : ℕ) → unpack t .sets s .used ≡ true → unpack t .sets s .term ≡ defaultTerm) where
   word-is : (s : ℕ) → s < setCount → oldSetWord (narrowed t) s ≡ setWord t s
-  word-is s h = bytes-word 2 (narrowed t) (oldSetAt s) (setWord t s) (λ j k. tree-is t s j h (omega arith) ∙ sym (word-byte 2 t (setAt s) j bs k))
+  word-is s h = word-moved t (narrowed t) bs 2 (oldSetAt s) (setAt s) (λ j k. tree-is t s j h (omega arith))
 
   used-same : (s : ℕ) → s < setCount → oldUnpack (narrowed t) .sets s .used ≡ unpack t .sets s .used
   unfolding readSet

@@ -1,13 +1,13 @@
 -- The calls on terms by their cases: tables not well formed, refused, accepted; and what a setting that is accepted has passed. Assumes nothing.
 use mathlib.Core.Bool.{Bool, _&&_, false, true}
-use mathlib.Core.List.{List, _∷_, []}
+use mathlib.Core.List.{List, []}
 use mathlib.Core.Path.{_≡_, ap, refl, sym, _∙_}
 use Prim.Native.Nat.{_<_, suc, zero, ℕ}
-use native.Mathlib.Omega.{arith}
 use lib.Dec.{ltb}
 use lib.ListN.{length}
 use borrow.Author.Tests.{lt-ltb, ltb-true, not-false}
 use Rattle.base.specs.Logic.{and-false, and-left, and-right}
+use Rattle.rules.proofs.Whole.Accepted.{pass}
 use Rattle.rules.specs.Calls.{viewOf}
 use Rattle.rules.specs.Numbers.{View, lowest, noCounts, refusal}
 use Rattle.rules.specs.State.{setCount}
@@ -55,19 +55,13 @@ pub record TermPassed (v : View) (s y m d k : ℕ) : Type 0 where
   pub exists : dateExists y m d ≡ true
   pub fits : countFits k ≡ true
 
--- the first condition does not apply, and those behind it do not either
-past-first : (b : Bool) (k : ℕ) (xs : List (Bool × ℕ)) → lowest ((b, suc k) ∷ xs) ≡ 0 → (b ≡ false) × (lowest xs ≡ 0)
-unfolding lowest
-past-first true k xs e = absurd (omega (arith, e))
-past-first false k xs e = (refl, e)
-
 pub term-passed : (v : View) (s y m d k : ℕ) → lowest (setTermConditions v s y m d k) ≡ 0 → TermPassed v s y m d k
 unfolding setTermConditions
 term-passed v s y m d k e =
-    let a = past-first _ 0 _ e in
-    let b = past-first _ 1 _ (a .1) in
-    let c = past-first _ 13 _ (b .1) in
-    let f = past-first _ 14 _ (c .1) in
+    let a = pass _ 0 _ e in
+    let b = pass _ 1 _ (a .1) in
+    let c = pass _ 13 _ (b .1) in
+    let f = pass _ 14 _ (c .1) in
     let u = not-false (ltb s setCount && v .tree .used s) (b .0) in
     record {
       formed = not-false (v .formed) (a .0);
@@ -110,6 +104,6 @@ module _ (s day : ℕ) (t p : List ℕ) where
 pub current-passed : (v : View) (s : ℕ) → lowest (currentConditions v s) ≡ 0 → s < setCount
 unfolding currentConditions
 current-passed v s e =
-    let a = past-first _ 0 _ e in
-    let b = past-first _ 1 _ (a .1) in
+    let a = pass _ 0 _ e in
+    let b = pass _ 1 _ (a .1) in
     ltb-true s setCount (and-left (ltb s setCount) (v .tree .used s) (not-false (ltb s setCount && v .tree .used s) (b .0)))

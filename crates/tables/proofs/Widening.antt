@@ -27,6 +27,17 @@ use Rattle.tables.specs.Convert.{Widened, convertOn, oldEntryAt, oldEntr
 use Rattle.tables.specs.Layout.{bitmapAt, entryAt, entryBytes, entryWord, fileAt, fileBytes, filesAt, headBytes, headWidths, headWord, headerAt, headerWidths, headerWord, readBlocks, readNext, readSet, readTerm, setAt, setBytes, setWidths, setWord, setsAt, tableBytes, termAt, termWord, treeBytes}
 use Rattle.tables.specs.Packed.{blockRules, entryFormed, fieldsFormed, isFile, isPage, kindsFormed, pack, setRules, unpack, wellFormed}
 
+-- a word whose bytes stand at another place of another list
+pub word-moved : (t t′ : List ℕ) → Bytes t → (m a b : ℕ) → ((j : ℕ) → j ≤ m → getD t′ (a + j) 0 ≡ getD t (b + j) 0) → getWord m t′ a ≡ getWord m t b
+word-moved t t′ bs m a b h = bytes-word m t′ a (getWord m t b) (λ j k. h j k ∙ sym (word-byte m t b j bs k))
+
+-- a list made of bytes
+pub tab-bytes : (n : ℕ) (f : ℕ → ℕ) → ((i : ℕ) → f i < 256) → Bytes (tab n f)
+tab-bytes n f h i = test? (ltb i n)
+    (λ e. rw (getD-tab n f i 0 (ltb-true i n e)) (h i))
+    (λ e. let l = ltb-false i n e in
+    let z : getD (tab n f) i 0 ≡ 0 = List·getD-eq-default (tab n f) 0 (omega (arith, length-tab n f)) in rw z (omega arith))
+
 -- ---- the new tables of old ones
 
 abbrev usedIn : List ℕ → ℕ → Bool
@@ -79,14 +90,11 @@ module _ (t : List ℕ) where
 
   pub widened-bytes : Bytes t → Bytes (widened t)
   unfolding widened
-  widened-bytes bs i = test? (ltb i tableBytes)
-      (λ e. rw (at i (ltb-true i tableBytes e)) (test? (ltb i setsAt)
+  widened-bytes bs = tab-bytes tableBytes (widenedByte t) (λ i. test? (ltb i setsAt)
       (λ a. rw a (bs i))
       (λ a. test? (ltb i filesAt)
       (λ b. rw (a, b) (test? (ltb ((i - setsAt) % setBytes) treeBytes) (λ c. rw c (bs _)) (λ c. rw c (term-byte (usedIn t ((i - setsAt) / setBytes)) _))))
-      (λ b. rw (a, b) (bs _)))))
-      (λ e. let l = ltb-false i tableBytes e in
-      let z : getD (widened t) i 0 ≡ 0 = List·getD-eq-default (widened t) 0 (omega (arith, length-tab tableBytes (widenedByte t))) in rw z (omega arith))
+      (λ b. rw (a, b) (bs _))))
 
 -- ---- which sets are used
 
@@ -105,25 +113,21 @@ module _ (t : List ℕ) where
 -- ---- the words
 
 module _ (t t′ : List ℕ) (bs : Bytes t) (w : Widened t t′) where
-  -- a word whose bytes stand at another place
-  moved : (m a b : ℕ) → ((j : ℕ) → j ≤ m → getD t′ (a + j) 0 ≡ getD t (b + j) 0) → getWord m t′ a ≡ getWord m t b
-  moved m a b h = bytes-word m t′ a (getWord m t b) (λ j k. h j k ∙ sym (word-byte m t b j bs k))
-
   header-is : headerWord t′ ≡ headerWord t
-  header-is = moved 3 headerAt headerAt (λ j k. w .front (headerAt + j) (omega arith))
+  header-is = word-moved t t′ bs 3 headerAt headerAt (λ j k. w .front (headerAt + j) (omega arith))
 
   bit-is : (b : ℕ) → b < largestBlocks → bitAt t′ bitmapAt b ≡ bitAt t bitmapAt b
   unfolding bitAt
   bit-is b h = rw (w .front (bitmapAt + b / 8) (omega arith))
 
   set-is : (s : ℕ) → s < setCount → setWord t′ s ≡ oldSetWord t s
-  set-is s h = moved 2 (setAt s) (oldSetAt s) (λ j k. w .tree s j h (omega arith))
+  set-is s h = word-moved t t′ bs 2 (setAt s) (oldSetAt s) (λ j k. w .tree s j h (omega arith))
 
   term-is : (s : ℕ) → s < setCount → termWord t′ s ≡ cond (usedIn t s) lastEnd 0
   term-is s h = bytes-word 3 t′ (termAt s) _ (λ j k. w .term s j h (omega arith))
 
   record-is : (m f s i : ℕ) → f < fileCount → s < setCount → i + m < fileBytes → getWord m t′ (fileAt f s + i) ≡ getWord m t (oldFileAt f s + i)
-  record-is m f s i hf hs h = moved m (fileAt f s + i) (oldFileAt f s + i) (λ j k.
+  record-is m f s i hf hs h = word-moved t t′ bs m (fileAt f s + i) (oldFileAt f s + i) (λ j k.
       let n = (s * fileCount + f) * fileBytes + i + j in
       let a : fileAt f s + i + j ≡ filesAt + n = omega arith in
       let b : oldFilesAt + n ≡ oldFileAt f s + i + j = omega arith in

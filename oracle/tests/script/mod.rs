@@ -6,8 +6,23 @@
 use oracle::bench::{Bench, NoOther};
 use oracle::call::*;
 use oracle::check::is_well_formed;
+use oracle::lent::Lending;
 use oracle::state::*;
 use oracle::store;
+
+/// A line of a script, the numbers that its call is told, and the buffers it is lent.
+pub type Named = (&'static str, &'static [u32], &'static [(Buffer, Lending)]);
+
+/// The call of such a line, which stands at a place of the names.
+pub fn call_at(place: usize, (line, numbers, lent): Named) -> Call {
+    let Item::Call(call) = Item::parse(line).unwrap() else { unreachable!() };
+    assert_eq!((call.index(), call.to_string().as_str()), (place, line));
+    assert_eq!(CALL_NAMES[place], line.split(' ').next().unwrap());
+    assert_eq!(&call.numbers()[..numbers.len()], numbers);
+    let found: Vec<_> = call.row().lent().map(|b| (b, call.row().lends(b))).collect();
+    assert_eq!(found, lent, "{line}");
+    call
+}
 
 pub struct Store(pub Bench);
 

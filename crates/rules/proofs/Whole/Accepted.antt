@@ -15,7 +15,7 @@ use Rattle.rules.specs.State.{isAbsent, live}
 use Rattle.rules.specs.Storage.{Memory, real}
 
 -- the first condition does not apply, nor does one of the others
-pass : (b : Bool) (n : ℕ) (xs : List (Bool × ℕ)) → lowest ((b, suc n) ∷ xs) ≡ 0 → (b ≡ false) × (lowest xs ≡ 0)
+pub pass : (b : Bool) (n : ℕ) (xs : List (Bool × ℕ)) → lowest ((b, suc n) ∷ xs) ≡ 0 → (b ≡ false) × (lowest xs ≡ 0)
 unfolding lowest
 pass true n xs h = absurd (omega arith)
 pass false n xs h = (refl, h)

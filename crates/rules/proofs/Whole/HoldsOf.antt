@@ -1,9 +1,9 @@
 -- A STORE IN ORDER THAT AGREES with a plain store and a tally, and is zero past the sizes, keeps the invariant with them, whatever calls led to it; and what keeps the
 -- invariant is zero past the sizes. Assumes nothing.
-use mathlib.Core.Bool.{false, true, true≢false}
+use mathlib.Core.Bool.{true}
 use mathlib.Core.List.{List}
 use mathlib.Core.Option.{some}
-use mathlib.Core.Path.{_≡_, refl, sym, _∙_}
+use mathlib.Core.Path.{_≡_, sym, _∙_}
 use Prim.Native.Nat.{_<_, ℕ}
 use native.Mathlib.Omega.{arith}
 use lib.Dec.{ltb}
@@ -12,7 +12,7 @@ use borrow.Author.Tests.{ltb-false, ltb-true}
 use Rattle.base.specs.Logic.{test?}
 use Rattle.rules.proofs.Agreement.Agree.{Agree}
 use Rattle.rules.proofs.Agreement.AgreeCalls.{has-list}
-use Rattle.rules.proofs.Steps.States.{live-present}
+use Rattle.rules.proofs.Steps.States.{live-present, live-unmarked}
 use Rattle.rules.proofs.Steps.WriterSteps.{bytes}
 use Rattle.rules.proofs.Storages.CountCalls.{countOf, modelOf}
 use Rattle.rules.proofs.Tally.TallyNumbers.{Tallies}
@@ -23,16 +23,9 @@ use Rattle.rules.specs.Agreement.{Agrees, ZeroPast}
 use Rattle.rules.specs.Calls.{Store, byteByReading, treeIn}
 use Rattle.rules.specs.Plain.{Plain}
 use Rattle.rules.specs.Reading.{sizeByReading}
-use Rattle.rules.specs.State.{State, isMarked, live, absent, marked, own, virgin}
+use Rattle.rules.specs.State.{live}
 use Rattle.rules.specs.Storage.{real}
 use Rattle.rules.specs.Tally.{Tally}
-
--- own or virgin is not marked
-live-unmarked : (l : State) → live l ≡ true → isMarked l ≡ false
-live-unmarked absent h = absurd (true≢false (sym h))
-live-unmarked own h = refl
-live-unmarked virgin h = refl
-live-unmarked marked h = absurd (true≢false (sym h))
 
 module _ (B : ℕ) (r : Store real) (pl : Plain) (ta : Tally) where
   module _ (a : Agrees r pl ta) where
