@@ -1,4 +1,5 @@
 -- The claims. Assumes nothing.
+use Rattle.history.proofs.Compaction.{compaction, compaction-refused}
 use Rattle.history.proofs.Conversion.{conversion, every-store, goes-on}
 use Rattle.history.proofs.Demand3.{demand3}
 use Rattle.history.proofs.Events.{listed-run}
@@ -38,4 +39,6 @@ claims = record {
   goes-on = goes-on;
   conversion = conversion;
   every-store = every-store;
+  compaction = compaction;
+  compaction-refused = compaction-refused;
 }

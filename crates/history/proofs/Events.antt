@@ -8,11 +8,13 @@ use Rattle.history.proofs.CallImage.{after-image, gave-image, marks-ima
 use Rattle.history.proofs.Image.{image-store, imageOf}
 use Rattle.history.specs.Demand3.{MarksRightly}
 use Rattle.history.proofs.Panel.{afterAny, write-image}
-use Rattle.history.specs.Events.{Event, check, checkBlocks, convert, current, eventOn, eventsOn, gaveAll, gaveBy, listOf, listed, listedAll, panelLine, panelRead, panelReset, panelWrite, runs, runsAll, setTerm}
+use Rattle.history.specs.Events.{Event, check, checkBlocks, compact, convert, current, eventOn, eventsOn, gaveAll, gaveBy, listOf, listed, listedAll, panelLine, panelRead, panelReset, panelWrite, runs, runsAll, setTerm}
 use Rattle.history.specs.Image.{Held, Image, after, gave, withImage}
+use Rattle.history.proofs.Compacting.{compacting}
 use Rattle.history.proofs.TermSet.{left}
 use Rattle.rules.proofs.Storages.CountCalls.{modelOf}
 use Rattle.rules.proofs.Storages.MapBlocks.{mapFiles}
+use Rattle.rules.proofs.Storages.Model.{model}
 use Rattle.rules.proofs.Whole.Holds.{Holds, holds-quiet, holds-step}
 use Rattle.rules.proofs.Whole.HoldsMeans.{given-step}
 use Rattle.rules.proofs.Whole.HoldsRun.{both-append, given-append}
@@ -90,6 +92,9 @@ module _ (B : ℕ) (least : 1 ≤ B) (most : B ≤ 4096) where
         subst (Goes r none) (sym (x .image)) (quiet-goes (x .store) (x .order) (λ f c. ap (λ (g : ℕ → Files ℕ). g f c .state) (x .files)))
     event-goes (current s day) rs = look-goes
     event-goes (convert old second) rs = subst (λ (p : List ℕ). Goes r none (record { tables = imageOf r .tables; pages = p })) (sym (convert-pages old (imageOf r .pages) second)) look-goes
+    event-goes (compact spare free) rs =
+        let x = compacting B most r o spare free in
+        subst (Goes r none) (sym (x .image)) (quiet-goes (x .store) (x .order) (λ f c. ap (λ (m : Store model). m .files f c .state) (x .model)))
 
   -- a store that agrees with plain store and tally goes to the image of one that does, the call o being run, if any
   pub record Kept (pl : Plain) (ta : Tally) (o : Option Call) (m : Image) : Type 0 where
@@ -131,6 +136,10 @@ module _ (B : ℕ) (least : 1 ≤ B) (most : B ≤ 4096) where
     event-kept (current s day) rs = look-kept
     event-kept (convert old second) rs =
         subst (λ (p : List ℕ). Kept pl ta none (record { tables = imageOf r .tables; pages = p })) (sym (convert-pages old (imageOf r .pages) second)) look-kept
+    event-kept (compact spare free) rs =
+        let x = compacting B most r (v .order) spare free in
+        subst (Kept pl ta none) (sym (x .image))
+        (quiet-kept (x .store) (x .order) (ap (λ (m : Store model). treeIn model m) (x .model)) (λ f. ap (λ (m : Store model). m .files f) (x .model)) (ap (λ (m : Store model). m .memory) (x .model)))
 
     -- what the call that is run gives is what plain store and tally give
     pub call-given : (c : Call) → gave c (imageOf r) ≡ bothGive B c pl ta

@@ -14,7 +14,7 @@ use borrow.Author.Tests.{eq-eqb, eqb-false, eqb-true, ltb-false}
 use Rattle.base.specs.Count.{all, all-at}
 use Rattle.base.specs.Logic.{and-left, and-right, digit, same?, test?}
 use Rattle.base.specs.Update.{upd, upd-other, upd-same}
-use Rattle.history.specs.Events.{Event, check, checkBlocks, convert, current, eventOn, eventsOn, listed, panelLine, panelRead, panelReset, panelWrite, runs, setTerm}
+use Rattle.history.specs.Events.{Event, check, checkBlocks, compact, convert, current, eventOn, eventsOn, listed, panelLine, panelRead, panelReset, panelWrite, runs, setTerm}
 use Rattle.history.specs.Image.{Held, Image, gave}
 use Rattle.history.specs.Panel.{FromReset, FromResetClaim, Since, clearedBy, commandGiven, justReset, sinceAfter, sinceOf, wroteAt}
 use Rattle.packing.specs.Bitmap.{isOne}
@@ -359,6 +359,7 @@ event-stands panelLine x h s = subst (Stands x) (sym (line-same (h .registers)))
 event-stands (setTerm t y m d k) x h s = s
 event-stands (current t day) x h s = s
 event-stands (convert old second) x h s = s
+event-stands (compact spare free) x h s = s
 
 events-stand : (es : List Event) (x : Since) (h : Held) → Stands x (h .registers) → Stands (sinceOf es h x) (eventsOn es h .registers)
 unfolding eventsOn sinceOf

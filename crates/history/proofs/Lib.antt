@@ -2,11 +2,13 @@ pub mod Image
 pub mod CallImage
 pub mod Panel
 pub mod TermSet
+pub mod Compacting
 pub mod Events
 pub mod Formed
 pub mod Demand3
 pub mod Conversion
 pub mod TermAside
+pub mod Compaction
 pub mod Others
 pub mod FromReset
 pub mod RoomExamples

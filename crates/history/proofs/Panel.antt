@@ -5,7 +5,7 @@ use mathlib.Core.List.{_++_, List, append-assoc, _∷_, []}
 use Prim.Native.Nat.{ℕ}
 use lib.Dec.{eqb}
 use Rattle.base.specs.Logic.{test?}
-use Rattle.history.specs.Events.{Event, check, checkBlocks, convert, current, eventOn, eventsOn, gaveAll, gaveBy, listOf, listed, listedAll, panelLine, panelRead, panelReset, panelWrite, runs, runsAll, setTerm}
+use Rattle.history.specs.Events.{Event, check, checkBlocks, compact, convert, current, eventOn, eventsOn, gaveAll, gaveBy, listOf, listed, listedAll, panelLine, panelRead, panelReset, panelWrite, runs, runsAll, setTerm}
 use Rattle.history.specs.Image.{Held, Image, after, gave, withImage, withRegisters}
 use Rattle.history.specs.Panel.{CountsClaim, directly, directlyAll}
 use Rattle.rules.specs.Numbers.{Call}
@@ -98,6 +98,7 @@ direct-on (setTerm s y m d k) h q = refl
 direct-on (current s day) h q = refl
 direct-on (convert old second) h q =
     ap (λ (p : List ℕ). record { image = record { tables = h .image .tables; pages = p }; registers = q }) (sym (convert-pages old (h .image .pages) second))
+direct-on (compact spare free) h q = refl
 
 direct-runs : (e : Event) (h : Held) (q : List ℕ) → runsAll (directly e h) (withRegisters q h) ≡ listOf (runs e h)
 unfolding runsAll
@@ -111,6 +112,7 @@ direct-runs panelLine h q = refl
 direct-runs (setTerm s y m d k) h q = refl
 direct-runs (current s day) h q = refl
 direct-runs (convert old second) h q = refl
+direct-runs (compact spare free) h q = refl
 
 direct-gave : (e : Event) (h : Held) (q : List ℕ) → gaveAll (directly e h) (withRegisters q h) ≡ listOf (gaveBy (runs e h) (h .image))
 unfolding gaveAll
@@ -124,6 +126,7 @@ direct-gave panelLine h q = refl
 direct-gave (setTerm s y m d k) h q = refl
 direct-gave (current s day) h q = refl
 direct-gave (convert old second) h q = refl
+direct-gave (compact spare free) h q = refl
 
 -- ---- lists of events
 

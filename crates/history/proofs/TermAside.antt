@@ -1,13 +1,11 @@
 -- What setting a term leaves of any well-formed bytes: the set is current by the term that was set, and nothing else depends on it. Assumes nothing.
 use mathlib.Core.Bool.{true}
-use mathlib.Core.List.{_++_, List}
-use mathlib.Core.Option.{none}
+use mathlib.Core.List.{List}
 use mathlib.Core.Path.{_≡_, ap, refl, subst, sym, _∙_}
-use Prim.Native.Nat.{_%_, _+_, _/_, _<_, suc, zero, ℕ, _≤_}
+use Prim.Native.Nat.{_<_, suc, zero, ℕ, _≤_}
 use native.Mathlib.Omega.{arith}
-use lib.ListN.{drop, length}
+use lib.ListN.{length}
 use borrow.Author.Tests.{lt-ltb}
-use Rattle.base.specs.Tabulate.{tab}
 use Rattle.base.specs.Update.{upd-other, upd-same}
 use Rattle.history.proofs.CallImage.{gave-image}
 use Rattle.history.proofs.Formed.{of-image}
@@ -15,64 +13,18 @@ use Rattle.history.proofs.Image.{image-formed, image-store, imageOf}
 use Rattle.history.proofs.TermSet.{new-image, new-order, newStore, set-low, set-used}
 use Rattle.history.specs.Image.{Image, gave}
 use Rattle.history.specs.Terms.{TermSet, TermSetClaim, termSet}
-use Rattle.rules.proofs.Storages.CountCalls.{countOf, modelOf}
-use Rattle.rules.proofs.Tally.TallyNumbers.{tallyOf}
 use Rattle.rules.proofs.Terms.TermSet.{term-tree}
-use Rattle.rules.proofs.Whole.Order.{InOrder, answer-tally}
-use Rattle.rules.specs.Agreement.{bufferOf, front, storeGive}
-use Rattle.rules.specs.Calls.{Store, blankMemory, byteByReading, readCount, readInto, step, viewOf}
-use Rattle.rules.specs.Numbers.{Answer, Call, Look, bytesAsked, lookOf, lowest, noCounts, noneAsked, refusal, sizeAsked}
-use Rattle.rules.specs.Plain.{Plain}
-use Rattle.rules.specs.Reading.{resolve, sizeByReading}
-use Rattle.rules.specs.Rules.{pageOf}
-use Rattle.rules.specs.State.{SetRecord, Term, Tree, setCount, treeOf}
+use Rattle.rules.proofs.Whole.Order.{InOrder}
+use Rattle.rules.proofs.Whole.Quiet.{gives-quiet}
+use Rattle.rules.specs.Calls.{Store, viewOf}
+use Rattle.rules.specs.Numbers.{Answer, Call, lowest, noCounts, refusal}
+use Rattle.rules.specs.State.{SetRecord, Term, setCount}
 use Rattle.rules.specs.Storage.{real}
-use Rattle.rules.specs.Tally.{Tally}
 use Rattle.rules.specs.Terms.{isCurrent, termFrom}
 use Rattle.tables.proofs.TermCalls.{current-told, currentIn, term-refused, termIn}
 use Rattle.tables.specs.Calls.{Outcome, storeOf}
 use Rattle.tables.specs.Packed.{unpack, wellFormed}
 use Rattle.tables.specs.Terms.{currentConditions, currentOn, setTermOn, toldOrRefused}
-
--- ---- a call gives the same on two stores in order that differ in their set records alone, and not in their tree
-
-module _ (B : ℕ) (least : 1 ≤ B) (r : Store real) (sets : ℕ → SetRecord) (tree : treeOf sets ≡ treeOf (r .sets)) where
-  abbrev r′ : Store real
-  r′ = record { memory = r .memory; sets = sets; files = r .files }
-
-  module _ (o : InOrder B r) (o′ : InOrder B r′) (c : Call) where
-    abbrev ta : Tally
-    ta = tallyOf (countOf (modelOf r))
-
-    abbrev pl : Plain
-    pl = record { tree = treeOf (r .sets); files = λ f s. none }
-
-    answers-same : step real (blankMemory B) c r′ .answer ≡ step real (blankMemory B) c r .answer
-    answers-same =
-        answer-tally B least r′ o′ c pl ta (record { tree = sym tree; files = λ f. refl; free = refl }) refl
-        ∙ sym (answer-tally B least r o c pl ta (record { tree = refl; files = λ f. refl; free = refl }) refl)
-
-  -- the bytes of a read by the tree
-  abbrev readBy : Tree → ℕ → ℕ → ℕ → List ℕ → List ℕ
-  readBy t s f off buffer =
-      let n : ℕ = readCount (length buffer) off (sizeByReading t (r .files f) s) in
-      tab n (λ i. pageOf real (r .memory) (resolve t (r .files f) s ((off + i) / 512)) ((off + i) % 512)) ++ drop n buffer
-
-  reads-same : (s f off : ℕ) (buffer : List ℕ) → readInto r′ s f off buffer ≡ readInto r s f off buffer
-  unfolding readInto byteByReading
-  reads-same s f off buffer = ap (λ (t : Tree). readBy t s f off buffer) tree
-
-  buffers-same : (k : Look) (n : ℕ) → bufferOf k n r′ ≡ bufferOf k n r
-  unfolding bufferOf
-  buffers-same (bytesAsked s f off buffer) zero = reads-same s f off buffer
-  buffers-same (bytesAsked s f off buffer) (suc n) = refl
-  buffers-same (sizeAsked s f) n = refl
-  buffers-same noneAsked n = refl
-
-  gives-same : InOrder B r → InOrder B r′ → (c : Call) → storeGive B c r′ ≡ storeGive B c r
-  gives-same o o′ c =
-      let e = answers-same o o′ c in
-      λ i. record { answer = e i; bytes = front c (e i) (buffers-same (lookOf c) (e i .number) i) }
 
 -- a used set may be asked for
 not-refused : (st : Store real) (s : ℕ) → s < setCount → st .sets s .used ≡ true → 0 ≡ lowest (currentConditions (viewOf real true true st) s)
@@ -132,7 +84,7 @@ module _ (B : ℕ) (least : 1 ≤ B) (most : B ≤ 4096) (r : Store real) (o : I
     aside : (c : Call) → gave c (imageOf new) ≡ gave c (imageOf r)
     aside c =
         gave-image B least most new order c
-        ∙ gives-same B least r (new .sets) (term-tree (r .sets) s (termFrom y m d k)) o order c
+        ∙ gives-quiet B least r new (term-tree (r .sets) s (termFrom y m d k)) (λ f. refl) refl o order c
         ∙ sym (gave-image B least most r o c)
 
     pub set-leaves : TermSet (imageOf r) s y m d k

@@ -3,6 +3,7 @@ use mathlib.Core.Bool.{true}
 use mathlib.Core.List.{List}
 use mathlib.Core.Path.{_≡_}
 use lib.ListN.{length}
+use Rattle.history.specs.Compaction.{CompactionClaim, CompactionRefusedClaim}
 use Rattle.history.specs.Conversion.{ConversionClaim, EveryStoreClaim, GoesOnClaim}
 use Rattle.history.specs.Demand3.{Demand3Claim, MarksThroughout}
 use Rattle.history.specs.Events.{Event, eventsOn, listedAll, runsAll}
@@ -53,3 +54,6 @@ pub record Claims : Type 0 where
   pub goes-on : GoesOnClaim
   pub conversion : ConversionClaim
   pub every-store : EveryStoreClaim
+  -- document 02, Ask 9: what a compaction does and leaves, and when it is refused
+  pub compaction : CompactionClaim
+  pub compaction-refused : CompactionRefusedClaim

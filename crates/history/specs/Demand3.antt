@@ -11,6 +11,7 @@
 -- on a file so marked, or its set is then made from one where it is marked: read off the bytes before and after.
 -- And a command of the front panel shows in the registers what plain store and tally give to the call that it runs.
 -- And past its size every own or virgin file reads as zeros, so that nothing shows when it grows.
+-- A compaction in the list (document 02, Ask 9) runs none of the ten, and may leave anything in free pages.
 --
 -- The numbers of the fields are those of docs/PROMISES.md, "Demand 3, in plain words".
 use mathlib.Core.Bool.{false, true}

@@ -4,6 +4,7 @@
 use mathlib.Core.List.{_++_, List, _∷_, []}
 use mathlib.Core.Option.{Option, none, some}
 use Prim.Native.Nat.{ℕ}
+use Rattle.compaction.specs.Call.{Free, compactOn}
 use Rattle.history.specs.Image.{Held, Image, after, gave, heldLeft, imageLeft, withImage, withRegisters}
 use Rattle.rules.specs.Agreement.{Given}
 use Rattle.rules.specs.Numbers.{Call}
@@ -29,6 +30,8 @@ pub data Event : Type 0 where
   setTerm : ℕ → ℕ → ℕ → ℕ → ℕ → Event
   current : ℕ → ℕ → Event
   convert : List ℕ → List ℕ → Event
+  -- document 02, Ask 9: a compaction has its spare page, and what free pages and spare page hold afterwards, which may be anything
+  compact : List ℕ → Free → Event
 
 -- an event on tables, pages and registers
 abbrev pub eventOn : Event → Held → Held
@@ -42,6 +45,7 @@ eventOn panelLine h = withRegisters (panelLineOn (h .registers) .registers) h
 eventOn (setTerm s y m d k) h = withImage (imageLeft (setTermOn s y m d k (h .image .tables) (h .image .pages))) h
 eventOn (current s day) h = withImage (imageLeft (currentOn s day (h .image .tables) (h .image .pages))) h
 eventOn (convert old second) h = withImage (record { tables = h .image .tables; pages = convertOn old (h .image .pages) second .pages }) h
+eventOn (compact spare free) h = withImage (imageLeft (compactOn spare free (h .image .tables) (h .image .pages))) h
 
 -- the call of the ten that it runs there, if any: "Sequences through the panel count as the calls they run."
 abbrev pub runs : Event → Held → Option Call
@@ -55,6 +59,7 @@ runs panelLine h = none
 runs (setTerm s y m d k) h = none
 runs (current s day) h = none
 runs (convert old second) h = none
+runs (compact spare free) h = none
 
 -- a list of one or none
 abbrev pub listOf : {A : Type 0} → Option A → List A

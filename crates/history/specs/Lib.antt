@@ -6,4 +6,5 @@ pub mod Panel
 pub mod Room
 pub mod Terms
 pub mod Conversion
+pub mod Compaction
 pub mod Claims

@@ -8,7 +8,7 @@ use lib.Dec.{eqb, ltb}
 use lib.ListN.{getD, length}
 use Rattle.base.specs.Logic.{digit}
 use Rattle.base.specs.Update.{upd}
-use Rattle.history.specs.Events.{Event, check, checkBlocks, convert, current, eventOn, eventsOn, gaveAll, listOf, listed, listedAll, panelLine, panelRead, panelReset, panelWrite, runs, runsAll, setTerm}
+use Rattle.history.specs.Events.{Event, check, checkBlocks, compact, convert, current, eventOn, eventsOn, gaveAll, listOf, listed, listedAll, panelLine, panelRead, panelReset, panelWrite, runs, runsAll, setTerm}
 use Rattle.history.specs.Image.{Held, Image, gave}
 use Rattle.packing.specs.Bitmap.{isOne}
 use Rattle.packing.specs.Bits.{bit}
@@ -79,6 +79,7 @@ sinceAfter panelLine h x = x
 sinceAfter (setTerm s y m d k) h x = x
 sinceAfter (current s day) h x = x
 sinceAfter (convert old second) h x = x
+sinceAfter (compact spare free) h x = x
 
 unfoldable pub sinceOf : List Event → Held → Since → Since
 sinceOf [] h x = x
@@ -111,7 +112,7 @@ FromResetClaim =
     (h : Held) → length (h .registers) ≡ registerCount → (es : List Event)
     → FromReset (sinceOf (panelReset ∷ es) h justReset) (eventsOn (panelReset ∷ es) h .registers)
 
--- what an event does directly: the call of the ten that it runs, if any; the setting of a term is itself, since it runs none and changes tables
+-- what an event does directly: the call of the ten that it runs, if any; the setting of a term and a compaction are themselves, since they run none and change bytes
 abbrev pub directly : Event → Held → List Event
 directly (listed c) h = listed c ∷ []
 directly checkBlocks h = []
@@ -123,13 +124,15 @@ directly panelLine h = []
 directly (setTerm s y m d k) h = setTerm s y m d k ∷ []
 directly (current s day) h = []
 directly (convert old second) h = []
+directly (compact spare free) h = compact spare free ∷ []
 
 unfoldable pub directlyAll : List Event → Held → List Event
 directlyAll [] h = []
 directlyAll (e ∷ es) h = directly e h ++ directlyAll es (eventOn e h)
 
 -- "Sequences through the panel count as the calls they run": byte for byte, any list of events, direct calls among them, leaves the tables and pages that the calls
--- that it runs, and the terms that it sets, leave when they are made directly; these run the same calls and give the same. Of any bytes: no format is needed.
+-- that it runs, the terms that it sets and its compactions, each leaving the same in what is free, leave when they are made directly; these run the same calls and give the
+-- same. Of any bytes: no format is needed.
 abbrev pub CountsClaim : Type 0
 CountsClaim =
     (h : Held) (es : List Event) → let direct : List Event = directlyAll es h in

@@ -3,6 +3,7 @@ pub mod Accepted
 pub mod Order
 pub mod Holds
 pub mod HoldsMeans
+pub mod Quiet
 pub mod HoldsOf
 pub mod Compared
 pub mod OrderMarks
