@@ -5,3 +5,4 @@ pub mod Told
 pub mod Checked
 pub mod WorkedOn
 pub mod TermCases
+pub mod Compacting

@@ -2,6 +2,7 @@
 pub mod answer;
 pub mod changes;
 pub mod checks;
+pub mod compact;
 pub mod convert;
 pub mod format;
 pub mod looks;

@@ -26,7 +26,7 @@ use Rattle.packing.specs.Zeros.{zero-at, zeroBytes}
 use Rattle.rules.proofs.Blocks.Sums.{count-sum, sum-same, sum-zero}
 use Rattle.rules.specs.State.{isStored, isUnmapped, unmapped}
 use Rattle.rules.specs.WellFormed.{blockBelow, names}
-use Rattle.tables.proofs.Codes.{word-hole, word-stored, word-unmapped}
+use Rattle.tables.proofs.Codes.{formed-three, word-hole, word-stored, word-unmapped}
 use Rattle.tables.specs.Layout.{readEntry}
 use Rattle.tables.specs.Packed.{entryFormed}
 use Rattle.entrycheck.specs.declared.seeing.Masks.{Masks}
@@ -45,9 +45,6 @@ formed-low w h e =
 
 formed-stored : (w : ℕ) → 32768 ≤ w → w < 49152 → entryFormed [] w ≡ true
 formed-stored w l h = rw (lt-ltb (w / 16384) 3 (omega arith), eq-eqb (w / 16384) 2 (omega arith))
-
-formed-three : (w : ℕ) → 49152 ≤ w → entryFormed [] w ≡ false
-formed-three w l = rw (le-ltb (w / 16384) 3 (omega arith))
 
 below-low : (limit w : ℕ) → w < 32768 → blockBelow limit (readEntry w) ≡ true
 below-low limit w h =
@@ -74,7 +71,7 @@ module _ (limit w : ℕ) where
 
   -- LAW: nor does one of kind 3
   not-three : 49152 ≤ w → goodWord limit w ≡ true → ⊥
-  not-three h g = true≢false (sym (and-left (entryFormed [] w) (blockBelow limit (readEntry w)) g) ∙ formed-three w h)
+  not-three h g = true≢false (sym (and-left (entryFormed [] w) (blockBelow limit (readEntry w)) g) ∙ formed-three [] w h)
 
   -- LAW: one with a plain block and not of kind 3 does, where its block is below the limit
   is-good : w < 49152 → plain w ≡ true → (isOne (w / 32768) ≡ true → w % 4096 < limit) → goodWord limit w ≡ true

@@ -17,7 +17,7 @@ pub enum Found {
     Nothing,
 }
 
-fn bit_at(t: &[u8], at: usize, b: usize) -> bool
+pub fn bit_at(t: &[u8], at: usize, b: usize) -> bool
     requires { ⌜ at + b / 8 < length (now t) ⌝ }
     ensures { λ r. ⌜ r ≡ bitAt (now (t .entry)) at b ⌝ }
 {

@@ -1,6 +1,6 @@
 // The exported calls, as include/sweep.h declares them. C sees a slice as a pointer and a length. None asks anything of its
-// arguments; each contract is one equation for the number, the counts and every byte of tables, pages, read buffer and
-// registers.
+// arguments; each contract is one equation for the number, the counts and every byte of tables, pages, read buffer,
+// registers and spare page.
 ghost use mathlib.Core.Bool.{not};
 ghost use mathlib.Core.List.{[]};
 ghost use mathlib.Core.Path.{_≡_};
@@ -12,6 +12,7 @@ ghost use Rattle.tables.specs.Convert.{convertOn};
 ghost use Rattle.tables.specs.Panel.{panelLineOn, panelReadOn, panelResetOn, panelWriteOn};
 ghost use Rattle.tables.specs.Terms.{currentOn, setTermOn};
 ghost use Rattle.calls.specs.Outcomes.{outcome};
+ghost use Rattle.compaction.specs.Call.{compactOn, freeIn};
 ghost use Rattle.panel.specs.Outcomes.{panelOutcome};
 use calls::answer::Answer;
 
@@ -208,4 +209,13 @@ pub extern "C" fn sweep_convert(old: &[u8], pages: &[u8], tables: &mut [u8]) -> 
     ensures { λ r. ⌜ outcome r (now (tables .exit)) (now (pages .entry)) [] ≡ convertOn (now (old .entry)) (now (pages .entry)) (now (tables .entry)) ⌝ }
 {
     calls::convert::convert(old, pages, tables)
+}
+
+// Blocks pulled together, through a spare page. Every byte of the tables and of the pages in used blocks is fixed; what the
+// free pages and the spare page hold afterwards is named as free.
+#[no_mangle]
+pub extern "C" fn sweep_compact(tables: &mut [u8], pages: &mut [u8], spare: &mut [u8]) -> Answer
+    ensures { λ r. ⌜ outcome r (now (tables .exit)) (now (pages .exit)) (now (spare .exit)) ≡ compactOn (now (spare .entry)) (freeIn (now (pages .exit)) (now (spare .exit))) (now (tables .entry)) (now (pages .entry)) ⌝ }
+{
+    calls::compact::compact(tables, pages, spare)
 }

@@ -1,5 +1,6 @@
 -- The numbers that the code computes: what it takes from a word is what the layout reads, the words that it makes are those of the layout,
 -- and the places are the layout's. Assumes nothing.
+use mathlib.Core.Bool.{false}
 use mathlib.Core.List.{List}
 use mathlib.Core.Path.{ap, ap₂, sym, _∙_, _≡_}
 use Prim.Native.Nat.{_%_, _*_, _+_, _-_, _/_, _<_, suc, ℕ, _≤_}
@@ -7,12 +8,13 @@ use native.Mathlib.Omega.{arith}
 use lib.Dec.{eqb}
 use lib.ListN.{getD, set}
 use lib.Seq.{set-getD}
+use borrow.Author.Tests.{le-ltb}
 use Rattle.packing.specs.Bitmap.{is-one, isOne}
 use Rattle.packing.specs.Words.{Bytes, getWord, putWord}
 use Rattle.rules.specs.State.{SetRecord, State, fileCount, hole, marked, pageCount, setCount, stored, unmapped}
 use Rattle.tables.proofs.ReadParts.{read-blocks, read-map, read-next, read-set, read-size, read-state}
 use Rattle.tables.specs.Layout.{entryWord, fileAt, headerAt, readBlocks, readEntry, readNext, readSet, readSize, readState, readTerm, setAt, stateNumber, stateOf, termAt, writeEntry, writeHead, writeHeader}
-use Rattle.tables.specs.Packed.{unpack}
+use Rattle.tables.specs.Packed.{entryFormed, unpack}
 
 -- ---- an entry
 
@@ -30,6 +32,10 @@ word-stored w l =
     let k : w / 16384 ≡ suc (suc (w / 16384 - 2)) = omega arith in
     let b : w % 16384 / 1 ≡ w % 16384 = omega arith in
     rw (k, b)
+
+-- kind 3 is not formed
+pub formed-three : (t : List ℕ) (w : ℕ) → 49152 ≤ w → entryFormed t w ≡ false
+formed-three t w l = rw (le-ltb (w / 16384) 3 (omega arith))
 
 pub stored-word : (b : ℕ) → 32768 + b ≡ writeEntry (stored b)
 unfolding writeEntry

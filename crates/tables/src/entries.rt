@@ -1,7 +1,7 @@
 // Entries of a file's map. A page number and a block number are two counts: only a lookup in a map, or taking a block,
 // makes a Block.
 ghost use mathlib.Core.Path.{_≡_};
-ghost use mathlib.Core.Bool.{false, not};
+ghost use mathlib.Core.Bool.{false, not, true};
 ghost use Prim.Native.Nat.{_%_, _+_, _<_, _≤_};
 ghost use lib.ListN.{length};
 ghost use Rattle.base.specs.Count.{count};
@@ -142,6 +142,23 @@ pub fn take_block(t: &mut [u8]) -> Block
     bitmap::set_bit(t, BITMAP_AT, b);
     header::put_next(t, after(b, limit));
     Block(b as u16)
+}
+
+// Is block b used?
+pub fn is_used(t: &[u8], b: usize) -> bool
+    requires { ⌜ (length (now t) ≡ tableBytes) × (b < 4096) ⌝ }
+    ensures { λ r. ⌜ r ≡ unpack (now (t .entry)) .bits b ⌝ }
+{
+    bitmap::bit_at(t, BITMAP_AT, b)
+}
+
+// Block k is taken, wherever next start is.
+pub fn take_at(t: &mut [u8], k: usize) -> Block
+    requires { ⌜ PackedTables (now t) × (k < 4096) ⌝ }
+    ensures { λ r. ⌜ (r .0 ≡ k) × Turns (now (t .entry)) (now (t .exit)) (putBitIn k true) ⌝ }
+{
+    bitmap::set_bit(t, BITMAP_AT, k);
+    Block(k as u16)
 }
 
 // The block is free again.

@@ -1,0 +1,9 @@
+pub mod Swapping
+pub mod Exchanges
+pub mod Ordered
+pub mod Last
+pub mod OnBytes
+pub mod Trading
+pub mod Four
+pub mod Tracking
+pub mod Turning
