@@ -2,12 +2,14 @@
 //! ("Demand 3"), with what the panel's registers must show since a reset, with
 //! the promise that a refused call changes nothing, and with another
 //! implementation where there is one, byte for byte. Every write is judged by the
-//! room it takes, and every conversion by its bytes.
+//! room it takes, and every conversion and every compaction by its bytes.
 
 use crate::accesses::{Access, Accesses};
 use crate::agree::agree;
 use crate::call::*;
 use crate::check::{check_state, Rule};
+use crate::compaction_judge::Compacted;
+use crate::compactions::{self, Pulled};
 use crate::conversion::{self, Converted};
 use crate::judge::{format_blocks, Beside};
 use crate::lent::{check_unchanged, Buffer::*, Buffers, Guarded, Lending};
@@ -112,6 +114,8 @@ pub struct Counts {
     pub room: Judged,
     /// The cases of Ask 8 that calls met.
     pub terms: Met,
+    /// The cases of Ask 9 that calls met.
+    pub compactions: compactions::Met,
     pub damages: BTreeMap<Rule, u64>,
     pub flips: u64,
 }
@@ -121,6 +125,7 @@ const OLD_PAGE_FILL: u8 = 0xA5;
 const OLD_TABLE_FILL: u8 = 0x5A;
 const OLD_REGISTER_FILL: u8 = 0x96;
 const OLD_SECOND_FILL: u8 = 0x69;
+const OLD_SPARE_FILL: u8 = 0x4B;
 
 pub struct Bench {
     /// What the caller holds from call to call.
@@ -135,6 +140,8 @@ pub struct Bench {
     /// What was done to the panel; none before an accepted panel-reset and after
     /// a change of registers made from outside.
     pub since: Option<Since>,
+    /// Whether the store is as an accepted compaction left it.
+    after_compaction: bool,
     pub counts: Counts,
 }
 
@@ -164,7 +171,10 @@ impl Bench {
         buffers[Pages] = pages;
         buffers[Registers] = vec![OLD_REGISTER_FILL; REGISTERS];
         buffers[Second] = vec![OLD_SECOND_FILL; OLDER_TABLES_BYTES];
-        Bench { buffers, beside: None, older: None, since: None, counts: Counts::default() }
+        buffers[Spare] = vec![OLD_SPARE_FILL; PAGE_BYTES];
+        let (beside, older, since) = (None, None, None);
+        let counts = Counts::default();
+        Bench { buffers, beside, older, since, after_compaction: false, counts }
     }
 
     pub fn tables(&self) -> &[u8] {
@@ -182,6 +192,11 @@ impl Bench {
     /// The older tables that a conversion takes.
     pub fn second(&self) -> &[u8] {
         &self.buffers[Second]
+    }
+
+    /// The spare page that a compaction is lent.
+    pub fn spare(&self) -> &[u8] {
+        &self.buffers[Spare]
     }
 
     /// Does one line of a script. An error says the first difference.
@@ -206,6 +221,7 @@ impl Bench {
                 return Ok(None);
             }
         };
+        self.after_compaction &= ![Tables, Pages].contains(&changed);
         match changed {
             Tables => self.beside = None,
             Pages => (self.beside, self.older) = (None, None),
@@ -232,8 +248,10 @@ impl Bench {
         if let Some(done) = &done {
             self.compare_beside(done, &before, &after)?;
         }
-        if *call == (Call::Convert {}) {
-            self.compare_conversion(answer, &before, &after)?;
+        match call {
+            Call::Convert {} => self.compare_conversion(answer, &before, &after)?,
+            Call::Compact {} => self.compare_compaction(&before, &after)?,
+            _ => {}
         }
         if call.is_of_panel() {
             let ran = done.map(|done| done.answer);
@@ -243,6 +261,7 @@ impl Bench {
         if call.as_write().is_some() && answer.number == 0 {
             self.count_write(call, &answer, [&before, &after], other.has(call.index()));
         }
+        self.count_compaction(call, answer, [&before, &after], other.has(call.index()));
         // The buffer of a refused format is not the store's.
         if !matches!(call, Call::Format { .. }) || answer.number == 0 {
             // With other pages, the second tables hold another store.
@@ -318,6 +337,23 @@ impl Bench {
         }
     }
 
+    /// Counts the cases of Ask 9 that a call met, and keeps in mind whether the store is
+    /// as an accepted compaction left it.
+    fn count_compaction(
+        &mut self,
+        call: &Call,
+        answer: Answer,
+        [before, after]: [&Buffers; 2],
+        is_linked: bool,
+    ) {
+        let after_compaction = self.after_compaction;
+        let pulled = Pulled { call, answer, before, after, after_compaction };
+        self.counts.compactions.count(&pulled, is_linked);
+        let is_compaction = *call == (Call::Compact {}) && answer.number == 0;
+        let same_tables = before[Tables] == after[Tables];
+        self.after_compaction = is_compaction || (after_compaction && same_tables);
+    }
+
     /// "Demand 3" for one more call of the list. All three counts of every
     /// answer are compared, the maps looked at by a read among them.
     fn compare_beside(
@@ -341,15 +377,14 @@ impl Bench {
         if matches!(call, Call::Read { .. }) && answer.number == 0 {
             check_read(&read, &after[Bytes])?;
         }
-        // Bytes that did not change need not be compared once more.
-        if after[Tables] == before[Tables] && after[Pages] == before[Pages] {
-            return Ok(());
-        }
-        let state = State::unpack(&after[Tables]);
-        if let Some(broken) = check_state(&state, after[Pages].len()).first() {
-            return Err(format!("the tables are not well formed: {broken}"));
-        }
-        agree(&state, &after[Pages], beside)
+        agree_if_changed(before, after, beside)
+    }
+
+    /// Plain store and tally are not fed a compaction, which is no call at all for them:
+    /// "a reader of any file sees no difference". They agree with what it left.
+    fn compare_compaction(&self, before: &Buffers, after: &Buffers) -> Result<(), String> {
+        let Some(beside) = &self.beside else { return Ok(()) };
+        agree_if_changed(before, after, beside)
     }
 
     /// A conversion is judged by its bytes. If the older tables are those of a store that
@@ -374,11 +409,7 @@ impl Bench {
         }
         self.beside = self.older.clone();
         let Some(beside) = &self.beside else { return Ok(()) };
-        let state = State::unpack(tables);
-        if let Some(broken) = check_state(&state, pages_length).first() {
-            return Err(format!("the new tables are not well formed: {broken}"));
-        }
-        agree(&state, &after[Pages], beside)
+        agree_formed(after, beside)
     }
 
     /// What a call of the panel answers, and what the registers then show, is
@@ -419,7 +450,8 @@ impl Bench {
     }
 
     /// Compares with the other implementation, if it has the call. A write is judged
-    /// by its room as this implementation did it, else as the oracle did.
+    /// by its room, and a compaction by its bytes, as this implementation did it, else as
+    /// the oracle did.
     fn compare_other(
         &mut self,
         call: &Call,
@@ -428,18 +460,23 @@ impl Bench {
         after: &mut Buffers,
         other: &mut dyn Other,
     ) -> Result<(), String> {
-        if !other.has(call.index()) {
-            return self.judge_room(call, answer, before, &after[Tables], false);
+        let (index, numbers) = (call.index(), call.numbers());
+        if !other.has(index) {
+            self.judge_room(call, answer, before, &after[Tables], false)?;
+            let run = &mut |lent: Lent| store::run(index, &numbers, lent);
+            return judge_compaction(call, *answer, before, || after.clone(), run);
         }
         let mut lent = Guarded::new(before);
-        let found = other.run(call.index(), &call.numbers(), lent.lend());
-        self.counts.linked[call.index()] += 1;
+        let found = other.run(index, &numbers, lent.lend());
+        self.counts.linked[index] += 1;
         let room = self.judge_room(call, &found, before, lent.found(Tables), true);
+        let run = &mut |lent: Lent| other.run(index, &numbers, lent);
+        let compaction = judge_compaction(call, found, before, || lent.left(), run);
         let same = compare_answers(answer, &found).and_then(|_| {
             self.counts.reads_linked.count(call, answer);
             lent.compare(call.row(), answer.number == 0, after)
         });
-        both(same, room)
+        both(both(same, room), compaction)
     }
 
     /// Ask 7 of document 02, "How much room a write can take", for one write.
@@ -464,6 +501,47 @@ impl Bench {
     }
 }
 
+/// Ask 9 of document 02, "Pull the blocks together", for one compaction. What an
+/// accepted one left is pulled together once more, which must change nothing but what is
+/// free.
+fn judge_compaction(
+    call: &Call,
+    answer: Answer,
+    before: &Buffers,
+    left: impl FnOnce() -> Buffers,
+    run: &mut dyn FnMut(Lent) -> Answer,
+) -> Result<(), String> {
+    if *call != (Call::Compact {}) {
+        return Ok(());
+    }
+    let after = left();
+    Compacted { answer, before, after: &after }.outcome()?;
+    if answer.number != 0 {
+        return Ok(());
+    }
+    let mut again = Guarded::new(&after);
+    let answer = run(again.lend());
+    again.check_guards()?;
+    Compacted { answer, before: &after, after: &again.left() }.outcome_of_second()
+}
+
+/// The store is well formed, and agrees with plain store and tally.
+fn agree_formed(after: &Buffers, beside: &Beside) -> Result<(), String> {
+    let state = State::unpack(&after[Tables]);
+    if let Some(broken) = check_state(&state, after[Pages].len()).first() {
+        return Err(format!("the tables are not well formed: {broken}"));
+    }
+    agree(&state, &after[Pages], beside)
+}
+
+/// The same; bytes that did not change need not be compared once more.
+fn agree_if_changed(before: &Buffers, after: &Buffers, beside: &Beside) -> Result<(), String> {
+    if after[Tables] == before[Tables] && after[Pages] == before[Pages] {
+        return Ok(());
+    }
+    agree_formed(after, beside)
+}
+
 /// Two outcomes as one, with the texts of both.
 fn both(one: Result<(), String>, other: Result<(), String>) -> Result<(), String> {
     match (one, other) {
@@ -472,17 +550,17 @@ fn both(one: Result<(), String>, other: Result<(), String>) -> Result<(), String
     }
 }
 
-/// The listed call that is done, none for a conversion, which is judged by itself, and for
-/// a panel access that runs no command. What a command does to tables and pages is what
-/// its call does, made directly: "Sequences through the panel count as the calls they
-/// run."
+/// The listed call that is done, none for a conversion or a compaction, which are judged
+/// by themselves, and for a panel access that runs no command. What a command does to
+/// tables and pages is what its call does, made directly: "Sequences through the panel
+/// count as the calls they run."
 fn listed(
     call: &Call,
     answer: Answer,
     before: &Buffers,
     after: &Buffers,
 ) -> Result<Option<Done>, String> {
-    if *call == (Call::Convert {}) {
+    if matches!(call, Call::Convert {} | Call::Compact {}) {
         return Ok(None);
     }
     if !call.is_of_panel() {

@@ -2,14 +2,15 @@
 //! answer, and a script (a list of calls that can be written down and read).
 
 pub use crate::lent::{Buffer, Lent, Numbers, BUFFERS, MOST_NUMBERS};
-use crate::lent::{Lending, Lending::*, Row};
+use crate::lent::{Buffers, Lending, Lending::*, Row};
 pub use crate::names::{CALL_NAMES, ORACLE_ALONE};
 use std::fmt;
+use std::ops::Range;
 
 /// How many calls there are.
 pub const CALLS: usize = CALL_NAMES.len();
-/// How many numbers an answer can have: 0 to 15.
-pub const NUMBERS: usize = 16;
+/// How many numbers an answer can have: 0 to 16.
+pub const NUMBERS: usize = 17;
 
 /// "Largest: 8 sets, 16 files a set, 64 pages of 512 bytes a file (32,768
 /// bytes), 4,096 blocks of 512 bytes."
@@ -72,6 +73,19 @@ const TABLES_READ: [Lending; BUFFERS] = [ReadOnly, NotLent, NotLent, NotLent, No
 /// The converter's: the new tables, which it writes, the pages, and the older tables,
 /// which are the second ones.
 const CONVERTED: [Lending; BUFFERS] = [Changed, ReadOnly, NotLent, NotLent, NotLent, ReadOnly];
+
+/// A compaction's: the store, and "one spare page of 512 bytes lent for it".
+const COMPACTED: [Lending; BUFFERS] = [Changed, Changed, NotLent, NotLent, Changed, NotLent];
+
+/// What an accepted compaction leaves free. Document 02: "free pages and the spare page
+/// may hold anything (named as free)". The free pages are those from the number of used
+/// blocks up, which are the ones in the bitmap, 512 bytes after the header's 4.
+pub fn left_by_compaction(after: &Buffers) -> Vec<(Buffer, Range<usize>)> {
+    let bitmap = &after[Buffer::Tables][4..516];
+    let used: usize = bitmap.iter().map(|byte| byte.count_ones() as usize).sum();
+    let pages = after[Buffer::Pages].len();
+    vec![(Buffer::Pages, used * PAGE_BYTES..pages), (Buffer::Spare, 0..after[Buffer::Spare].len())]
+}
 
 /// The panel's registers, to be changed or only read.
 const REGISTERS_CHANGED: [Lending; BUFFERS] = lends_registers(NotLent, Changed);
@@ -186,6 +200,8 @@ calls! {
     Current { set: u32, day: u32 } told [set, day] lends STORE_READ, leaves None;
     /// The converter: from the second tables, of the length before Ask 8, to the tables.
     Convert {} told [] lends CONVERTED, leaves None;
+    /// Compaction: pulls the blocks together.
+    Compact {} told [] lends COMPACTED, leaves Some(left_by_compaction);
     /// A write by groups of any size.
     WriteGroups { group: Group, set: u32, file: u32, offset: u32, length: usize, seed: u32 }
         told [group, set, file, offset] lends lends(Changed, ReadOnly), leaves None;

@@ -1,6 +1,8 @@
 //! Random calls, histories, well-formed states and damages. Those of the panel are
-//! in `gen::panel`, those of terms and conversions in `gen::terms`.
+//! in `gen::panel`, those of terms and conversions in `gen::terms`, those of compactions
+//! in `gen::compact`.
 
+pub mod compact;
 pub mod panel;
 pub mod terms;
 
@@ -30,10 +32,12 @@ const PANEL_LINE: usize = 16;
 pub const SET_TERM: usize = 17;
 pub const CURRENT: usize = 18;
 pub const CONVERT: usize = 19;
+/// The place of compaction.
+pub const COMPACT: usize = 20;
 /// The places of the three kinds of write.
 const WRITE: usize = 2;
 const WRITE_NARROW: usize = 12;
-const WRITE_GROUPS: usize = 20;
+const WRITE_GROUPS: usize = 21;
 const WRITES: [usize; 3] = [WRITE, WRITE_NARROW, WRITE_GROUPS];
 
 /// Group sizes that are used most: some divide 64, with others the last group is
@@ -90,13 +94,14 @@ fn style(rng: &mut Rng, block_count: usize) -> Style {
     let fond_files = rng.between(1, 3);
     let fond_pages = rng.between(1, 4);
     // format create write read trunc delete make remove size free check-blocks
-    // check write-narrow, the panel's four, set-term current convert, write-groups
+    // check write-narrow, the panel's four, set-term current convert compact,
+    // write-groups
     let weights = rng.pick(&[
-        [1, 30, 80, 60, 80, 30, 110, 40, 15, 10, 5, 5, 70, 0, 0, 0, 0, 20, 15, 0, 70],
-        [1, 40, 60, 40, 120, 50, 90, 40, 10, 10, 5, 5, 60, 0, 0, 0, 0, 20, 10, 0, 40],
-        [2, 30, 50, 60, 60, 30, 200, 60, 20, 10, 5, 5, 50, 0, 0, 0, 0, 40, 30, 0, 50],
-        [0, 60, 90, 20, 60, 70, 80, 20, 5, 5, 3, 3, 80, 0, 0, 0, 0, 5, 5, 0, 80],
-        [0, 70, 50, 10, 100, 100, 120, 20, 5, 5, 3, 3, 50, 0, 0, 0, 0, 5, 5, 0, 40],
+        [1, 30, 80, 60, 80, 30, 110, 40, 15, 10, 5, 5, 70, 0, 0, 0, 0, 20, 15, 0, 10, 70],
+        [1, 40, 60, 40, 120, 50, 90, 40, 10, 10, 5, 5, 60, 0, 0, 0, 0, 20, 10, 0, 20, 40],
+        [2, 30, 50, 60, 60, 30, 200, 60, 20, 10, 5, 5, 50, 0, 0, 0, 0, 40, 30, 0, 10, 50],
+        [0, 60, 90, 20, 60, 70, 80, 20, 5, 5, 3, 3, 80, 0, 0, 0, 0, 5, 5, 0, 5, 80],
+        [0, 70, 50, 10, 100, 100, 120, 20, 5, 5, 3, 3, 50, 0, 0, 0, 0, 5, 5, 0, 10, 40],
     ]);
     Style {
         block_count,
@@ -562,13 +567,22 @@ fn group_size(rng: &mut Rng) -> Group {
 /// Calls that leave few blocks free: full files, in set 0 and in sets made
 /// from it while it was empty.
 fn fill_calls(rng: &mut Rng, block_count: usize) -> Vec<Call> {
-    let mut calls = Vec::new();
     let sets = block_count.div_ceil(FILES * PAGES);
-    for set in 1..sets as u32 {
-        calls.push(Call::Make { parent: 0, set, writeable: 1 });
+    let others: Vec<u32> = (1..sets as u32).collect();
+    let pages = block_count - rng.below(6);
+    fill_sets(rng, &others, pages)
+}
+
+/// Calls that make these sets from set 0 and store so many pages in it and in them, in
+/// full files.
+fn fill_sets(rng: &mut Rng, others: &[u32], pages: usize) -> Vec<Call> {
+    let mut calls = Vec::new();
+    for set in others {
+        calls.push(Call::Make { parent: 0, set: *set, writeable: 1 });
     }
-    let mut left = block_count - rng.below(6);
-    let places = (0..sets * FILES).map(|place| ((place / FILES) as u32, (place % FILES) as u32));
+    let mut left = pages;
+    let sets = [&[0], others].concat();
+    let places = sets.into_iter().flat_map(|set| (0..FILES as u32).map(move |file| (set, file)));
     for (set, file) in places {
         if left == 0 {
             break;
@@ -757,6 +771,11 @@ fn data_seed(rng: &mut Rng) -> u32 {
     }
 }
 
+/// The line that gives a buffer a length.
+pub fn length_of(buffer: Buffer, length: usize) -> Item {
+    Item::Length { buffer, length }
+}
+
 /// A random call for the store as plain store and tally know it.
 pub fn call(rng: &mut Rng, style: &Style, beside: &Beside) -> Call {
     let total: usize = style.weights.iter().sum();
@@ -808,6 +827,7 @@ pub fn call_of(rng: &mut Rng, style: &Style, beside: &Beside, index: usize) -> C
         SET_TERM => terms::set_term(rng, style, beside),
         CURRENT => terms::current(rng, style, beside),
         CONVERT => Call::Convert {},
+        COMPACT => Call::Compact {},
         _ if WRITES.contains(&index) && rng.percent(style.filling) => {
             let filling = filling_write(rng, beside, index);
             filling.unwrap_or_else(|| call_of_file(rng, style, beside, index))
@@ -1055,8 +1075,9 @@ pub fn made_from(rng: &mut Rng, start: Start, length: usize) -> Made {
         beside: Beside::format(block_count),
         style: start.style,
     };
-    // Calls that only look, and later formats, add nothing to a state.
-    for index in [0, 3, 8, 9, 10, 11, CURRENT] {
+    // Calls that only look, and later formats, add nothing to a state. A compaction
+    // leaves bytes free, and the calls are to lead to the same bytes under any library.
+    for index in [0, 3, 8, 9, 10, 11, CURRENT, COMPACT] {
         made.style.weights[index] = 0;
     }
     for call in start.calls {
@@ -1082,7 +1103,9 @@ impl Made {
         let write = call.as_write();
         let mut bytes = write.map_or(Vec::new(), |write| data_bytes(write.length, write.seed));
         let before = self.tables.clone();
-        let lent = Lent::store(&mut self.tables, &mut self.pages, &mut bytes);
+        let mut spare = [0; PAGE_BYTES];
+        let store = Lent::store(&mut self.tables, &mut self.pages, &mut bytes);
+        let lent = Lent { spare: &mut spare, ..store };
         let answer = store::run(call.index(), &call.numbers(), lent);
         if let Some(write) = write {
             self.judge_room(write, answer, &before);

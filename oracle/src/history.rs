@@ -2,7 +2,7 @@
 
 use crate::bench::{Bench, Counts, Other};
 use crate::call::*;
-use crate::gen::{self, panel, terms, Start};
+use crate::gen::{self, compact, panel, terms, Start};
 use crate::judge::Beside;
 use crate::rng::Rng;
 use std::collections::VecDeque;
@@ -19,8 +19,8 @@ pub type Watch<'a> = &'a mut dyn FnMut(&Item);
 /// A random history of its own seed: format, perhaps calls that fill the store,
 /// make a family and drop its pages or write them by groups, or make a line and
 /// read through it, then `length` turns: a random call, or accesses of the panel
-/// that belong together, or a conversion. The counts are added to. Where the other
-/// implementation has only some of the calls, these come more often.
+/// that belong together, or a conversion, or compactions. The counts are added to.
+/// Where the other implementation has only some of the calls, these come more often.
 pub fn random_history(
     seed: u64,
     block_count: usize,
@@ -45,17 +45,26 @@ pub enum Short {
     Room,
     /// A family whose sets get terms, and conversions.
     Terms,
+    /// Blocks that are scattered, and compactions.
+    Compact,
 }
 
+/// How a history of this many blocks begins.
+type Begin = fn(&mut Rng, usize) -> Start;
+
 impl Short {
+    pub const ALL: [Short; 5] =
+        [Short::Groups, Short::Panel, Short::Room, Short::Terms, Short::Compact];
+
     /// Of a hundred stores so many have 64 blocks, and the others have from so many to
     /// so many; how the history begins; the turns after it.
-    fn form(self) -> (usize, (usize, usize), fn(&mut Rng, usize) -> Start, usize) {
+    fn form(self) -> (usize, (usize, usize), Begin, usize) {
         match self {
             Short::Groups => (20, (3, 16), gen::group_start, 10),
             Short::Panel => (20, (1, 12), panel::panel_start, 10),
             Short::Room => (80, (2, 24), gen::room_start, 5),
             Short::Terms => (10, (1, 12), terms::term_start, 30),
+            Short::Compact => (40, (2, 24), compact::compact_start, 15),
         }
     }
 }
@@ -141,8 +150,9 @@ fn turn(rng: &mut Rng, style: &gen::Style, beside: &Beside, other: &dyn Other) -
 }
 
 /// A random history with a random store size and length. Now and then it begins
-/// with calls made through the panel, with a family for the room that a write can take or
-/// with one whose sets get terms, seldom with a delete of many copies.
+/// with calls made through the panel, with a family for the room that a write can take,
+/// with one whose sets get terms or with scattered blocks, seldom with a delete of many
+/// copies.
 pub fn any_history(
     seed: u64,
     other: &mut dyn Other,
@@ -160,6 +170,7 @@ pub fn any_history(
         2..=9 => short_history(Short::Panel, seed, other, counts, watch),
         10..=17 => short_history(Short::Room, seed, other, counts, watch),
         18..=25 => short_history(Short::Terms, seed, other, counts, watch),
+        26..=33 => short_history(Short::Compact, seed, other, counts, watch),
         _ => random_history(seed, block_count, length, other, counts, watch),
     }
 }

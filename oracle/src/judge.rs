@@ -95,8 +95,10 @@ impl Beside {
             ],
             Call::Current { set, .. } => vec![(2, !self.is_used(set))],
             Call::Convert {} => unreachable!("{NOT_OF_THIS_STORE}"),
-            // They find nothing to refuse in well-formed tables.
-            Call::Free {} | Call::CheckBlocks {} | Call::Check {} => vec![],
+            // They find nothing to refuse in well-formed tables, and a compaction nothing
+            // but a spare page of a wrong length, which is none of theirs: 16 is asked of
+            // `compaction_judge`.
+            Call::Free {} | Call::CheckBlocks {} | Call::Check {} | Call::Compact {} => vec![],
             Call::PanelReset {}
             | Call::PanelRead { .. }
             | Call::PanelWrite { .. }
@@ -228,8 +230,8 @@ impl Beside {
             Call::Size { set, file } => [self.list(set as usize, file as usize).len() as u32, 0, 0],
             Call::Free {} => [self.tally.free as u32, 0, 0],
             // "for plain store and tally it is just the listed calls that it
-            // runs, if any": none.
-            Call::CheckBlocks {} | Call::Check {} => [0, 0, 0],
+            // runs, if any": none. A compaction is no call at all for them.
+            Call::CheckBlocks {} | Call::Check {} | Call::Compact {} => [0, 0, 0],
             Call::SetTerm { set, year, month, day, months } => {
                 self.terms.set(set as usize, (year, month, day), months);
                 [0, 0, 0]

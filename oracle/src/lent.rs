@@ -18,7 +18,7 @@ pub enum Buffer {
     /// The data of a write, the buffer of a read.
     Bytes,
     Registers,
-    /// A spare page.
+    /// The spare page of a compaction.
     Spare,
     /// Second tables: the older ones that are converted.
     Second,
@@ -94,6 +94,18 @@ impl<'a> Lent<'a> {
     /// A store with data or a read buffer, and nothing else.
     pub fn store(tables: &'a mut [u8], pages: &'a mut [u8], bytes: &'a mut [u8]) -> Lent<'a> {
         Lent::new([tables, pages, bytes, &mut [], &mut [], &mut []])
+    }
+
+    /// The same buffers lent once more.
+    pub fn again(&mut self) -> Lent<'_> {
+        Lent::new([
+            &mut *self.tables,
+            &mut *self.pages,
+            &mut *self.bytes,
+            &mut *self.registers,
+            &mut *self.spare,
+            &mut *self.second,
+        ])
     }
 }
 
@@ -174,15 +186,28 @@ impl Guarded {
         bytes[..range.start].iter().chain(&bytes[range.end..]).all(|byte| *byte == GUARD)
     }
 
+    /// No byte beside a buffer was changed.
+    pub fn check_guards(&self) -> Result<(), String> {
+        match Buffer::ALL.into_iter().find(|buffer| !self.guards_hold(*buffer)) {
+            None => Ok(()),
+            Some(buffer) => Err(format!("bytes beside the {} were changed", buffer.name())),
+        }
+    }
+
+    /// What a call left in all buffers.
+    pub fn left(&self) -> Buffers {
+        let mut left = Buffers::default();
+        for buffer in Buffer::ALL {
+            left[buffer] = self.found(buffer).to_vec();
+        }
+        left
+    }
+
     /// Compares what a call of the other implementation left here with what
     /// the oracle's call left in `after`. What an accepted call leaves free is
     /// taken over into `after`.
     pub fn compare(&self, row: &Row, accepted: bool, after: &mut Buffers) -> Result<(), String> {
-        for buffer in Buffer::ALL {
-            if !self.guards_hold(buffer) {
-                return Err(format!("bytes beside the {} were changed", buffer.name()));
-            }
-        }
+        self.check_guards()?;
         if let (Some(leaves), true) = (row.leaves, accepted) {
             for (buffer, range) in leaves(after) {
                 after[buffer][range.clone()].copy_from_slice(&self.found(buffer)[range]);

@@ -1,12 +1,12 @@
 //! A second implementation of the sweep store, written from document 01, Asks 1
-//! to 8 of document 02 and their readings (docs/DECISIONS.md) alone. Clarity
+//! to 9 of document 02 and their readings (docs/DECISIONS.md) alone. Clarity
 //! goes before speed: each call unpacks the tables to a plain state, does the
 //! paper's steps, and packs.
 //!
 //! The words are those of the documents: set, file, page, block, own, virgin,
 //! marked, hole, stored, unmapped, next start, needs, hand over, group, extra
 //! page, register, command, cause, mask, line, room, term, first day, end day,
-//! current.
+//! current, compaction, spare page.
 
 // The remainder is what document 01 speaks of.
 #![allow(clippy::manual_is_multiple_of)]
@@ -17,12 +17,16 @@ pub mod bench;
 pub mod bits;
 pub mod call;
 pub mod check;
+pub mod compaction_judge;
+pub mod compactions;
 pub mod conversion;
 pub mod dates;
 pub mod export;
 pub mod gen;
 pub mod history;
 pub mod judge;
+pub mod judging;
+pub mod layout;
 pub mod lent;
 pub mod maps;
 pub mod names;

@@ -1,6 +1,7 @@
 //! The program `oracle`: checks a table file, runs a session, shows the rows,
 //! and runs random histories against plain store and tally, what the panel's
-//! registers must show, the room that a write can take, and the sets' terms.
+//! registers must show, the room that a write can take, the sets' terms, and what a
+//! compaction must leave.
 
 use oracle::bench::{report, Counts, NoOther};
 use oracle::call::*;
@@ -23,7 +24,8 @@ usage:
   oracle rows                      rows M1 to M12 and their results
   oracle random SEED COUNT         COUNT random histories against plain store and tally,
                                    what the panel's registers must show, the room that
-                                   a write can take, and the sets' terms
+                                   a write can take, the sets' terms, and what a
+                                   compaction must leave
   oracle help                      this text
 exit status: 0 well, 1 a broken table, row or history, 2 bad usage
 ";
@@ -136,6 +138,7 @@ fn show_counts(counts: &Counts) {
     println!("accepted reads compared {}", counts.reads_beside);
     println!("writes judged by the room they take {}", counts.room);
     println!("calls of terms {}", counts.terms);
+    println!("compactions {}", counts.compactions);
     writes::show("plain store and tally", &counts.writes_beside);
     accesses::show("what is demanded", &counts.panel_judged);
 }

@@ -4,7 +4,7 @@
 /// library has a function for, in the order in which they came, so that none of
 /// them changes its place; a new one stands at their end. Those that the oracle
 /// does alone stand last.
-pub const CALL_NAMES: [&str; 21] = [
+pub const CALL_NAMES: [&str; 22] = [
     "format",
     "create",
     "write",
@@ -25,6 +25,7 @@ pub const CALL_NAMES: [&str; 21] = [
     "set-term",
     "current",
     "convert",
+    "compact",
     "write-groups",
 ];
 

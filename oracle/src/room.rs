@@ -8,19 +8,11 @@
 use crate::bits::field;
 use crate::call::*;
 use crate::check::is_well_formed;
+use crate::judging::{self, unless};
+use crate::layout::{block_count, is_marked, is_used_block, set_record};
 use std::fmt;
 use std::ops::Range;
 
-/// Where the parts of the tables begin, and how long their records are: "header, 4
-/// bytes", "bitmap, 512 bytes", "8 set records, 3 bytes each", which Ask 8 made 7,
-/// "128 file records, 132 bytes each".
-const BITMAP: usize = 4;
-const SET_RECORDS: usize = 516;
-const SET_BYTES: usize = 7;
-const FILE_RECORDS: usize = 572;
-const FILE_BYTES: usize = 132;
-/// "State: ... 3 marked out of sync."
-const MARKED: u8 = 3;
 /// 8: "own need over the free blocks".
 const NO_ROOM: u32 = 8;
 /// In groups of eight at most seven pages stand before the first touched page in its
@@ -94,27 +86,16 @@ fn pages_of_groups(touched: &Range<usize>, group: usize) -> usize {
 /// In well-formed tables they are those of its chain.
 fn children(tables: &[u8], set: u32) -> usize {
     let is_child = |other: &usize| {
-        let record = &tables[SET_RECORDS + SET_BYTES * other..][..SET_BYTES];
+        let record = set_record(tables, *other);
         field(record, 0, 1) == 1 && field(record, 5, 4) == set
     };
     (0..SETS).filter(is_child).count()
 }
 
-/// "bit b is 1 when block b is used"; the most significant bit of a byte is first.
-fn is_used(tables: &[u8], block: usize) -> bool {
-    tables[BITMAP + block / 8] >> (7 - block % 8) & 1 == 1
-}
-
-/// The blocks below B, the "block count B 13", whose bit is 0.
+/// The blocks below B whose bit is 0.
 fn free_blocks(tables: &[u8]) -> usize {
-    let block_count = (field(tables, 0, 13) as usize).min(MOST_BLOCKS);
-    (0..block_count).filter(|block| !is_used(tables, *block)).count()
-}
-
-/// Whether the file with this record is marked; its place is "set x 16 + file", and
-/// its state the first two bits.
-fn is_marked(tables: &[u8], place: usize) -> bool {
-    tables[FILE_RECORDS + FILE_BYTES * place] >> 6 == MARKED
+    let block_count = block_count(tables).min(MOST_BLOCKS);
+    (0..block_count).filter(|block| !is_used_block(tables, *block)).count()
 }
 
 /// What a write can break.
@@ -168,16 +149,7 @@ impl Bound {
 }
 
 /// A bound that was broken, in words and numbers.
-#[derive(Clone, PartialEq, Eq, Debug)]
-pub struct Broken {
-    pub bound: Bound,
-    pub text: String,
-}
-
-/// The bound, unless it holds.
-fn unless(holds: bool, bound: Bound, text: impl FnOnce() -> String) -> Option<Broken> {
-    (!holds).then(|| Broken { bound, text: text() })
-}
+pub type Broken = judging::Broken<Bound>;
 
 /// What the judge says of a write.
 pub struct Judgement {
@@ -191,11 +163,7 @@ pub struct Judgement {
 impl Judgement {
     /// An error says every bound that was broken.
     pub fn outcome(&self) -> Result<(), String> {
-        if self.broken.is_empty() {
-            return Ok(());
-        }
-        let texts: Vec<&str> = self.broken.iter().map(|broken| broken.text.as_str()).collect();
-        Err(format!("room: {}", texts.join("; ")))
+        judging::outcome("room", &self.broken)
     }
 }
 
@@ -269,8 +237,8 @@ impl Taken<'_> {
     fn by_bitmap(&self, room: &Room) -> Vec<Broken> {
         let (first, second) = self.counts();
         let (free, left) = (room.free, free_blocks(self.after));
-        let [before, after] =
-            [self.before, self.after].map(|tables| move |block: &usize| is_used(tables, *block));
+        let [before, after] = [self.before, self.after]
+            .map(|tables| move |block: &usize| is_used_block(tables, *block));
         let gone = (0..MOST_BLOCKS).find(|block| before(block) && !after(block));
         let new = (0..MOST_BLOCKS).filter(|block| !before(block) && after(block)).count();
         let found = [

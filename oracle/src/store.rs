@@ -132,6 +132,11 @@ pub fn convert(older: &[u8], pages: &[u8], tables: &mut [u8]) -> Answer {
     answer(try_convert(older, pages, tables))
 }
 
+/// Document 02: "Pull the blocks together."
+pub fn compact(tables: &mut [u8], pages: &mut [u8], spare: &mut [u8]) -> Answer {
+    answer(try_compact(tables, pages, spare))
+}
+
 /// Each call with its numbers on the buffers it is lent, in the order of
 /// `CALL_NAMES`.
 const DOES: [fn(&Numbers, Lent) -> Answer; CALLS] = [
@@ -155,6 +160,7 @@ const DOES: [fn(&Numbers, Lent) -> Answer; CALLS] = [
     |n, lent| set_term(lent.tables, lent.pages, n[0], n[1], n[2], n[3], n[4]),
     |n, lent| current(lent.tables, lent.pages, n[0], n[1]),
     |_, lent| convert(lent.second, lent.pages, lent.tables),
+    |_, lent| compact(lent.tables, lent.pages, lent.spare),
     |n, lent| write_groups(lent.tables, lent.pages, n[0] as usize, n[1], n[2], n[3], lent.bytes),
 ];
 
@@ -690,4 +696,49 @@ fn try_convert(older: &[u8], pages: &[u8], tables: &mut [u8]) -> Outcome {
     }
     state.pack(tables);
     Ok([0, 0, 0])
+}
+
+/// Document 02: "Compaction renumbers used blocks from 0 up, by set number, then file,
+/// then page, and moves the pages to suit, with one spare page of 512 bytes lent for it."
+/// The new pages are built from a copy of the old ones, so the spare page is not needed
+/// here.
+fn try_compact(tables: &mut [u8], pages: &mut [u8], spare: &mut [u8]) -> Outcome {
+    let mut state = open(tables, pages)?;
+    // "It refuses a spare page of other than 512 bytes with 16, after 1; any refusal
+    // leaves the spare page too."
+    if spare.len() != PAGE_BYTES {
+        return Err(16);
+    }
+    let old_blocks = renumber(&mut state);
+    let used = old_blocks.len();
+    // "Each block's bytes are found again under the new number, none lost or doubled".
+    let old_pages = pages.to_vec();
+    for (new, old) in old_blocks.into_iter().enumerate() {
+        pages[block_range(new)].copy_from_slice(&old_pages[block_range(old)]);
+    }
+    // "free pages and the spare page may hold anything (named as free)": each of their
+    // bytes becomes another one here, so that nothing can rely on them.
+    let free_pages = &mut pages[used * PAGE_BYTES..];
+    free_pages.iter_mut().chain(spare).for_each(|byte| *byte = !*byte);
+    // "bit b is 1 when block b is used"
+    for (block, bit) in state.bits.iter_mut().enumerate() {
+        *bit = block < used;
+    }
+    // "Next start becomes the number of used blocks modulo B."
+    state.next_start = used % state.block_count;
+    state.pack(tables);
+    Ok([0, 0, 0])
+}
+
+/// Gives the blocks of all stored entries, those of marked files too, new numbers "from
+/// 0 up, by set number, then file, then page". Gives the old ones in this order.
+fn renumber(state: &mut State) -> Vec<usize> {
+    let mut old_blocks = Vec::new();
+    for file in state.files.iter_mut().flatten() {
+        for entry in file.entries.iter_mut().filter(|entry| entry.kind == Kind::Stored) {
+            old_blocks.push(entry.block);
+            entry.block = old_blocks.len() - 1;
+        }
+    }
+    old_blocks
 }

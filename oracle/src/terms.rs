@@ -6,26 +6,10 @@ use crate::call::*;
 use crate::check::{check_older, is_well_formed};
 use crate::conversion::narrowed;
 use crate::dates::{date_of, end_uncut, Date, DAYS};
+use crate::judging::{self, cases, those};
+use crate::layout::{has_own_term, is_read_only, is_used_set, term};
 use crate::lent::Buffers;
 use crate::state::State;
-use std::collections::BTreeMap;
-use std::fmt;
-
-macro_rules! cases {
-    ($($case:ident $text:literal;)*) => {
-        /// A case that a call can meet.
-        #[derive(Clone, Copy, PartialEq, Eq, PartialOrd, Ord, Debug)]
-        pub enum Case { $($case,)* }
-
-        impl Case {
-            pub const ALL: &'static [Case] = &[$(Case::$case),*];
-
-            pub fn text(self) -> &'static str {
-                match self { $(Case::$case => $text,)* }
-            }
-        }
-    };
-}
 
 cases! {
     // Terms that are set.
@@ -91,41 +75,12 @@ pub struct Asked<'a> {
     pub before: &'a Buffers,
 }
 
-/// The record of set s stands at 516 + 7 s.
-fn set_record(tables: &[u8], set: usize) -> &[u8] {
-    &tables[516 + 7 * set..][..7]
-}
-
-/// First day and end day, in 16 bits each.
-fn term(tables: &[u8], set: usize) -> (usize, usize) {
-    let record = set_record(tables, set);
-    let day = |at: usize| usize::from(record[at]) << 8 | usize::from(record[at + 1]);
-    (day(3), day(5))
-}
-
-fn is_used(tables: &[u8], set: usize) -> bool {
-    set_record(tables, set)[0] >> 7 == 1
-}
-
-fn is_read_only(tables: &[u8], set: usize) -> bool {
-    set_record(tables, set)[0] >> 6 == 0b10
-}
-
-fn has_own_term(tables: &[u8], set: usize) -> bool {
-    is_used(tables, set) && term(tables, set) != (0, LATEST_END)
-}
-
 /// Whether some set's term breaks a rule.
 fn has_bad_term(tables: &[u8]) -> bool {
     (0..SETS).any(|set| match term(tables, set) {
-        (first, end) if is_used(tables, set) => first >= end || end > LATEST_END,
+        (first, end) if is_used_set(tables, set) => first >= end || end > LATEST_END,
         term => term != (0, 0),
     })
-}
-
-/// Those of the cases that hold.
-fn those(cases: &[(bool, Case)]) -> Vec<Case> {
-    cases.iter().filter(|(holds, _)| *holds).map(|(_, case)| *case).collect()
 }
 
 impl Asked<'_> {
@@ -291,40 +246,13 @@ fn refused_term(number: u32, date: Date, months: u32) -> Vec<Case> {
 }
 
 /// How often each case was met.
-#[derive(Default, Clone, PartialEq, Eq, Debug)]
-pub struct Met {
-    /// The calls of Ask 8, and those of another implementation among them.
-    pub calls: u64,
-    pub linked: u64,
-    pub cases: BTreeMap<Case, u64>,
-}
+pub type Met = judging::Met<Case>;
 
 impl Met {
     pub fn count(&mut self, asked: &Asked, is_linked: bool) {
-        let is_of_terms =
-            matches!(asked.call, Call::SetTerm { .. } | Call::Current { .. } | Call::Convert {});
-        self.calls += u64::from(is_of_terms);
-        self.linked += u64::from(is_of_terms && is_linked);
-        for case in asked.cases() {
-            *self.cases.entry(case).or_default() += 1;
+        if matches!(asked.call, Call::SetTerm { .. } | Call::Current { .. } | Call::Convert {}) {
+            self.count_call(is_linked);
         }
-    }
-
-    pub fn of(&self, case: Case) -> u64 {
-        self.cases.get(&case).copied().unwrap_or(0)
-    }
-
-    /// The cases that no call met.
-    pub fn unmet(&self) -> Vec<&'static str> {
-        let unmet = Case::ALL.iter().filter(|case| self.of(**case) == 0);
-        unmet.map(|case| case.text()).collect()
-    }
-}
-
-impl fmt::Display for Met {
-    fn fmt(&self, f: &mut fmt::Formatter) -> fmt::Result {
-        write!(f, "{}, of the library {}", self.calls, self.linked)?;
-        let mut each = Case::ALL.iter();
-        each.try_for_each(|case| write!(f, "; {}: {}", case.text(), self.of(*case)))
+        self.count_cases(&asked.cases());
     }
 }

@@ -732,7 +732,7 @@ fn without_children_every_size_is_the_narrow_write() {
 
 #[test]
 fn names_and_lines_of_scripts() {
-    assert_eq!((CALL_NAMES[12], CALL_NAMES[20]), ("write-narrow", "write-groups"));
+    assert_eq!((CALL_NAMES[12], CALL_NAMES[21]), ("write-narrow", "write-groups"));
     assert_eq!(ORACLE_ALONE, ["write-groups"]);
     let kinds = [("write", 8), ("write-narrow", 1), ("write-groups 1", 1), ("write-groups 64", 64)];
     for (kind, group) in kinds {

@@ -1,5 +1,5 @@
 //! Facts found by running the store, which follow from documents 01 and 02 (Asks
-//! 2 and 5). Each is checked after every call of random histories, and those of
+//! 2, 5 and 9). Each is checked after every call of random histories, and those of
 //! calls on random well-formed stores too.
 
 use oracle::call::*;
@@ -307,10 +307,36 @@ fn create_make_and_remove(seen: &Seen) {
     }
 }
 
+/// Compaction changes no set record, and no state, size or kind; next start and the
+/// blocks free are what the used blocks say. All 64 pages of every file that is own or
+/// virgin, also past the size, resolve to the same kind and the same 512 bytes as before.
+fn compaction(seen: &Seen) {
+    let Seen { before, after, .. } = *seen;
+    assert_eq!(before.sets, after.sets);
+    let used = before.block_count - before.free_blocks();
+    assert!((0..MOST_BLOCKS).all(|block| after.bits[block] == (block < used)));
+    assert_eq!(after.next_start, used % before.block_count);
+    for (set, file) in (0..SETS).flat_map(|set| (0..FILES).map(move |file| (set, file))) {
+        let (old, new) = (&before.files[set][file], &after.files[set][file]);
+        assert_eq!((old.state, old.size), (new.state, new.size));
+        for page in 0..PAGES {
+            assert_eq!(old.entries[page].kind, new.entries[page].kind);
+            if old.is_own_or_virgin() {
+                let place = (set, file, page);
+                let bytes = resolved(before, seen.pages_before, place);
+                assert!(bytes == resolved(after, seen.pages_after, place));
+            }
+        }
+    }
+}
+
 /// All facts of one call; gives its counts and the blocks handed over.
 fn facts_of_call(seen: &Seen) -> [usize; 4] {
     let Some(change) = Change::of(seen) else {
-        create_make_and_remove(seen);
+        match seen.call {
+            Call::Compact {} => compaction(seen),
+            _ => create_make_and_remove(seen),
+        }
         return [0; 4];
     };
     records_change_here_and_below(&change);

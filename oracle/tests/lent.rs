@@ -1,6 +1,7 @@
 //! The calling of exports and the comparing of lent buffers, tried on a
-//! stand-in call with a spare page and bytes that it leaves free, which no call has
-//! yet, and with second tables, registers, five numbers and two widths of them beside.
+//! stand-in call that has more than any call: a spare page and bytes that it leaves free,
+//! as a compaction has, and second tables, registers, five numbers and two widths of them
+//! beside.
 
 use oracle::call::Answer;
 use oracle::export;

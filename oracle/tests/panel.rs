@@ -112,7 +112,6 @@ fn names_and_what_the_calls_are_lent() {
     for bad in ["panel-write 0 256", "panel-write 0 -1", "panel-write 0", "panel-reset 1"] {
         assert!(Item::parse(bad).is_err(), "{bad}");
     }
-    assert_eq!(NUMBERS, 16);
 }
 
 /// Each random call is of the kind asked for.

@@ -17,7 +17,7 @@ use oracle::terms::{Case, Met};
 use std::collections::BTreeSet;
 
 mod script;
-use script::{call_at, pages, Named, Store};
+use script::{call_at, difference, pages, right, Named, Run, Store, Wrong};
 
 const SEED: u64 = 80_000_008;
 
@@ -627,7 +627,6 @@ fn calls_and_lines() {
         call_at(place, named);
     }
     assert_eq!((gen::SET_TERM, gen::CURRENT, gen::CONVERT), (17, 18, 19));
-    assert_eq!(CALL_NAMES[20], "write-groups");
     assert_eq!(Item::parse("narrow"), Ok(Item::Narrow));
     assert_eq!(Item::Narrow.to_string(), "narrow");
     let fill = Item::Fill { buffer: Tables, seed: 7 };
@@ -650,24 +649,6 @@ fn calls_and_lines() {
 
 // Wrong programs.
 
-type Run = fn(usize, &Numbers, Lent) -> Answer;
-
-/// A library that has some of the calls, and does them wrongly.
-struct Wrong {
-    calls: &'static [&'static str],
-    run: Run,
-}
-
-impl Other for Wrong {
-    fn has(&self, index: usize) -> bool {
-        self.calls.contains(&CALL_NAMES[index])
-    }
-
-    fn run(&mut self, index: usize, numbers: &Numbers, lent: Lent) -> Answer {
-        (self.run)(index, numbers, lent)
-    }
-}
-
 /// Sets, terms, days and conversions in which each wrong program shows itself.
 const ALL_CASES: &str = "format 1536; create 0 0; write 0 0 0 600 1; make 0 1 0; \
     set-term 0 2000 2 29 1; set-term 1 1998 1 31 1; set-term 0 1998 3 31 1; \
@@ -682,33 +663,6 @@ const ALL_CASES: &str = "format 1536; create 0 0; write 0 0 0 600 1; make 0 1 0;
     narrow; second 17468; convert; narrow; poke-second 3 1; convert; narrow; pages 1535; convert; \
     pages 1536; convert; tables 17436; free; size 0 0; check; check-blocks; narrow; tables 17468; \
     format 1536";
-
-/// Whether some line of the script shows a difference.
-fn noticed(wrong: Wrong) -> bool {
-    let mut wrong = wrong;
-    let mut bench = Bench::new();
-    let script = Item::parse_script(ALL_CASES).unwrap();
-    script.iter().any(|item| bench.step(item, &mut wrong).is_err())
-}
-
-/// The buffers lent once more.
-macro_rules! again {
-    ($lent:ident) => {
-        Lent::new([
-            &mut *$lent.tables,
-            &mut *$lent.pages,
-            &mut *$lent.bytes,
-            &mut *$lent.registers,
-            &mut *$lent.spare,
-            &mut *$lent.second,
-        ])
-    };
-}
-
-/// Does the call rightly.
-fn right(index: usize, n: &Numbers, lent: Lent) -> Answer {
-    store::run(index, n, lent)
-}
 
 fn put_end(tables: &mut [u8], set: u32, end: usize) {
     let at = 516 + 7 * set as usize + 5;
@@ -735,7 +689,7 @@ const CONVERT: &[&str] = &["convert"];
 #[test]
 fn wrong_programs_are_noticed() {
     let all: &[&str] = &CALL_NAMES[..20];
-    assert!(!noticed(Wrong { calls: all, run: right }), "the right program");
+    assert_eq!(difference(ALL_CASES, &mut Wrong { calls: all, run: right }), None);
     let wrong: [(&str, &'static [&'static str], Run); 30] = [
         ("31 April is taken", SET_TERM, |index, n, lent| {
             let day = if n[2] == 4 && n[3] == 31 { 30 } else { n[3] };
@@ -842,52 +796,52 @@ fn wrong_programs_are_noticed() {
             0..=36_524 => right(index, n, lent),
             _ => Answer::refused(14),
         }),
-        ("the converter writes before it has checked", CONVERT, |index, n, lent| {
+        ("the converter writes before it has checked", CONVERT, |index, n, mut lent| {
             lent.tables[0] ^= 1;
-            let answer = right(index, n, again!(lent));
+            let answer = right(index, n, lent.again());
             if answer.number != 0 {
                 lent.tables[0] ^= 1;
                 lent.tables[572] = 0xEE;
             }
             answer
         }),
-        ("the converter takes the new length", CONVERT, |index, n, lent| {
-            let answer = right(index, n, again!(lent));
+        ("the converter takes the new length", CONVERT, |index, n, mut lent| {
+            let answer = right(index, n, lent.again());
             match lent.second.len() == lent.tables.len() {
                 true => Answer::default(),
                 false => answer,
             }
         }),
-        ("the converter does not look at the pages", CONVERT, |index, n, lent| {
+        ("the converter does not look at the pages", CONVERT, |index, n, mut lent| {
             let blocks = usize::from(lent.second[0]) << 5 | usize::from(lent.second[1]) >> 3;
             let mut pages = vec![0; blocks * 512];
-            let buffers = again!(lent);
+            let buffers = lent.again();
             right(index, n, Lent { pages: &mut pages, ..buffers })
         }),
-        ("unused sets get the default term", CONVERT, |index, n, lent| {
-            let answer = right(index, n, again!(lent));
+        ("unused sets get the default term", CONVERT, |index, n, mut lent| {
+            let answer = right(index, n, lent.again());
             if answer.number == 0 {
                 (0..8).for_each(|set| put_end(lent.tables, set, 36_525));
             }
             answer
         }),
-        ("older tables are changed", CONVERT, |index, n, lent| {
-            let answer = right(index, n, again!(lent));
+        ("older tables are changed", CONVERT, |index, n, mut lent| {
+            let answer = right(index, n, lent.again());
             if answer.number == 0 {
                 lent.second[100] ^= 1;
             }
             answer
         }),
-        ("another call takes the older length", &["free"], |index, n, lent| {
-            match right(index, n, again!(lent)) {
+        ("another call takes the older length", &["free"], |index, n, mut lent| {
+            match right(index, n, lent.again()) {
                 Answer { number: 1, .. } if lent.tables.len() == 17_436 => {
                     Answer::accepted([1, 0, 0])
                 }
                 answer => answer,
             }
         }),
-        ("a set is made with its parent's term", &["make"], |index, n, lent| {
-            let answer = right(index, n, again!(lent));
+        ("a set is made with its parent's term", &["make"], |index, n, mut lent| {
+            let answer = right(index, n, lent.again());
             if answer.number == 0 {
                 let parent = 519 + 7 * n[0] as usize;
                 lent.tables.copy_within(parent..parent + 4, 519 + 7 * n[1] as usize);
@@ -896,7 +850,7 @@ fn wrong_programs_are_noticed() {
         }),
     ];
     for (name, calls, run) in wrong {
-        assert!(noticed(Wrong { calls, run }), "{name}");
+        assert!(difference(ALL_CASES, &mut Wrong { calls, run }).is_some(), "{name}");
     }
     type Fault = fn(&mut [u8]);
     let left: [(&str, &'static [&'static str], Fault); 2] = [
@@ -904,10 +858,7 @@ fn wrong_programs_are_noticed() {
         ("a format leaves set 0 without a term", &["format"], |tables| put_end(tables, 0, 0)),
     ];
     for (name, calls, fault) in left {
-        let mut bench = Bench::new();
-        let mut other = After { calls, fault };
-        let script = Item::parse_script(ALL_CASES).unwrap();
-        assert!(script.iter().any(|item| bench.step(item, &mut other).is_err()), "{name}");
+        assert!(difference(ALL_CASES, &mut After { calls, fault }).is_some(), "{name}");
     }
 }
 
@@ -922,8 +873,8 @@ impl Other for After {
         self.calls.contains(&CALL_NAMES[index])
     }
 
-    fn run(&mut self, index: usize, numbers: &Numbers, lent: Lent) -> Answer {
-        let answer = store::run(index, numbers, again!(lent));
+    fn run(&mut self, index: usize, numbers: &Numbers, mut lent: Lent) -> Answer {
+        let answer = store::run(index, numbers, lent.again());
         if answer.number == 0 {
             (self.fault)(lent.tables);
         }

@@ -166,7 +166,7 @@ fn other_calls_do_not_depend_on_terms() {
             let beside = plain.beside.clone().unwrap();
             let term = terms::set_term(&mut rng, &made.style, &beside);
             dated.call(&term, &mut NoOther).unwrap();
-            let index = rng.pick(&[1, 2, 3, 3, 3, 4, 5, 6, 7, 8, 9, 10, 11, 12, 20]);
+            let index = rng.pick(&[1, 2, 3, 3, 3, 4, 5, 6, 7, 8, 9, 10, 11, 12, 20, 21]);
             let call = gen::call_of(&mut rng, &made.style, &beside, index);
             let answer = plain.call(&call, &mut NoOther).unwrap();
             assert_eq!(dated.call(&call, &mut NoOther), Ok(answer), "{call}");

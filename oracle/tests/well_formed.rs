@@ -193,7 +193,11 @@ fn any_bytes_are_judged() {
         // A conversion is judged by the older tables, and may mend the tables.
         let calls = (1..CALLS).filter(|index| *index != CONVERT);
         for item in calls.flat_map(turn_of) {
-            let Item::Call(call) = item else { unreachable!() };
+            let Item::Call(call) = item else {
+                // Another spare page.
+                bench.step(&item, &mut NoOther).unwrap();
+                continue;
+            };
             let command = panel_judge::call_run(&call, bench.registers());
             let answer = bench.call(&call, &mut NoOther).unwrap();
             if call.is_of_panel() {

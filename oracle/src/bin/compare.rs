@@ -1,6 +1,7 @@
 //! The program `compare`: runs the C library libsweep.a beside the oracle,
-//! compares answers and every byte, and judges the library's writes by the room
-//! they take. Terms are set from every date. The library is linked when SWEEP_LIB (its
+//! compares answers and every byte that is not left free, and judges the library's writes
+//! by the room they take and its compactions by their bytes. Terms are set from every
+//! date. The library is linked when SWEEP_LIB (its
 //! folder) is set at build time; SWEEP_CALLS says which calls it has.
 
 use std::process::ExitCode;
@@ -73,6 +74,7 @@ mod sweep {
         sweep_set_term(change tables, change pages, u32 0, u32 1, u32 2, u32 3, u32 4);
         sweep_current(look tables, look pages, u32 0, u32 1);
         sweep_convert(look second, look pages, change tables);
+        sweep_compact(change tables, change pages, change spare);
         sweep_write_groups;
     }
 
@@ -106,7 +108,8 @@ mod linked {
     use oracle::check::{rules_broken, Rule};
     use oracle::conversion::narrowed;
     use oracle::dates::{date_of, day_number, end_day, Date, DAYS};
-    use oracle::gen::{self, panel, terms, Made, Style, CONVERT, CURRENT, SET_TERM};
+    use oracle::gen::compact::{self, Order};
+    use oracle::gen::{self, length_of, panel, terms, Made, Style, CONVERT, CURRENT, SET_TERM};
     use oracle::history::{any_history, many_copies_history, short_history};
     use oracle::history::{Failure, Short, Watch};
     use oracle::judge::Beside;
@@ -120,9 +123,9 @@ mod linked {
 
     const HELP: &str = "\
 usage:
-  compare SEED SECONDS [TRACE-FILE]  wrong lengths, damaged tables and random histories;
-                                     the script in hand is kept in TRACE-FILE, for a
-                                     library that ends the program
+  compare SEED SECONDS [TRACE-FILE]  wrong lengths, damaged tables, blocks in any order
+                                     and random histories; the script in hand is kept
+                                     in TRACE-FILE, for a library that ends the program
   compare replay FILE                run the script in FILE
   compare help                       this text
 exit status: 0 no difference, 1 a difference or a case that no call met, 2 bad usage
@@ -137,7 +140,11 @@ exit status: 0 no difference, 1 a difference or a case that no call met, 2 bad u
     const PANEL_HISTORIES: usize = 100;
     const ROOM_HISTORIES: usize = 300;
     const TERM_HISTORIES: usize = 150;
+    const COMPACT_HISTORIES: usize = 150;
     const CONVERSIONS: usize = 100;
+    const COMPACTIONS: usize = 150;
+    /// How many blocks the stores have whose blocks are all used or all free.
+    const ORDERED: [usize; 6] = [1, 2, 3, 12, 64, MOST_BLOCKS];
     const STATES: usize = 60;
     const LENGTH_ROUNDS: usize = 15;
 
@@ -218,10 +225,11 @@ exit status: 0 no difference, 1 a difference or a case that no call met, 2 bad u
             counts: Counts::default(),
             states: Vec::new(),
             histories: 0,
-            short_histories: [0; 4],
+            short_histories: [0; Short::ALL.len()],
             many_copies: 0,
             twists: 0,
             conversions: 0,
+            compactions: 0,
             terms_by_date: 0,
             days_by_date: 0,
             by_first_part: [0; 2],
@@ -239,13 +247,15 @@ exit status: 0 no difference, 1 a difference or a case that no call met, 2 bad u
         states: Vec<Made>,
         histories: u64,
         /// In the order of `Short`.
-        short_histories: [u64; 4],
+        short_histories: [u64; Short::ALL.len()],
         /// Histories in which a panel command can make more than 255 copies.
         many_copies: u64,
         twists: u64,
         /// Well-formed stores whose older tables were converted, with wrong lengths and
         /// broken rules between.
         conversions: u64,
+        /// Well-formed stores whose blocks stand in any order.
+        compactions: u64,
         /// Terms set from every date, and days asked for then.
         terms_by_date: u64,
         days_by_date: u64,
@@ -275,6 +285,7 @@ exit status: 0 no difference, 1 a difference or a case that no call met, 2 bad u
             for _ in 0..LENGTH_ROUNDS {
                 self.wrong_lengths()?;
                 self.wrong_registers()?;
+                self.wrong_spares()?;
             }
             for _ in 0..PANEL_HISTORIES {
                 self.short_history(Short::Panel)?;
@@ -307,16 +318,26 @@ exit status: 0 no difference, 1 a difference or a case that no call met, 2 bad u
             for _ in 0..CONVERSIONS {
                 self.converted()?;
             }
+            for _ in 0..COMPACT_HISTORIES {
+                self.short_history(Short::Compact)?;
+            }
+            for _ in 0..COMPACTIONS {
+                self.compacted()?;
+            }
+            for block_count in ORDERED {
+                self.ordered(block_count)?;
+            }
             self.every_date()
         }
 
         /// Some more of everything.
         fn round(&mut self) -> Outcome {
             self.history()?;
-            for short in [Short::Groups, Short::Panel, Short::Room, Short::Terms] {
+            for short in Short::ALL {
                 self.short_history(short)?;
             }
             self.converted()?;
+            self.compacted()?;
             for _ in 0..5 {
                 self.damaged(None)?;
                 self.twisted()?;
@@ -328,6 +349,9 @@ exit status: 0 no difference, 1 a difference or a case that no call met, 2 bad u
                 self.new_state();
                 self.wrong_lengths()?;
                 self.wrong_registers()?;
+                self.wrong_spares()?;
+                let block_count = self.rng.pick(&ORDERED);
+                self.ordered(block_count)?;
                 let free = self.rng.pick(&panel::LEFT_FREE);
                 self.many_copies_history(free)?;
             }
@@ -469,6 +493,47 @@ exit status: 0 no difference, 1 a difference or a case that no call met, 2 bad u
             self.items_on(Bench::with(tables, pages), script, items)
         }
 
+        /// A well-formed store whose blocks stand in any order: compactions of it, and
+        /// some linked calls before and between them.
+        fn compacted(&mut self) -> Outcome {
+            let made = self.rng.pick(&self.states);
+            let (mut tables, mut pages) = (made.tables.clone(), made.pages.clone());
+            if self.rng.percent(50) {
+                gen::twist(&mut self.rng, &mut tables, &mut pages);
+            }
+            let order = self.rng.pick(&Order::ALL);
+            compact::reorder(&mut self.rng, &mut tables, order);
+            self.compactions += 1;
+            let script = script_to(&made, &tables, &pages);
+            let beside = read_off(&State::unpack(&tables), &pages);
+            let mut items = Vec::new();
+            for _ in 0..2 {
+                items.extend(compact::compaction(&mut self.rng));
+                items.extend(self.turns(&made.style, &beside).concat());
+            }
+            items.extend(compact::compaction(&mut self.rng));
+            self.items_on(Bench::with(tables, pages), script, items)
+        }
+
+        /// Compactions of an empty store, and of full ones in each order, those that
+        /// cost most among them.
+        fn ordered(&mut self, block_count: usize) -> Outcome {
+            let [compaction, check] = [Call::Compact {}, Call::Check {}].map(Item::Call);
+            let format = Item::Call(Call::Format { pages_length: block_count * PAGE_BYTES });
+            let made = compact::full_store(&mut self.rng, block_count);
+            self.items_on(Bench::new(), Vec::new(), vec![format, compaction.clone()])?;
+            for order in Order::ALL {
+                let mut tables = made.tables.clone();
+                compact::reorder(&mut self.rng, &mut tables, order);
+                self.compactions += 1;
+                let script = script_to(&made, &tables, &made.pages);
+                let mut items = compact::compaction(&mut self.rng);
+                items.extend([check.clone(), compaction.clone()]);
+                self.items_on(Bench::with(tables, made.pages.clone()), script, items)?;
+            }
+            Ok(())
+        }
+
         /// Every date of the hundred years with every count of months: the library's
         /// tables are compared with the dates counted day by day. For one count of each
         /// date, and for all counts of the first and the last days of some years' months,
@@ -590,6 +655,19 @@ exit status: 0 no difference, 1 a difference or a case that no call met, 2 bad u
             Ok(())
         }
 
+        /// Wrong lengths of the spare page, on tables and pages of right and of wrong
+        /// lengths, and on damaged tables.
+        fn wrong_spares(&mut self) -> Outcome {
+            let made = self.rng.pick(&self.states);
+            for spare in compact::WRONG_SPARES.into_iter().chain([PAGE_BYTES]) {
+                let script: Vec<Item> = made.calls.iter().cloned().map(Item::Call).collect();
+                let bench = Bench::with(made.tables.clone(), made.pages.clone());
+                let items = compact::compactions_with(&mut self.rng, spare, made.pages.len());
+                self.items_on(bench, script, items)?;
+            }
+            Ok(())
+        }
+
         /// A call of each linked kind of the panel's, those with an offset at this
         /// one.
         fn panel_calls(&mut self, offset: u32) -> Vec<Item> {
@@ -635,13 +713,15 @@ exit status: 0 no difference, 1 a difference or a case that no call met, 2 bad u
 
         fn show(&self) {
             let counts = &self.counts;
-            let [groups, panel, room, terms] = self.short_histories;
+            let [groups, panel, room, terms, compact] = self.short_histories;
             println!(
                 "histories {}, short ones with writes by groups {groups}, through the panel {panel}, \
-                with many copies {}, for the room of a write {room}, with terms {terms}",
+                with many copies {}, for the room of a write {room}, with terms {terms}, \
+                with compactions {compact}",
                 self.histories, self.many_copies
             );
             println!("stores converted {}", self.conversions);
+            println!("stores with blocks in any order {}", self.compactions);
             println!("terms set by date {}, days asked {}", self.terms_by_date, self.days_by_date);
             println!("well-formed stores changed by hand {}", self.twists);
             for (index, name) in CALL_NAMES.iter().enumerate() {
@@ -665,15 +745,19 @@ exit status: 0 no difference, 1 a difference or a case that no call met, 2 bad u
             println!("accepted reads compared with plain store and tally {}", counts.reads_beside);
             println!("writes judged by the room they take {}", counts.room);
             println!("calls of terms {}", counts.terms);
+            println!("compactions {}", counts.compactions);
             writes::show("the library", &counts.writes_linked);
             writes::show("plain store and tally", &counts.writes_beside);
             accesses::show("the library", &counts.panel_linked);
         }
 
         /// Says how the run ended: well, if there was no difference and some write met
-        /// each case of the room that a write can take, and some call each case of terms.
+        /// each case of the room that a write can take, and some call each case of terms
+        /// and of compactions.
         fn ends_well(&self, outcome: Outcome) -> bool {
-            let unmet = [self.counts.room.unmet(), self.counts.terms.unmet()].concat();
+            let counts = &self.counts;
+            let unmet =
+                [counts.room.unmet(), counts.terms.unmet(), counts.compactions.unmet()].concat();
             match outcome {
                 Err(failure) => {
                     println!("compare: DIFFERENCE: {}", failure.text);
@@ -779,10 +863,6 @@ exit status: 0 no difference, 1 a difference or a case that no call met, 2 bad u
                 |text| Failure { text: format!("{call}: {text}"), script: script.to_vec() };
             same.map_err(failure)
         }
-    }
-
-    fn length_of(buffer: Buffer, length: usize) -> Item {
-        Item::Length { buffer, length }
     }
 
     /// The calls that made a store, and the lines that then make another of it.

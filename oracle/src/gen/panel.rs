@@ -177,7 +177,9 @@ fn accesses(rng: &mut Rng, style: &Style, beside: &Beside) -> Vec<Item> {
     })
 }
 
-/// What comes next in a history: a call, or accesses of the panel, or a conversion.
+/// What comes next in a history: a call, or accesses of the panel, or a conversion, or
+/// compactions. Document 02: "Compaction may stand among the calls of a sequence from then
+/// on."
 pub fn turn(rng: &mut Rng, style: &Style, beside: &Beside) -> Vec<Item> {
     if rng.percent(style.panel) {
         return accesses(rng, style, beside);
@@ -185,18 +187,21 @@ pub fn turn(rng: &mut Rng, style: &Style, beside: &Beside) -> Vec<Item> {
     if rng.percent(style.convert) {
         return terms::conversion(rng, style, beside);
     }
-    vec![Item::Call(call(rng, style, beside))]
+    match call(rng, style, beside) {
+        Call::Compact {} => compact::compaction(rng),
+        call => vec![Item::Call(call)],
+    }
 }
 
 /// A call of the kind at this place in `CALL_NAMES`; of panel writes, a command
 /// with the registers it uses, sometimes after other writes; of conversions, one with
-/// the older tables that it takes.
+/// the older tables that it takes; of compactions, one with its spare page.
 pub fn turn_of(rng: &mut Rng, style: &Style, beside: &Beside, index: usize) -> Vec<Item> {
-    if index == CONVERT {
-        return terms::conversion(rng, style, beside);
-    }
-    if index != PANEL_WRITE {
-        return vec![Item::Call(call_of(rng, style, beside, index))];
+    match index {
+        CONVERT => return terms::conversion(rng, style, beside),
+        COMPACT => return compact::compaction(rng),
+        PANEL_WRITE => {}
+        _ => return vec![Item::Call(call_of(rng, style, beside, index))],
     }
     let other_writes = match rng.below(10) {
         0 | 1 => any_command(rng),

@@ -164,10 +164,6 @@ const BREAKS: [(usize, u8); 6] = [(0, 255), (3, 1), (518, 1), (516, 68), (516, 1
 const WRONG_OLDER: [usize; 7] = [0, 1, 540, 17_435, 17_437, TABLES_BYTES, 40_000];
 const WRONG_NEW: [usize; 7] = [0, 1, 572, 17_467, 17_469, OLDER_TABLES_BYTES, 40_000];
 
-fn length_of(buffer: Buffer, length: usize) -> Item {
-    Item::Length { buffer, length }
-}
-
 /// The new buffer is filled with any bytes, or with zeros, or has some other bytes.
 fn any_new_buffer(rng: &mut Rng) -> Vec<Item> {
     if rng.percent(60) {

@@ -3,10 +3,11 @@
 // Not every test uses all of it.
 #![allow(dead_code)]
 
-use oracle::bench::{Bench, NoOther};
+use oracle::bench::{replay, Bench, NoOther, Other};
 use oracle::call::*;
 use oracle::check::is_well_formed;
 use oracle::lent::Lending;
+use oracle::maps::block_range;
 use oracle::state::*;
 use oracle::store;
 
@@ -103,6 +104,85 @@ impl Store {
     pub fn free(&self) -> u32 {
         store::free(self.0.tables(), self.0.pages()).first
     }
+}
+
+// Other implementations.
+
+/// How a library does a call.
+pub type Run = fn(usize, &Numbers, Lent) -> Answer;
+
+/// A library that has some of the calls, and does them in a way of its own.
+pub struct Wrong {
+    pub calls: &'static [&'static str],
+    pub run: Run,
+}
+
+impl Other for Wrong {
+    fn has(&self, index: usize) -> bool {
+        self.calls.contains(&CALL_NAMES[index])
+    }
+
+    fn run(&mut self, index: usize, numbers: &Numbers, lent: Lent) -> Answer {
+        (self.run)(index, numbers, lent)
+    }
+}
+
+/// Does the call rightly.
+pub fn right(index: usize, n: &Numbers, lent: Lent) -> Answer {
+    store::run(index, n, lent)
+}
+
+/// A compaction done in place, by exchanges through the spare page. Each stored entry in
+/// turn gets the next block: its page changes places with the one there, if a later entry
+/// names that block, and else is copied. So it leaves other bytes free than the oracle.
+pub fn compact_in_place(mut lent: Lent) -> Answer {
+    let is_formed = is_well_formed(lent.tables, lent.pages.len());
+    if !is_formed || lent.spare.len() != PAGE_BYTES {
+        return Answer::refused(if is_formed { 16 } else { 1 });
+    }
+    let mut state = State::unpack(lent.tables);
+    let stored_places: Vec<Place> = stored_places(&state);
+    for (block, place) in stored_places.iter().enumerate() {
+        let old = state.files[place.0][place.1].entries[place.2].block;
+        let later = stored_places[block..].iter().find(|(set, file, page)| {
+            old != block && state.files[*set][*file].entries[*page].block == block
+        });
+        match later {
+            None => lent.pages.copy_within(block_range(old), block * PAGE_BYTES),
+            Some((set, file, page)) => {
+                exchange(&mut lent, old, block);
+                state.files[*set][*file].entries[*page].block = old;
+            }
+        }
+        state.files[place.0][place.1].entries[place.2].block = block;
+    }
+    let used = stored_places.len();
+    (0..MOST_BLOCKS).for_each(|block| state.bits[block] = block < used);
+    state.next_start = used % state.block_count;
+    state.pack(lent.tables);
+    Answer::default()
+}
+
+fn exchange(lent: &mut Lent, one: usize, other: usize) {
+    lent.spare.copy_from_slice(&lent.pages[block_range(one)]);
+    lent.pages.copy_within(block_range(other), one * PAGE_BYTES);
+    lent.pages[block_range(other)].copy_from_slice(lent.spare);
+}
+
+/// A set, a file and a page.
+pub type Place = (usize, usize, usize);
+
+/// The places of all stored entries, by set, then file, then page.
+pub fn stored_places(state: &State) -> Vec<Place> {
+    let all = (0..SETS * FILES * PAGES).map(|n| (n / PAGES / FILES, n / PAGES % FILES, n % PAGES));
+    let is_stored =
+        |(set, file, page): &Place| state.files[*set][*file].entries[*page].kind == Kind::Stored;
+    all.filter(is_stored).collect()
+}
+
+/// The first difference that a line of the script shows, if there is one.
+pub fn difference(script: &str, other: &mut dyn Other) -> Option<String> {
+    replay(&Item::parse_script(script).unwrap(), other).map(|(_, text)| text)
 }
 
 /// The bytes of pages, each written whole with a seed of its own (0: zeros).

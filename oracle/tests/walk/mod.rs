@@ -307,7 +307,7 @@ fn each_store(
 
 /// A truncate above the size, or a write that starts past it: it shows bytes
 /// past the size, which a well-formed store may hold.
-fn grows_over_a_gap(state: &State, call: &Call) -> bool {
+pub fn grows_over_a_gap(state: &State, call: &Call) -> bool {
     let size = |set: u32, file: u32| {
         let there = set < 8 && file < 16 && state.files[set as usize][file as usize].is_present();
         there.then(|| state.size_by_reading(set as usize, file as usize))
