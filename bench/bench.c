@@ -12,7 +12,7 @@
  * alone, is repeated in a row under one reading of the clock. A call that changes the tables is timed by itself: tables and
  * registers are put back before it, outside the time, and the cost of reading the clock is taken off. Pages are not put back:
  * what they hold decides nothing. Before the timing each case is done once by both, and answer, tables, pages, read buffer and
- * registers must be the same.
+ * registers must be the same; of a compaction the pages of used blocks, as it leaves the others and the spare page free.
  */
 #define _GNU_SOURCE
 #include "twin.h"
@@ -54,13 +54,14 @@ struct calls {
     sweep_answer (*set_term)(uint8_t *, size_t, uint8_t *, size_t, uint32_t, uint32_t, uint32_t, uint32_t, uint32_t);
     sweep_answer (*current)(const uint8_t *, size_t, const uint8_t *, size_t, uint32_t, uint32_t);
     sweep_answer (*convert)(const uint8_t *, size_t, const uint8_t *, size_t, uint8_t *, size_t);
+    sweep_answer (*compact)(uint8_t *, size_t, uint8_t *, size_t, uint8_t *, size_t);
 };
 
 #define ALL(prefix)                                                                                                    \
     prefix##_format, prefix##_create, prefix##_write, prefix##_write_narrow, prefix##_read, prefix##_truncate,         \
         prefix##_delete, prefix##_make, prefix##_remove, prefix##_size, prefix##_free, prefix##_check_blocks,          \
         prefix##_check, prefix##_panel_reset, prefix##_panel_read, prefix##_panel_write, prefix##_panel_line,          \
-        prefix##_set_term, prefix##_current, prefix##_convert
+        prefix##_set_term, prefix##_current, prefix##_convert, prefix##_compact
 static const struct calls store = { "store", ALL(sweep) };
 static const struct calls twin = { "twin", ALL(twin) };
 
@@ -74,6 +75,7 @@ static _Alignas(4096) uint8_t pages[MAX_BLOCKS * PAGE];
 static _Alignas(4096) uint8_t pages_kept[MAX_BLOCKS * PAGE];
 static _Alignas(4096) uint8_t data[FILE_BYTES];
 static _Alignas(4096) uint8_t buffer[FILE_BYTES];
+static _Alignas(4096) uint8_t spare[PAGE];
 static _Alignas(4096) uint8_t other[MAX_BLOCKS * PAGE];
 static size_t length; /* of the pages */
 
@@ -231,6 +233,53 @@ static void scattered(unsigned blocks)
     }
 }
 
+/* Every block used, by entries that stand as far apart as can be, holes between them: the i-th names the block that is told. */
+static void spread(unsigned blocks, unsigned (*block)(unsigned i, unsigned blocks))
+{
+    enum { ENTRIES = 8 * 16 * 64 };
+    own_files(blocks, FILE_BYTES);
+    for (unsigned i = 0; i < ENTRIES; i++)
+        put_entry(i / 1024, i / 64 % 16, i % 64, 0x4000);
+    for (unsigned i = 0; i < blocks; i++) {
+        unsigned at = i * (ENTRIES / blocks);
+        put_stored(at / 1024, at / 64 % 16, at % 64, block(i, blocks));
+    }
+}
+
+static unsigned next_block(unsigned i, unsigned blocks) { return (i + 1) % blocks; }
+static unsigned from_last(unsigned i, unsigned blocks) { return blocks - 1 - i; }
+static void turned(unsigned blocks) { spread(blocks, next_block); }
+static void reversed(unsigned blocks) { spread(blocks, from_last); }
+
+/* The typical store as a compaction leaves it. */
+static void in_order(unsigned blocks)
+{
+    typical(blocks);
+    must(twin_compact(LENT, spare, PAGE));
+}
+
+/* After a year: the 16 files of set 0 written in turn, a page a call; two copies made, some files written anew in turn; then every
+ * third file is deleted, in set 0 and in the second copy. */
+static void in_scraps(unsigned blocks)
+{
+    enum { COPY = 1, TRIAL = 2 };
+    empty(blocks);
+    for (unsigned f = 0; f < 16; f++)
+        must(twin_create(LENT, 0, f));
+    for (unsigned page = 0; page < blocks / 64; page++)
+        for (unsigned f = 0; f < 16; f++)
+            must(twin_write_narrow(LENT, 0, f, page * PAGE, data, PAGE));
+    must(twin_make(LENT, 0, COPY, 0));
+    must(twin_make(LENT, 0, TRIAL, 1));
+    for (unsigned page = 0; page < blocks / 64; page++)
+        for (unsigned f = 0; f < 16; f += 2)
+            must(twin_write_narrow(LENT, f % 4 ? 0 : TRIAL, f, page * PAGE, data, PAGE));
+    for (unsigned f = 0; f < 16; f += 3) {
+        must(twin_delete(LENT, 0, f));
+        must(twin_delete(LENT, TRIAL, f));
+    }
+}
+
 /* Own files of 1 byte each (of none where the blocks do not suffice): 63 pages past the size, which resolve to a hole from
  * every set, some of them holes there and some unmapped, in no order. */
 static void sizes(unsigned blocks)
@@ -367,6 +416,7 @@ CASE(term_none, set_term(LENT, 0, 2026, 11, 31, 12))
 CASE(current_root, current(LENT, 0, 10547))
 CASE(current_far, current(LENT, 7, 10547))
 CASE(convert_it, convert(old, OLD_TABLES, pages, length, tables, TABLES))
+CASE(compact_it, compact(LENT, spare, PAGE))
 
 /* File 0 of set 0 rewritten from front to back, a page a call; gives the counts of all, and the first number that is not 0. */
 #define REWRITE(name, call)                                                                                            \
@@ -490,6 +540,13 @@ static const struct bench_case cases[] = {
     { "convert", "", "typical", convert_it, old_typical, true, 0, { 64, 4096 }, { 0, 0 } },
     { "convert", "", "full, deep", convert_it, old_deep, true, 0, { 64, 4096 }, { 0, 0 } },
     { "convert", "", "scattered", convert_it, old_scattered, true, 0, { 64, 4096 }, { 0, 0 } },
+    { "compact", "nothing stored", "empty", compact_it, empty, true, 0, { 64, 4096 }, { 0, 0 } },
+    { "compact", "nothing to move", "in order", compact_it, in_order, true, 0, { 64, 4096 }, { 0, 0 } },
+    { "compact", "", "typical", compact_it, typical, true, 0, { 64, 4096 }, { 0, 0 } },
+    { "compact", "", "in scraps", compact_it, in_scraps, true, 0, { 1024, 4096 }, { 0, 0 } },
+    { "compact", "", "turned by one", compact_it, turned, true, 0, { 64, 4096 }, { 0, 0 } },
+    { "compact", "", "reversed", compact_it, reversed, true, 0, { 64, 4096 }, { 0, 0 } },
+    { "compact", "", "scattered", compact_it, scattered, true, 0, { 64, 4096 }, { 0, 0 } },
 };
 enum { CASES = sizeof cases / sizeof cases[0] };
 
@@ -502,7 +559,13 @@ static void build(const struct bench_case *k, unsigned blocks)
         memcpy(pages_kept, pages, length);
 }
 
-/* Both do the case once; answer and every byte must be the same. */
+/* The bytes of the pages that are compared: all, or after a compaction those of the used blocks, which are the first. */
+static size_t compared(const struct bench_case *k)
+{
+    return k->run == compact_it ? length - (size_t)free_now() * PAGE : length;
+}
+
+/* Both do the case once; answer and every byte that is not left free must be the same. */
 static void compare(const struct bench_case *k)
 {
     static uint8_t after[TABLES], read[FILE_BYTES], panel[REGISTERS];
@@ -519,7 +582,7 @@ static void compare(const struct bench_case *k)
     sweep_answer b = k->run(&twin);
     if (a.number != k->number || a.number != b.number || a.first != b.first || a.second != b.second || a.third != b.third)
         fail("store and twin give different answers");
-    if (memcmp(after, tables, TABLES) || memcmp(other, pages, length) || memcmp(read, buffer, FILE_BYTES) ||
+    if (memcmp(after, tables, TABLES) || memcmp(other, pages, compared(k)) || memcmp(read, buffer, FILE_BYTES) ||
         memcmp(panel, registers, REGISTERS))
         fail("store and twin leave different bytes");
     if (k->changes && registers[SWEEP_PANEL_NUMBER] != 0)

@@ -1008,6 +1008,103 @@ sweep_answer twin_delete(uint8_t *t, size_t tl, uint8_t *p, size_t pl, uint32_t 
     return finish(&c);
 }
 
+/* ---- compaction ---- */
+
+enum { WINDOW = 256 };
+
+/* A compaction under way. The entries before the one in hand name the blocks 0 to k - 1. */
+struct compaction {
+    uint8_t *t, *p, *spare;
+    unsigned k;
+    unsigned start;         /* the window is the blocks from here on */
+    uint16_t owner[WINDOW]; /* the place of the entry that names a block of the window, if that is used and not below k */
+};
+
+/* Are any of the four entries from here on stored? */
+static inline bool some_stored(const uint8_t *entries) { return raw64(entries) & LANES(0x0080); }
+
+/* The window begins at block k: the owners are among the entries of the record in hand and those behind it. */
+static __attribute__((noinline)) void fill_window(struct compaction *c, const uint8_t *record)
+{
+    c->start = c->k;
+    for (const uint8_t *r = record; r < c->t + TABLES; r += RECORD)
+        for (const uint8_t *at = r + 4; at < r + RECORD; at += 8) {
+            if (!some_stored(at))
+                continue;
+            for (unsigned i = 0; i < 8; i += 2) {
+                unsigned e = load16(at + i), b = (e & BLOCK) - c->start;
+                if (e & STORED && b < WINDOW)
+                    c->owner[b] = (uint16_t)(at + i - c->t);
+            }
+        }
+}
+
+static inline uint8_t *place_of(const struct compaction *c, unsigned block) { return c->p + (size_t)block * PAGE; }
+
+/* Exchanges the pages of blocks k and j, which another entry and the one in hand name. */
+static void exchange_pages(struct compaction *c, const uint8_t *record, unsigned j)
+{
+    if (c->k - c->start >= WINDOW)
+        fill_window(c, record);
+    uint16_t other = c->owner[c->k - c->start];
+    copy_bytes(c->spare, place_of(c, c->k), PAGE);
+    copy_bytes(place_of(c, c->k), place_of(c, j), PAGE);
+    copy_bytes(place_of(c, j), c->spare, PAGE);
+    store16(c->t + other, STORED | j);
+    if (j - c->start < WINDOW)
+        c->owner[j - c->start] = other;
+}
+
+/* The stored entry at this place gets block k. */
+static inline void settle_entry(struct compaction *c, const uint8_t *record, uint8_t *at)
+{
+    unsigned j = load16(at) & BLOCK, k = c->k;
+    uint8_t *bits = c->t + BITMAP + k / 8, bit = (uint8_t)(0x80u >> k % 8);
+    if (j != k) {
+        if (*bits & bit) {
+            exchange_pages(c, record, j);
+        } else {
+            copy_bytes(place_of(c, k), place_of(c, j), PAGE);
+            *bits |= bit;
+            free_block(c->t, j);
+        }
+        store16(at, STORED | k);
+    }
+    c->k = k + 1;
+}
+
+/* Every stored entry in order; gives the used blocks. Its window and the check do not stand on the stack together. */
+static __attribute__((noinline)) unsigned pull_together(uint8_t *t, uint8_t *p, uint8_t *spare)
+{
+    struct compaction c;
+    c.t = t, c.p = p, c.spare = spare;
+    c.k = 0, c.start = MAX_BLOCKS; /* no block is in the window yet */
+    for (uint8_t *r = t + HEADS; r < t + TABLES; r += RECORD) {
+        if (!(state_of(load32(r)) & 1)) /* own or marked: others name no block */
+            continue;
+        for (uint8_t *at = r + 4; at < r + RECORD; at += 8) {
+            if (!some_stored(at))
+                continue;
+            for (unsigned i = 0; i < 8; i += 2)
+                if (load16(at + i) & STORED)
+                    settle_entry(&c, r, at + i);
+        }
+    }
+    return c.k;
+}
+
+sweep_answer twin_compact(uint8_t *t, size_t tl, uint8_t *p, size_t pl, uint8_t *spare, size_t sl)
+{
+    struct store x;
+    if (!well_formed(t, tl, pl, &x))
+        return refused(SWEEP_BAD_TABLES);
+    if (sl != PAGE)
+        return refused(SWEEP_BAD_SPARE);
+    unsigned used = pull_together(t, p, spare);
+    store32(t, x.blocks << 19 | (used == x.blocks ? 0 : used) << 7);
+    return refused(0);
+}
+
 /* ---- the front panel ---- */
 
 enum { REGISTERS = 16 };

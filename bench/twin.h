@@ -36,5 +36,7 @@ sweep_answer twin_current(const uint8_t *tables, size_t tables_length, const uin
                           uint32_t set, uint32_t day);
 sweep_answer twin_convert(const uint8_t *old, size_t old_length, const uint8_t *pages, size_t pages_length, uint8_t *tables,
                           size_t tables_length);
+sweep_answer twin_compact(uint8_t *tables, size_t tables_length, uint8_t *pages, size_t pages_length, uint8_t *spare,
+                          size_t spare_length);
 
 #endif

@@ -7,16 +7,17 @@
  *   pages   the blocks, SWEEP_PAGE_BYTES bytes each, at least one and at most SWEEP_BLOCKS_MAX.
  * The calls of the front panel are lent a third, its registers, SWEEP_PANEL_REGISTERS bytes; three of the four want it alone.
  * sweep_convert is lent older tables too, SWEEP_OLD_TABLES_BYTES bytes, from before sets had terms; no other call takes those.
+ * sweep_compact is lent a spare page too, SWEEP_PAGE_BYTES bytes.
  * sweep_format makes a store of as many blocks as the pages buffer holds; every later call wants the same length.
  *
  * Rules for callers
  *   - A slice is a pointer and its length in bytes; that many bytes must be there. A pointer must not be null, also where
  *     the length is 0.
- *   - The buffers of one call (tables, pages, data or read buffer, registers, older tables) do not overlap.
+ *   - The buffers of one call (tables, pages, data or read buffer, registers, older tables, spare page) do not overlap.
  *   - While a call runs nobody else writes to its buffers, and nobody else reads those that it may change (the ones
  *     without const).
  *   - Nothing else is asked: the buffers may hold any bytes and the numbers may be any. Each call tests for itself what it
- *     was given. A call that is refused gives one of the numbers 1 to 15 and zero counts, and every byte stays as it was.
+ *     was given. A call that is refused gives one of the numbers 1 to 16 and zero counts, and every byte stays as it was.
  */
 #ifndef SWEEP_H
 #define SWEEP_H
@@ -72,7 +73,8 @@ enum sweep_number {
     SWEEP_ROOT = 12,        /* remove of set 0 */
     SWEEP_NO_REGISTER = 13, /* front panel: an offset over 15, or registers of another length; before all others */
     SWEEP_NO_DATE = 14,     /* set_term: there is no such date, or it lies outside 1998-01-01 to 2097-12-31 */
-    SWEEP_BAD_MONTHS = 15   /* set_term: the month count is 0 or over SWEEP_MOST_MONTHS */
+    SWEEP_BAD_MONTHS = 15,  /* set_term: the month count is 0 or over SWEEP_MOST_MONTHS */
+    SWEEP_BAD_SPARE = 16    /* compact: the spare page has another length than SWEEP_PAGE_BYTES */
 };
 
 /* What every call gives: a number of enum sweep_number, and three counts, all 0 unless the call says otherwise */
@@ -186,6 +188,18 @@ sweep_answer sweep_current(const uint8_t *tables, size_t tables_length, const ui
  * A firmware that finds an image of the older length converts it once, when it starts, and saves the new one. */
 sweep_answer sweep_convert(const uint8_t *old, size_t old_length, const uint8_t *pages, size_t pages_length,
                            uint8_t *tables, size_t tables_length);
+
+/* Pulls the used blocks together. They are renumbered from 0 up, by set number, then file, then page, and their pages move to suit: the
+ * first stored page of the lowest set that has one is then in block 0, the next in block 1, and so on. So the stored pages of a file
+ * stand one behind the other, and all free blocks behind all used ones. Next start becomes the number of used blocks modulo the block
+ * count. Blocks of marked files are used blocks, and move too. Lend it a spare page of SWEEP_PAGE_BYTES, which may hold anything; pages
+ * are exchanged through it.
+ * What a caller sees of the store stays: sets, files, states, sizes, contents, terms, the maps that a read looks at, how many blocks
+ * are free. What changes is the block numbers in the tables, which a listing shows, the bitmap and next start: so later calls take
+ * other blocks. Afterwards the pages of free blocks and the spare page may hold anything.
+ * A refusal leaves the spare page too. A second compaction changes no byte of the tables and of the used pages. */
+sweep_answer sweep_compact(uint8_t *tables, size_t tables_length, uint8_t *pages, size_t pages_length,
+                           uint8_t *spare, size_t spare_length);
 
 /* THE FRONT PANEL: sixteen byte-wide registers, which the caller keeps and lends. Only the four calls below write them from a reset
  * on. The register at each offset, and whether a write changes it: */

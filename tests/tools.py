@@ -167,6 +167,13 @@ class Picture(unittest.TestCase):
     def test_the_example_is_what_is_drawn(self):
         self.assertEqual(self.drawn(self.listing, "--title", "An afternoon on a bench"), read("docs", "listing.svg"))
 
+    def test_the_pictures_of_a_compaction_are_what_is_drawn(self):
+        before, after = read("examples", "compaction.out").split("\nafter: ")
+        for name, printed in (("Before", before), ("After", after)):
+            listing = "".join(line + "\n" for line in printed.split("\n") if re.match("(set|file|ext) ", line))
+            drawn = self.drawn(listing, "--blocks", "16", "--title", f"{name} compaction")
+            self.assertEqual(drawn, read("docs", f"compaction-{name.lower()}.svg"))
+
     def parts(self, svg, kind, tag="rect"):
         return [part for part in xml.fromstring(svg).iter(SVG + tag) if part.get("class") == kind]
 

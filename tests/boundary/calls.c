@@ -35,6 +35,17 @@ RUN(panel_line, sweep_panel_line(SLICE(REGISTERS)))
 RUN(set_term, sweep_set_term(STORE, N(0), N(1), N(2), N(3), N(4)))
 RUN(current, sweep_current(STORE, N(0), N(1)))
 RUN(convert, sweep_convert(SLICE(SECOND), SLICE(PAGES), SLICE(TABLES)))
+RUN(compact, sweep_compact(STORE, SLICE(SPARE)))
+
+/* What an accepted compaction leaves free: the pages of free blocks, which are the last ones, and the spare page. */
+static void free_after_compaction(const struct call *after, enum buffer buffer, uint8_t *free)
+{
+    size_t used = used_blocks(after->lent[TABLES].at) * SWEEP_PAGE_BYTES;
+    if (buffer == PAGES)
+        memset(free + used, 1, after->lent[PAGES].length - used);
+    if (buffer == SPARE)
+        memset(free, 1, after->lent[SPARE].length);
+}
 
 /* The rows */
 
@@ -75,6 +86,8 @@ static const struct function functions[CALLS] = {
     /* the second tables are the old ones; what the new buffer holds does not matter */
     [CONVERT] = {.name = "convert", .run = run_convert,
                  .lends = {[TABLES] = CHANGED, [PAGES] = READ_ONLY, [SECOND] = READ_ONLY}, .unchecked = 1, .prepare = old_tables},
+    [COMPACT] = {.name = "compact", .run = run_compact, .lends = {STORE_CHANGED, [SPARE] = CHANGED},
+                 .leaves = free_after_compaction, .prepare = spare_page},
 };
 
 struct suite exported = {functions, CALLS, judge, {{{0}}, 0, 0}};
@@ -108,6 +121,14 @@ void put_term(uint8_t *tables, uint32_t set, uint32_t first, uint32_t end)
 {
     const uint8_t days[] = {(uint8_t)(first >> 8), (uint8_t)first, (uint8_t)(end >> 8), (uint8_t)end};
     memcpy(tables + SETS_AT + SET_BYTES * set + TERM_AT, days, sizeof days);
+}
+
+size_t used_blocks(const uint8_t *tables)
+{
+    size_t used = 0;
+    for (size_t block = 0; block < SWEEP_BLOCKS_MAX; block++)
+        used += tables[BITMAP_AT + block / 8] >> (7 - block % 8) & 1;
+    return used;
 }
 
 void narrow(uint8_t *old, const uint8_t *tables)

@@ -6,11 +6,11 @@
 
 /* The places of their rows; the judge has the same (oracle/src/names.rs). */
 enum { FORMAT, CREATE, WRITE, READ, TRUNCATE, DELETE, MAKE, REMOVE, SIZE, FREE, CHECK_BLOCKS, CHECK, WRITE_NARROW,
-       PANEL_RESET, PANEL_READ, PANEL_WRITE, PANEL_LINE, SET_TERM, CURRENT, CONVERT, CALLS };
+       PANEL_RESET, PANEL_READ, PANEL_WRITE, PANEL_LINE, SET_TERM, CURRENT, CONVERT, COMPACT, CALLS };
 
-/* Places in the tables: set records from SETS_AT on, each with its term, first day and end day, TERM_AT bytes behind its start; then
+/* Places in the tables: the bitmap from BITMAP_AT on; set records from SETS_AT on, each with its term, first day and end day, TERM_AT bytes behind its start; then
  * file records. Before the terms set records ended there. */
-enum { SETS_AT = 516, SET_BYTES = 7, TERM_AT = 3, FILES_AT = 572, FILE_BYTES = 132 };
+enum { BITMAP_AT = 4, SETS_AT = 516, SET_BYTES = 7, TERM_AT = 3, FILES_AT = 572, FILE_BYTES = 132 };
 enum { OLD_SET_BYTES = TERM_AT, OLD_FILES_AT = 540 };
 
 /* The exported functions with the second implementation (judge/). */
@@ -24,6 +24,9 @@ int set_is_used(const uint8_t *tables, uint32_t set);
 uint32_t first_day(const uint8_t *tables, uint32_t set);
 uint32_t end_day(const uint8_t *tables, uint32_t set);
 void put_term(uint8_t *tables, uint32_t set, uint32_t first, uint32_t end);
+
+/* The ones of the bitmap: the used blocks, where the tables are well formed. */
+size_t used_blocks(const uint8_t *tables);
 
 /* The tables as they were before the terms: what a store in the field has. The two may begin at the same byte. */
 void narrow(uint8_t *old, const uint8_t *tables);

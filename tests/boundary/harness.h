@@ -13,7 +13,7 @@ enum buffer {
     PAGES,
     BYTES,     /* the data of a write, the buffer of a read */
     REGISTERS,
-    SPARE,     /* a spare page */
+    SPARE,     /* the spare page of a compaction */
     SECOND,    /* second tables: the older ones that are converted */
     BUFFERS
 };

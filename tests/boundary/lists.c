@@ -346,6 +346,16 @@ void old_tables(struct buffers *world, const struct call *call, struct cursor *c
         choose_lengths(world, cursor);
 }
 
+/* For a compaction: any bytes, mostly as many as a page has. */
+void spare_page(struct buffers *world, const struct call *call, struct cursor *cursor)
+{
+    static const uint32_t lengths[] = {0, 511, 513, 1024, 1};
+    (void)call;
+    uint8_t byte = next(cursor);
+    world->length[SPARE] = byte < 216 ? SWEEP_PAGE_BYTES : PICK(lengths, byte);
+    fill(world->of[SPARE], world->length[SPARE], byte);
+}
+
 typedef void changes(struct buffers *world, struct cursor *cursor);
 
 /* Lists */
@@ -365,7 +375,7 @@ static const struct kind kinds[] = {
     {4, 0, change_a_page}, {2, 0, choose_lengths}, {1, FORMAT, 0},        {4, CHECK_BLOCKS, 0},   {4, CHECK, 0},
     {36, WRITE, 0}, {10, PANEL_WRITE, 0}, {4, PANEL_READ, 0}, {3, PANEL_LINE, 0}, {1, PANEL_RESET, 0},
     {16, COMMAND, 0}, {2, 0, change_registers}, {1, 0, choose_registers}, {14, SET_TERM, 0}, {8, CURRENT, 0}, {8, CONVERT, 0},
-    {3, 0, change_a_term}, {2, 0, give_old_tables},
+    {3, 0, change_a_term}, {2, 0, give_old_tables}, {8, COMPACT, 0},
 };
 enum { KINDS = sizeof kinds / sizeof *kinds };
 

@@ -20,6 +20,6 @@ chooses year_of_date, month_of_date, day_of_date, count_of_months, day_near_term
 
 /* Give buffers lengths and contents. */
 typedef void prepares(struct buffers *world, const struct call *call, struct cursor *cursor);
-prepares pages_for_format, data_to_write, buffer_to_read, old_tables;
+prepares pages_for_format, data_to_write, buffer_to_read, old_tables, spare_page;
 
 #endif

@@ -1,8 +1,8 @@
 /* The two parts of the check, rule by rule: stores in which one rule is broken, and no other where that can be; the judge makes
  * them. A rule of the first part: both checks refuse. A rule of the second part: sweep_check_blocks accepts, sweep_check
- * refuses. Either way every other call on the store but a format refuses with 1, and so does a command of the front panel, in its
- * register. The same tables without their terms are then refused by the converter, unless only terms broke the rule. All calls are
- * compared with the judge too.
+ * refuses. Either way every other call on the store but a format refuses with 1, a compaction whatever the length of its spare
+ * page, and so does a command of the front panel, in its register. The same tables without their terms are then refused by the
+ * converter, unless only terms broke the rule. All calls are compared with the judge too.
  * Exit status: 0 all well, 1 not. */
 #include <stdbool.h>
 #include <stdio.h>
@@ -111,6 +111,7 @@ int main(void)
             break_rule(rule, seed, buffers, &made);
             world.length[TABLES] = made.tables_length;
             world.length[PAGES] = made.pages_length;
+            world.length[SPARE] = seed % 2 ? SWEEP_PAGE_BYTES : seed;
             alone = alone && made.alone;
             try_store(&world, &made, seed);
         }

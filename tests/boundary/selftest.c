@@ -1,6 +1,7 @@
 /* Shows that the harness notices what it is there for: each fault is done after a right call, in a process of its own that has
- * to end badly. The faults here are on the exported functions; those on buffers and numbers that no exported function has yet
- * are in standin.c. Exit status: 0 all noticed, 1 not. Built without sanitizers, so that they have no part in it. */
+ * to end badly. What a right store may do is done in the same way, and the process has to end well. The faults of compactions are
+ * in compaction_faults.c. Exit status: 0 all noticed that have to be, and nothing else, 1 not. Built without sanitizers, so that
+ * they have no part in it. */
 #define _DEFAULT_SOURCE
 #include <stdio.h>
 #include <stdlib.h>
@@ -28,8 +29,6 @@ void change_past(struct slice lent)
     if (ends_a_page(lent.at) && !ends_a_page(lent.at + lent.length))
         lent.at[lent.length] ^= 1;
 }
-
-#define IS(which) (done->call->name == which)
 
 static void look_past_tables(struct done *done) { if (START(TABLES)) look(END(TABLES)); }
 static void look_before_tables(struct done *done) { if (START(TABLES)) look(START(TABLES) - 1); }
@@ -139,8 +138,6 @@ static void check_tables_before_registers(struct done *done)
 
 /* Terms and the converter: the set records before the call, where the tables had their length. */
 static uint8_t set_records[FILES_AT];
-#define TOOK(which) (IS(which) && done->answer.number == SWEEP_OK)
-#define REFUSED(which) (IS(which) && done->answer.number != SWEEP_OK)
 #define LONG_ENOUGH (LENT(TABLES).length == SWEEP_TABLES_BYTES)
 #define HAS_TERM(set) (LONG_ENOUGH && (set) < SWEEP_SETS && set_is_used(START(TABLES), set))
 
@@ -317,7 +314,7 @@ static void convert_without_pages(struct done *done)
 }
 
 static const struct fault faults[] = {
-    {"none", 0}, FAULT(look_past_tables), FAULT(look_before_tables), FAULT(look_past_pages), FAULT(look_before_pages),
+    {"nothing", 0, 0}, FAULT(look_past_tables), FAULT(look_before_tables), FAULT(look_past_pages), FAULT(look_before_pages),
     FAULT(look_past_bytes), FAULT(look_before_bytes), FAULT(touch_tables_in_free), FAULT(touch_pages_in_read),
     FAULT(touch_data_in_write), FAULT(count_one_more_copy), FAULT(count_one_copy_less),
     FAULT(count_a_narrow_copy_more), FAULT(exchange_writes), FAULT(count_no_marks), FAULT(give_another_number),
@@ -397,7 +394,7 @@ static sweep_answer call_with_fault(const struct call *call)
         memcpy(before, call->lent[REGISTERS].at, sizeof before);
     if (call->lent[TABLES].length == SWEEP_TABLES_BYTES)
         memcpy(set_records, call->lent[TABLES].at, sizeof set_records);
-    struct done done = {call, call_plainly(&made)};
+    struct done done = {call, call_plainly(&made), set_records};
     if (fault)
         fault(&done);
     return done.answer;
@@ -417,8 +414,9 @@ static void run_lists(void (*does)(struct done *done))
     }
 }
 
-/* Runs calls with each fault in a process of its own. Gives how many were not told from a right store, or -1. */
-static int missed(const struct fault *list, int count, void (*run)(void (*does)(struct done *done)))
+/* Runs lists with each fault in a process of its own. Gives how many were not told from a right store, or taken for a fault where
+ * they are none, or -1. */
+static int missed(const struct fault *list, int count)
 {
     int missed = 0;
     for (int i = 0; i < count; i++) {
@@ -426,14 +424,14 @@ static int missed(const struct fault *list, int count, void (*run)(void (*does)(
         if (child == 0) {
             if (!freopen("/dev/null", "w", stderr))
                 _exit(2);
-            run(list[i].does);
+            run_lists(list[i].does);
             _exit(0);
         }
         int status = 0;
         if (child < 0 || waitpid(child, &status, 0) != child)
             return -1;
         int noticed = WIFSIGNALED(status);
-        if (noticed != (list[i].does != 0)) {
+        if (noticed != list[i].noticed) {
             printf("selftest: %s was %s\n", list[i].name, noticed ? "taken for a fault" : "not noticed");
             missed++;
         }
@@ -441,14 +439,21 @@ static int missed(const struct fault *list, int count, void (*run)(void (*does)(
     return missed;
 }
 
+static int to_notice(const struct fault *list, int count)
+{
+    int all = 0;
+    for (int i = 0; i < count; i++)
+        all += list[i].noticed;
+    return all;
+}
+
 int main(void)
 {
-    int exports = missed(faults, FAULTS, run_lists);
-    int standins = missed(standin_faults, standin_fault_count, run_standins);
-    if (exports < 0 || standins < 0)
+    int others = missed(faults, FAULTS), compactions = missed(compaction_faults, compaction_fault_count);
+    if (others < 0 || compactions < 0)
         return 2;
-    printf("selftest: %d faults on exported functions, %d noticed\n", FAULTS - 1, FAULTS - 1 - exports);
-    printf("selftest: %d faults on stand-in functions, %d noticed\n", standin_fault_count - 1,
-           standin_fault_count - 1 - standins);
-    return exports || standins;
+    int all = to_notice(faults, FAULTS) + to_notice(compaction_faults, compaction_fault_count);
+    printf("selftest: %d faults and %d that are none, %d of all told wrongly\n", all, FAULTS + compaction_fault_count - all,
+           others + compactions);
+    return others || compactions;
 }

@@ -7,28 +7,7 @@
  * Exit status: 0 all well, 1 not. */
 #include <stdio.h>
 #include <string.h>
-#include "calls.h"
-
-static struct buffers world;
-static unsigned turns;
-static int wrong;
-
-static sweep_answer do_it(unsigned name, const uint32_t *numbers, int count)
-{
-    struct call call = {name, {0}, {{0, 0}}};
-    memcpy(call.n, numbers, sizeof *numbers * (size_t)count);
-    return do_call(&exported, call_plainly, &world, &call, turns++);
-}
-#define DO(name, ...) do_it(name, (const uint32_t[]){__VA_ARGS__}, sizeof((const uint32_t[]){__VA_ARGS__}) / sizeof(uint32_t))
-#define CALL(name) do_it(name, (const uint32_t[]){0}, 0)
-
-static void expect(const char *what, uint32_t given, uint32_t wanted)
-{
-    if (given == wanted)
-        return;
-    printf("terms: %s: %lu, not %lu\n", what, (unsigned long)given, (unsigned long)wanted);
-    wrong = 1;
-}
+#include "edges.h"
 
 /* A store of four sets: 1 and 2, the first read-only, from set 0, and 4 from 2; a sweep that 2 has written to, and a term. */
 enum { BLOCKS = 8, ROOT = 0, READ_ONLY_SET = 1, COPY = 2, UNUSED = 3, DEEP = 4 };
