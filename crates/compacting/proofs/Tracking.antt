@@ -1,5 +1,5 @@
 -- The owners of the blocks in a window: what is noted, the window moved, and what an exchange keeps. Assumes nothing.
-use mathlib.Core.Bool.{cond, false, true, true≢false}
+use mathlib.Core.Bool.{false, true, true≢false}
 use mathlib.Core.List.{List}
 use mathlib.Core.Path.{ap, refl, subst, sym, _∙_, _≡_}
 use Prim.Native.Nat.{_%_, _*_, _+_, _-_, _/_, _<_, suc, zero, ℕ, _≤_}
@@ -7,7 +7,7 @@ use native.Mathlib.Omega.{arith}
 use lib.Dec.{leb, ltb}
 use lib.ListN.{getD, length, length-set, set}
 use lib.Seq.{getD-set-other, getD-set-same}
-use borrow.Author.Tests.{le-leb, leb-false, leb-true, lt-leb, lt-ltb, ltb-false, ltb-true}
+use borrow.Author.Tests.{le-leb, leb-true, lt-ltb, ltb-false, ltb-true}
 use Rattle.base.specs.Logic.{and-left, and-right, same?, test?}
 use Rattle.compaction.proofs.Counted.{place-once}
 use Rattle.compaction.proofs.Places.{name-is, nameOf}
@@ -29,9 +29,12 @@ pub in-window : (w b : ℕ) → inWindow w b ≡ true → (w ≤ b) × (b - w < 
 unfolding inWindow
 in-window w b h = (leb-true w b (and-left (leb w b) (ltb (b - w) 256) h), ltb-true (b - w) 256 (and-right (leb w b) (ltb (b - w) 256) h))
 
-in-own : (w : ℕ) → inWindow w w ≡ true
+in-window-of : (w b : ℕ) → w ≤ b → b - w < 256 → inWindow w b ≡ true
 unfolding inWindow
-in-own w = rw (le-leb w w (omega arith), lt-ltb (w - w) 256 (omega arith))
+in-window-of w b l h = rw (le-leb w b l, lt-ltb (b - w) 256 h)
+
+in-own : (w : ℕ) → inWindow w w ≡ true
+in-own w = in-window-of w w (omega arith) (omega arith)
 
 -- NOTED
 module _ (owners : List ℕ) (w b o : ℕ) where
@@ -151,30 +154,27 @@ pub word-below : (t : List ℕ) (r q x : ℕ) → PackedTables t → r < 128 →
 word-below t r q x h hr hq e = test? (ltb x 49152) (λ d. ltb-true x 49152 d)
     (λ d. absurd (true≢false (sym (h .entry-ok (r % 16) (r / 16) q (omega arith) (omega (arith, hr)) hq) ∙ ap (entryFormed t) (sym e) ∙ formed-three t x (ltb-false x 49152 d))))
 
--- a window moved up with its blocks
-window-up : (n w b : ℕ) → inWindow (n + w) (n + b) ≡ inWindow w b
-unfolding inWindow
-window-up n w b =
-    let d : n + b - (n + w) ≡ b - w = omega arith in
-    test? (leb w b)
-    (λ e. let l = leb-true w b e in rw (e, le-leb (n + w) (n + b) (omega (arith, l)), d))
-    (λ e. let l = leb-false w b e in rw (e, lt-leb (n + w) (n + b) (omega (arith, l))))
+-- the word of a stored entry is 32,768 and its block: one number tells whether it is stored and its block in the window
+module _ (owners : List ℕ) (w x o : ℕ) (h : x < 49152) (lw : w ≤ 4096) where
+  -- an entry that is not stored
+  word-low : x < 32768 → notedEntry owners w (readEntry x) o ≡ owners
+  word-low l = test? (ltb x 16384) (λ d. rw (word-unmapped x (ltb-true x 16384 d))) (λ d. rw (word-hole x (ltb-false x 16384 d) l))
 
--- the word of a stored entry is 32,768 and its block
-pub word-noted : (owners : List ℕ) (w x o : ℕ) → x < 49152 → noted owners (32768 + w) x o ≡ notedEntry owners w (readEntry x) o
-unfolding noted
-word-noted owners w x o h = test? (ltb x 32768)
-    (λ e. let l = ltb-true x 32768 e in
-    let n : inWindow (32768 + w) x ≡ false = test? (inWindow (32768 + w) x) (λ d. let k = in-window (32768 + w) x d .0 in absurd (omega (arith, k, l))) (λ d. d) in
-    test? (ltb x 16384)
-    (λ d. rw (n, word-unmapped x (ltb-true x 16384 d)))
-    (λ d. rw (n, word-hole x (ltb-false x 16384 d) l)))
-    (λ e. let l = ltb-false x 32768 e in
-    let b = x % 16384 in
-    let q : x ≡ 32768 + b = omega (arith, l, h) in
-    let d : x - (32768 + w) ≡ b - w = omega (arith, l, h) in
-    let k : inWindow (32768 + w) x ≡ inWindow w b = ap (inWindow (32768 + w)) q ∙ window-up 32768 w b in
-    (λ i. cond (k i) (set owners (d i) o) owners) ∙ sym (ap (λ y. notedEntry owners w y o) (word-stored x l)))
+  pub word-away : ((x + 32768 - w) / 256 ≡ 256 → ⊥) → owners ≡ notedEntry owners w (readEntry x) o
+  unfolding noted
+  word-away n = test? (ltb x 32768) (λ e. sym (word-low (ltb-true x 32768 e)))
+      (λ e. let l = ltb-false x 32768 e in
+      let k : inWindow w (x % 16384) ≡ false = test? (inWindow w (x % 16384)) (λ d. let q = in-window w (x % 16384) d in absurd (n (omega (arith, q .0, q .1, l, h)))) (λ d. d) in
+      sym (ap (λ y. notedEntry owners w y o) (word-stored x l) ∙ rw k))
+
+  pub word-here : (x + 32768 - w) / 256 ≡ 256 → set owners ((x + 32768 - w) % 256) o ≡ notedEntry owners w (readEntry x) o
+  unfolding noted
+  word-here n = test? (ltb x 32768) (λ e. let l = ltb-true x 32768 e in absurd (omega (arith, n, l)))
+      (λ e. let l = ltb-false x 32768 e in
+      let b = x % 16384 in
+      let d : (x + 32768 - w) % 256 ≡ b - w = omega (arith, n, l, h, lw) in
+      let k : inWindow w b ≡ true = in-window-of w b (omega (arith, n, l, h, lw)) (omega (arith, n, l, h, lw)) in
+      ap (λ i. set owners i o) d ∙ sym (ap (λ y. notedEntry owners w y o) (word-stored x l) ∙ rw k))
 
 -- the record of a file that can have no stored entry
 pub record-blank : (t : List ℕ) (r : ℕ) → StoredHeld t → mayHold (unpack t .files (r % 16) (r / 16) .state) ≡ false →

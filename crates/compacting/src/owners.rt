@@ -32,13 +32,18 @@ pub fn note(owners: &mut [u16; 256], w: usize, b: usize, o: usize)
     owners[i] = o as u16;
 }
 
-// The same for the word x of an entry at place o: that of a stored one is 32,768 and its block, so one test tells whether it
-// is stored and its block in the window.
+// The same for the word x of an entry at place o. That of a stored one is 32,768 and its block, so that one test tells both
+// whether it is stored and whether its block is in the window: the processor need not guess the one and then the other.
 fn note_word(owners: &mut [u16; 256], w: usize, x: usize, o: usize)
     requires { ⌜ (length (now owners) ≡ 256) × (o < 8192) × (x < 49152) × (w ≤ 4096) ⌝ }
     ensures { λ _. ⌜ now (owners .exit) ≡ notedEntry (now (owners .entry)) w (readEntry x) o ⌝ }
 {
-    note(owners, 32768 + w, x, o);
+    let d = x + 32768 - w;
+    if d / 256 != 256 {
+        return;
+    }
+    let i = d % 256;
+    owners[i] = o as u16;
 }
 
 // The same for the four entries from page 4 * g of file record r on.

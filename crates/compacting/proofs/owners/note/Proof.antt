@@ -1,6 +1,6 @@
 -- `compacting::owners::note` meets its contract. Assumes nothing.
 use mathlib.Core.Bool.{true}
-use mathlib.Core.Path.{_≡_, sym, _∙_}
+use mathlib.Core.Path.{_≡_, refl, sym, _∙_}
 use native.Mathlib.Omega.{arith}
 use borrow.Author.Needs.{needs}
 use borrow.Author.Tests.{not-false, not-true}
@@ -28,7 +28,7 @@ element-write c = omega (arith, in-window _ _ (inside c) .1, c .before .before .
 
 returns-2 : tie.Need-returns-2
 unfolding noted
-returns-2 c = simp (inside c)
+returns-2 c = simp (inside c) refl
 
 pub note-spec : {M : Type 1} → statement M
 note-spec = tie.close (tie.spec (λ c κs. search needs) returns sub-i (λ c. search needs) mul element-write returns-2)
