@@ -18,7 +18,7 @@ use tables::entries::Block;
 use tables::entries::Entry;
 
 // The pages in blocks a and b, which are two, change places, byte by byte through the spare page.
-pub fn swap_pages(pages: &mut [u8], spare: &mut [u8], a: Block, b: Block)
+fn swap_pages(pages: &mut [u8], spare: &mut [u8], a: Block, b: Block)
     requires { ⌜ (a .0 ≡ b .0 → ⊥) × (a .0 * 512 + 512 ≤ length (now pages)) × (b .0 * 512 + 512 ≤ length (now pages)) × (length (now spare) ≡ 512) ⌝ }
     ensures { λ _. ⌜ pagesOf (now (pages .exit)) ≡ upd (upd (pagesOf (now (pages .entry))) (a .0) (pagesOf (now (pages .entry)) (b .0))) (b .0) (pagesOf (now (pages .entry)) (a .0)) ⌝ }
 {

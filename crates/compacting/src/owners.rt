@@ -33,7 +33,7 @@ pub fn note(owners: &mut [u16; 256], w: usize, b: usize, o: usize)
 }
 
 // The same for the word x of an entry at place o. That of a stored one is 32,768 and its block, so that one test tells both
-// whether it is stored and whether its block is in the window: the processor need not guess the one and then the other.
+// whether it is stored and whether its block is in the window.
 fn note_word(owners: &mut [u16; 256], w: usize, x: usize, o: usize)
     requires { ⌜ (length (now owners) ≡ 256) × (o < 8192) × (x < 49152) × (w ≤ 4096) ⌝ }
     ensures { λ _. ⌜ now (owners .exit) ≡ notedEntry (now (owners .entry)) w (readEntry x) o ⌝ }
