@@ -1048,6 +1048,11 @@ pub fn made(rng: &mut Rng) -> Made {
     made_of(rng, blocks, length)
 }
 
+/// So many of them.
+pub fn pool(rng: &mut Rng, count: usize) -> Vec<Made> {
+    (0..count).map(|_| made(rng)).collect()
+}
+
 const FEW_CALLS: usize = 4;
 
 /// How many calls follow those that begin a history: sometimes few.

@@ -101,6 +101,14 @@ impl<C: Cases> Met<C> {
         let unmet = C::ALL.iter().filter(|case| self.of(**case) == 0);
         unmet.map(|case| case.text()).collect()
     }
+
+    /// Panics unless each case was met at least so often, but for these; says how often first.
+    pub fn demand(&self, least: u64, but: &[C]) {
+        println!("{self}");
+        for case in C::ALL {
+            assert!(but.contains(case) || self.of(*case) >= least, "{}", case.text());
+        }
+    }
 }
 
 impl<C: Cases> fmt::Display for Met<C> {

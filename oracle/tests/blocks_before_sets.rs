@@ -6,7 +6,7 @@
 use oracle::bench::{Bench, NoOther, Other};
 use oracle::call::*;
 use oracle::check::{check_all, check_blocks, rules_broken, Rule};
-use oracle::gen::{self, Made};
+use oracle::gen;
 use oracle::lent::Lending;
 use oracle::rng::Rng;
 use oracle::store;
@@ -485,10 +485,6 @@ fn another_answer_is_noticed() {
 
 // Random stores.
 
-fn pool(rng: &mut Rng, count: usize) -> Vec<Made> {
-    (0..count).map(|_| gen::made(rng)).collect()
-}
-
 /// The first part, reckoned once more, straight by the bytes.
 fn meets_first_part(tables: &[u8]) -> bool {
     if tables.len() != 17_468 {
@@ -558,7 +554,7 @@ impl Met {
 fn random_well_formed_stores_are_accepted_by_both() {
     println!("seed {SEED}");
     let mut rng = Rng::new(SEED);
-    let pool = pool(&mut rng, 40);
+    let pool = gen::pool(&mut rng, 40);
     let mut with_blocks = 0;
     for made in &pool {
         assert_eq!(numbers(&made.tables, &made.pages), BOTH_ACCEPT);
@@ -608,7 +604,7 @@ fn each_rule_broken_alone() {
 fn random_damages_are_judged_by_their_rules() {
     println!("seed {SEED}");
     let mut rng = Rng::new(SEED ^ 2);
-    let pool = pool(&mut rng, 60);
+    let pool = gen::pool(&mut rng, 60);
     let (mut met, mut rules) = (Met::default(), BTreeSet::new());
     for round in 0..6_000 {
         let made = &pool[rng.below(pool.len())];
@@ -636,7 +632,7 @@ fn rule_in_turn(round: usize) -> Rule {
 fn scattered_entries_are_judged_by_the_bytes() {
     println!("seed {SEED}");
     let mut rng = Rng::new(SEED ^ 3);
-    let pool = pool(&mut rng, 60);
+    let pool = gen::pool(&mut rng, 60);
     let (mut met, mut rules) = (Met::default(), BTreeSet::new());
     let [mut in_unused, mut in_absent] = [[0; 2]; 2];
     for _ in 0..6_000 {
@@ -680,7 +676,7 @@ fn stored_records(tables: &[u8]) -> impl Iterator<Item = StoredRecord> + '_ {
 fn random_bytes_are_judged_by_the_bytes() {
     println!("seed {SEED}");
     let mut rng = Rng::new(SEED ^ 4);
-    let pool = pool(&mut rng, 40);
+    let pool = gen::pool(&mut rng, 40);
     let mut met = Met::default();
     let mut accepted = [0; 6];
     for round in 0..6_000 {
@@ -725,7 +721,7 @@ fn random_bytes_are_judged_by_the_bytes() {
 fn other_fields_make_no_difference_to_the_first_part() {
     println!("seed {SEED}");
     let mut rng = Rng::new(SEED ^ 5);
-    let pool = pool(&mut rng, 40);
+    let pool = gen::pool(&mut rng, 40);
     let mut said = [0; 2];
     for round in 0..2_000 {
         let made = &pool[rng.below(pool.len())];

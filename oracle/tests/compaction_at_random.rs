@@ -5,7 +5,7 @@
 use oracle::agree::read_off;
 use oracle::bench::{Bench, Counts, NoOther, Other};
 use oracle::call::*;
-use oracle::compactions::{Case, Met};
+use oracle::compactions::Case;
 use oracle::gen::compact::{self, Order, WRONG_SPARES};
 use oracle::gen::{self, panel, Made, COMPACT};
 use oracle::history::{any_history, short_history, Failure, Short};
@@ -20,18 +20,6 @@ const SEED: u64 = 90_000_009;
 
 /// A library whose compactions are done in place.
 const IN_PLACE: Run = |_, _, lent| compact_in_place(lent);
-
-fn pool(rng: &mut Rng, count: usize) -> Vec<Made> {
-    (0..count).map(|_| gen::made(rng)).collect()
-}
-
-/// Each case is met at least so often, but for these.
-fn check_cases(met: &Met, least: u64, but: &[Case]) {
-    println!("{met}");
-    for case in Case::ALL {
-        assert!(but.contains(case) || met.of(*case) >= least, "{}", case.text());
-    }
-}
 
 /// So many histories of this kind; gives what they met.
 fn histories(
@@ -60,7 +48,7 @@ fn histories_meet_every_case() {
     let counts = histories(SEED, 120, &mut NoOther, |seed, other, counts| {
         short_history(Short::Compact, seed, other, counts, &mut |_| {})
     });
-    check_cases(&counts.compactions, 5, &NOT_IN_HISTORIES);
+    counts.compactions.demand(5, &NOT_IN_HISTORIES);
     assert!(counts.numbers[16] > 30 && counts.compactions.linked == 0);
 }
 
@@ -94,7 +82,7 @@ fn other_histories_have_compactions() {
 fn stores_with_blocks_in_any_order() {
     println!("seed {SEED}");
     let mut rng = Rng::new(SEED ^ 3);
-    let pool = pool(&mut rng, 40);
+    let pool = gen::pool(&mut rng, 40);
     let (mut counts, mut further) = (Counts::default(), 0);
     for round in 0..300 {
         let made = &pool[rng.below(pool.len())];
@@ -117,7 +105,7 @@ fn stores_with_blocks_in_any_order() {
     }
     println!("{further} further calls");
     assert!(further > 600);
-    check_cases(&counts.compactions, 3, &NOT_IN_HISTORIES);
+    counts.compactions.demand(3, &NOT_IN_HISTORIES);
 }
 
 /// A random call, with plain store and tally read off before it; none that would show
@@ -140,7 +128,7 @@ fn later_calls_answer_the_same() {
     println!("seed {SEED}");
     let mut rng = Rng::new(SEED ^ 4);
     let (mut calls, mut moved, mut accepted) = (0, 0, 0);
-    for made in pool(&mut rng, 60) {
+    for made in gen::pool(&mut rng, 60) {
         let mut left = Bench::with(made.tables.clone(), made.pages.clone());
         left.beside = Some(made.beside.clone());
         let mut pulled = Bench::with(made.tables.clone(), made.pages.clone());
@@ -168,7 +156,7 @@ fn plain_store_and_tally_go_on_after_a_compaction() {
     println!("seed {SEED}");
     let mut rng = Rng::new(SEED ^ 5);
     let mut further = 0;
-    for made in pool(&mut rng, 60) {
+    for made in gen::pool(&mut rng, 60) {
         let mut bench = Bench::with(made.tables.clone(), made.pages.clone());
         bench.beside = Some(made.beside.clone());
         let mut other = Wrong { calls: &["compact"], run: IN_PLACE };
@@ -229,7 +217,7 @@ fn spare_pages_of_every_length() {
     println!("seed {SEED}");
     let mut rng = Rng::new(SEED ^ 7);
     let mut counts = Counts::default();
-    for made in pool(&mut rng, 15) {
+    for made in gen::pool(&mut rng, 15) {
         for spare in WRONG_SPARES.into_iter().chain([PAGE_BYTES]) {
             let mut bench = Bench::with(made.tables.clone(), made.pages.clone());
             std::mem::swap(&mut bench.counts, &mut counts);

@@ -8,26 +8,14 @@ use oracle::bench::{Bench, Counts, NoOther};
 use oracle::call::*;
 use oracle::check::{check_all, check_older, is_well_formed, rules_broken, Rule};
 use oracle::conversion::narrowed;
-use oracle::gen::{self, panel, terms, Made, CONVERT, CURRENT, SET_TERM};
+use oracle::gen::{self, panel, terms, CONVERT, CURRENT, SET_TERM};
 use oracle::history::{any_history, short_history, Short};
 use oracle::rng::Rng;
 use oracle::state::State;
-use oracle::terms::{Case, Met};
+use oracle::terms::Case;
 use std::collections::BTreeSet;
 
 const SEED: u64 = 88_000_088;
-
-fn pool(rng: &mut Rng, count: usize) -> Vec<Made> {
-    (0..count).map(|_| gen::made(rng)).collect()
-}
-
-/// Each case is met at least so often, but for these.
-fn check_cases(met: &Met, least: u64, but: &[Case]) {
-    println!("{met}");
-    for case in Case::ALL {
-        assert!(but.contains(case) || met.of(*case) >= least, "{}", case.text());
-    }
-}
 
 /// The cases that need damaged tables, or pages of another length: no history has them.
 const NOT_IN_HISTORIES: [Case; 3] = [Case::ConvertPages, Case::OlderTables, Case::BadTerm];
@@ -44,7 +32,7 @@ fn histories_meet_every_case() {
             short_history(Short::Terms, seeds.word(), &mut NoOther, &mut counts, &mut |_| {});
         assert!(outcome.is_ok(), "{}", outcome.err().unwrap().text);
     }
-    check_cases(&counts.terms, 5, &NOT_IN_HISTORIES);
+    counts.terms.demand(5, &NOT_IN_HISTORIES);
     assert!(counts.numbers[14] > 200 && counts.numbers[15] > 100);
 }
 
@@ -69,7 +57,7 @@ fn other_histories_have_terms_and_conversions() {
 fn conversions_of_any_store() {
     println!("seed {SEED}");
     let mut rng = Rng::new(SEED ^ 2);
-    let pool = pool(&mut rng, 40);
+    let pool = gen::pool(&mut rng, 40);
     let mut counts = Counts::default();
     for round in 0..300 {
         let made = &pool[round % pool.len()];
@@ -111,7 +99,7 @@ fn plain_store_and_tally_go_on_after_a_conversion() {
     println!("seed {SEED}");
     let mut rng = Rng::new(SEED ^ 3);
     let (mut further, mut had_terms) = (0, 0);
-    for made in pool(&mut rng, 80) {
+    for made in gen::pool(&mut rng, 80) {
         let state = State::unpack(&made.tables);
         had_terms += usize::from(state.sets.iter().any(|set| set.used && set.end_day != 36_525));
         let mut bench = Bench::with(made.tables.clone(), made.pages.clone());
@@ -158,7 +146,7 @@ fn other_calls_do_not_depend_on_terms() {
     println!("seed {SEED}");
     let mut rng = Rng::new(SEED ^ 4);
     let (mut calls, mut reads) = (0, 0);
-    for made in pool(&mut rng, 60) {
+    for made in gen::pool(&mut rng, 60) {
         let mut dated = Bench::with(made.tables.clone(), made.pages.clone());
         let mut plain = Bench::with(without_terms(&made.tables), made.pages.clone());
         plain.beside = Some(made.beside.converted());
@@ -185,7 +173,7 @@ fn other_calls_do_not_depend_on_terms() {
 fn a_term_changes_four_bytes() {
     println!("seed {SEED}");
     let mut rng = Rng::new(SEED ^ 5);
-    let pool = pool(&mut rng, 40);
+    let pool = gen::pool(&mut rng, 40);
     let mut accepted = 0;
     for _ in 0..1_500 {
         let made = &pool[rng.below(pool.len())];
@@ -214,7 +202,7 @@ fn a_term_changes_four_bytes() {
 fn older_tables_are_judged_by_document_01() {
     println!("seed {SEED}");
     let mut rng = Rng::new(SEED ^ 6);
-    let pool = pool(&mut rng, 60);
+    let pool = gen::pool(&mut rng, 60);
     let mut met = BTreeSet::new();
     for round in 0..6_000 {
         let made = &pool[rng.below(pool.len())];

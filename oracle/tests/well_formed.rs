@@ -4,7 +4,7 @@ use oracle::agree::{agree, read_off};
 use oracle::bench::{Bench, NoOther};
 use oracle::call::*;
 use oracle::check::{check_all, check_blocks, is_well_formed, rules_broken, Rule};
-use oracle::gen::{self, panel, Made, CONVERT};
+use oracle::gen::{self, panel, CONVERT};
 use oracle::panel_judge;
 use oracle::rng::Rng;
 use oracle::state::State;
@@ -12,14 +12,10 @@ use std::collections::BTreeSet;
 
 const SEED: u64 = 20_260_101;
 
-fn pool(rng: &mut Rng, count: usize) -> Vec<Made> {
-    (0..count).map(|_| gen::made(rng)).collect()
-}
-
 #[test]
 fn made_states_are_well_formed() {
     println!("seed {SEED}");
-    for made in pool(&mut Rng::new(SEED), 40) {
+    for made in gen::pool(&mut Rng::new(SEED), 40) {
         let broken = check_all(&made.tables, made.pages.len());
         assert!(broken.is_empty(), "{}", broken[0]);
     }
@@ -31,7 +27,7 @@ fn made_states_are_well_formed() {
 fn plain_store_and_tally_are_read_off() {
     println!("seed {SEED}");
     let mut rng = Rng::new(SEED ^ 3);
-    for made in pool(&mut rng, 30) {
+    for made in gen::pool(&mut rng, 30) {
         let state = State::unpack(&made.tables);
         let beside = read_off(&state, &made.pages);
         assert_eq!(beside.tally, made.beside.tally);
@@ -51,7 +47,7 @@ fn plain_store_and_tally_are_read_off() {
 fn well_formed_is_kept_from_any_well_formed_state() {
     println!("seed {SEED}");
     let mut rng = Rng::new(SEED ^ 2);
-    let pool = pool(&mut rng, 20);
+    let pool = gen::pool(&mut rng, 20);
     for _ in 0..400 {
         let made = rng.pick(&pool);
         let (mut tables, mut pages) = (made.tables.clone(), made.pages.clone());
@@ -73,7 +69,7 @@ fn well_formed_is_kept_from_any_well_formed_state() {
 fn each_rule_is_reported_when_its_damage_is_done() {
     println!("seed {SEED}");
     let mut rng = Rng::new(SEED);
-    let pool = pool(&mut rng, 60);
+    let pool = gen::pool(&mut rng, 60);
     // Damages to these break others too, by their nature.
     let never_alone = [Rule::Set0NotUsed, Rule::BlockCount];
     for rule in Rule::ALL {
@@ -177,7 +173,7 @@ fn damages_by_hand() {
 fn any_bytes_are_judged() {
     println!("seed {SEED}");
     let mut rng = Rng::new(SEED ^ 1);
-    let pool = pool(&mut rng, 20);
+    let pool = gen::pool(&mut rng, 20);
     let mut commands = 0;
     for round in 0..600 {
         let made = rng.pick(&pool);

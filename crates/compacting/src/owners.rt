@@ -122,17 +122,11 @@ pub fn window(t: &[u8], owners: &mut [u16; 256], w: usize, n: usize, k: usize) -
     k
 }
 
-fn wide(x: u16) -> usize
-    ensures { λ r. ⌜ r ≡ x ⌝ }
-{
-    x as usize
-}
-
 // The owner of block k, which is in the window from block w on.
 pub fn owner_of(owners: &[u16; 256], w: usize, k: usize) -> usize
     requires { ⌜ (length (now owners) ≡ 256) × (w ≤ k) × (k - w < 256) ⌝ }
     ensures { λ r. ⌜ r ≡ getD (now (owners .entry)) (k - w) 0 ⌝ }
 {
     let i = k - w;
-    wide(owners[i])
+    places::wide(owners[i])
 }

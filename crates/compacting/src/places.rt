@@ -18,6 +18,13 @@ use tables::files::State;
 use tables::places::FILE_BYTES;
 use tables::places::MAPS_AT;
 
+// The same number as a count.
+pub fn wide(x: u16) -> usize
+    ensures { λ r. ⌜ r ≡ x ⌝ }
+{
+    x as usize
+}
+
 // The entry of page q in file record r.
 pub fn entry_of(t: &[u8], r: usize, q: usize) -> Entry
     requires { ⌜ (length (now t) ≡ tableBytes) × (r < 128) × (q < 64) ⌝ }
@@ -43,13 +50,7 @@ pub fn put_in(t: &mut [u8], n: usize, e: Entry)
     entries::put_entry(t, file % 16, file / 16, Page::new(n % 64), e);
 }
 
-fn wide(x: u16) -> usize
-    ensures { λ r. ⌜ r ≡ x ⌝ }
-{
-    x as usize
-}
-
-// The word of that entry.
+// The word of the entry of page q in file record r.
 pub fn word_of(t: &[u8], r: usize, q: usize) -> usize
     requires { ⌜ (length (now t) ≡ tableBytes) × (r < 128) × (q < 64) ⌝ }
     ensures { λ x. ⌜ x ≡ entryWord (now (t .entry)) (r % 16) (r / 16) q ⌝ }
