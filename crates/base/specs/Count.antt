@@ -51,6 +51,14 @@ unfolding count
 count-mono m zero f l = let e : m ≡ 0 = omega arith in omega (arith, ap (λ k. count k f) e)
 count-mono m (suc n) f l = same? m (suc n) (λ e. omega (arith, ap (λ k. count k f) e)) (λ d. omega (arith, count-mono m n f (omega arith)))
 
+-- one that passes is counted
+one-counted : (f : ℕ → Bool) (b : ℕ) → f b ≡ true → 1 ≤ count (suc b) f
+unfolding count
+one-counted f b h = rw h (omega arith)
+
+pub count-here : (n : ℕ) (f : ℕ → Bool) (b : ℕ) → b < n → f b ≡ true → 1 ≤ count n f
+count-here n f b l h = let a = count-mono (suc b) n f l in let c = one-counted f b h in omega arith
+
 -- none passes
 pub count-none : (n : ℕ) (f : ℕ → Bool) → ((x : ℕ) → x < n → f x ≡ false) → count n f ≡ 0
 unfolding count

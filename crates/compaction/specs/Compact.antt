@@ -29,7 +29,7 @@ pageAt n = n % pageCount
 abbrev pub entryIn : {K : Type 0} → (ℕ → Files K) → ℕ → Entry K
 entryIn files n = files (fileAt n) (setAt n) .map (pageAt n)
 
--- how many stored entries stand before a place, those of marked files among them
+-- how many stored entries stand before a place
 unfoldable pub storedBefore : {K : Type 0} → (ℕ → Files K) → ℕ → ℕ
 storedBefore files n = count n (λ i. isStored (entryIn files i))
 

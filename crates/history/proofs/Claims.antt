@@ -1,6 +1,6 @@
 -- The claims. Assumes nothing.
 use Rattle.history.proofs.Compaction.{compaction, compaction-refused}
-use Rattle.history.proofs.Conversion.{conversion, every-store, goes-on}
+use Rattle.history.proofs.Conversion.{conversion, every-store, goes-on, new-already}
 use Rattle.history.proofs.Demand3.{demand3}
 use Rattle.history.proofs.Events.{listed-run}
 use Rattle.history.proofs.Formed.{formed-after, formed-marks}
@@ -41,4 +41,5 @@ claims = record {
   every-store = every-store;
   compaction = compaction;
   compaction-refused = compaction-refused;
+  new-already = new-already;
 }

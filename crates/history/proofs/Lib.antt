@@ -6,6 +6,7 @@ pub mod Compacting
 pub mod Events
 pub mod Formed
 pub mod Demand3
+pub mod ClearedTally
 pub mod Conversion
 pub mod TermAside
 pub mod Compaction

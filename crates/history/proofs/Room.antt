@@ -1,26 +1,32 @@
 -- How much room a write can take, on bytes. Assumes nothing.
-use mathlib.Core.Bool.{false, true}
+use mathlib.Core.Bool.{_&&_, false, not, true, true≢false}
 use mathlib.Core.List.{List, []}
 use mathlib.Core.Path.{ap, refl, subst, subst₂, sym, _∙_, _≡_}
 use Prim.Native.Nat.{_*_, _+_, _/_, suc, zero, ℕ, _≤_}
 use native.Mathlib.Nat.{mul-le-mul-right}
 use native.Mathlib.Omega.{arith}
+use lib.Dec.{ltb}
 use lib.ListN.{length, length-append}
+use borrow.Author.Tests.{ltb-false, ltb-true}
+use Rattle.base.specs.Count.{count-here}
 use Rattle.base.specs.Logic.{test?}
 use Rattle.history.proofs.Formed.{formed, order-of}
 use Rattle.history.proofs.Image.{image-store}
 use Rattle.history.proofs.RoomExamples.{tight}
 use Rattle.history.specs.Image.{Image, after, gave, storeIn}
-use Rattle.history.specs.Room.{RoomClaim, RoomOf, TakesAtMost, childCount, groupPages, touchedPages}
+use Rattle.history.specs.Room.{RoomClaim, RoomOf, TakesAtMost, childCount, freedBy, groupPages, lostBits, touchedPages, usedIn}
 use Rattle.rules.proofs.Room.RoomStore.{StoreTakes, store-nothing, store-room}
 use Rattle.rules.proofs.Steps.Groups.{group-high, group-low}
 use Rattle.rules.proofs.Tally.TallyLoops.{from-length}
 use Rattle.rules.proofs.Whole.Order.{InOrder, order-step}
+use Rattle.rules.specs.Agreement.{tallyIn}
 use Rattle.rules.specs.Calls.{Result, Store, blankMemory, resultOf, step, viewOf}
-use Rattle.rules.specs.Numbers.{Call, conditions, lowest, numberOf, refusal, write}
+use Rattle.rules.specs.Freed.{freedGiven}
+use Rattle.rules.specs.Numbers.{Answer, Call, conditions, lowest, numberOf, refusal, write}
 use Rattle.rules.specs.Rules.{extraPages, touched}
 use Rattle.rules.specs.State.{largestSize, pageBytes}
 use Rattle.rules.specs.Storage.{real}
+use Rattle.tables.proofs.ReadParts.{bit-default}
 use Rattle.tables.specs.Calls.{acceptedOn, callOn, freshOf, lookedAt, outcomeOf, storeOf, viewOn}
 use Rattle.tables.specs.Packed.{unpack, wellFormed}
 
@@ -63,7 +69,7 @@ module _ (m : Image) (g s f off : ℕ) (bs : List ℕ) where
   p = m .pages
 
   abbrev Takes : Type 0
-  Takes = StoreTakes (touchedPages off (length bs)) (groupPages g off (length bs)) (childCount s m) (gave call m .answer) (storeIn m) (storeIn (after call m))
+  Takes = StoreTakes (touchedPages off (length bs)) (groupPages g off (length bs)) (childCount s m) (freedBy g s f off bs m) f (gave call m .answer) (storeIn m) (storeIn (after call m))
 
   -- bytes that are not well formed
   refused-one : wellFormed t (length p) ≡ false → callOn call t p ≡ lookedAt (refusal 1) t p []
@@ -71,7 +77,7 @@ module _ (m : Image) (g s f off : ℕ) (bs : List ℕ) where
   refused-one e = rw e
 
   broken-takes : wellFormed t (length p) ≡ false → Takes
-  broken-takes e = rw (refused-one e) (store-nothing _ _ _ 1 (λ z. omega arith) (storeIn m))
+  broken-takes e = rw (refused-one e) (store-nothing _ _ _ f 1 (λ z. omega arith) (storeIn m))
 
   -- well-formed bytes
   module _ (h : wellFormed t (length p) ≡ true) where
@@ -113,22 +119,33 @@ module _ (m : Image) (g s f off : ℕ) (bs : List ℕ) where
     formed-takes =
         let all : ℕ = groupPages g off (length bs) in
         let made : Result real = step real (blankMemory B) call r in
-        subst₂ (λ a st. StoreTakes (touchedPages off (length bs)) all (childCount s m) a r st) (sym (call-same .0)) (sym (call-same .1))
-        (subst (λ k. StoreTakes k all (childCount s m) (made .answer) r (made .store)) (touched-count off (length bs))
+        let freed : Answer → ℕ = λ a. freedGiven (a .number) (tallyIn r) s f off (length bs) in
+        subst₂ (λ a st. StoreTakes (touchedPages off (length bs)) all (childCount s m) (freed a) f a r st) (sym (call-same .0)) (sym (call-same .1))
+        (subst (λ k. StoreTakes k all (childCount s m) (freed (made .answer)) f (made .answer) r (made .store)) (touched-count off (length bs))
         (store-room B least r o g s f off bs all (group-count g off (length bs)) most))
 
 -- THE BOUNDS
 room-of : (g s f off : ℕ) (bs : List ℕ) (m : Image) → RoomOf g s f off bs m
 room-of g s f off bs m =
     let q : Takes m g s f off bs = test? (wellFormed (m .tables) (length (m .pages))) (formed-takes m g s f off bs) (broken-takes m g s f off bs) in
-    let own = q .takes .own in let copies = q .takes .copies in let left = q .takes .left in let new = q .new in
+    let m′ : Image = after (write g s f off bs) m in
+    let own = q .takes .own in let copies = q .takes .copies in let left = q .takes .left in let new = q .new in let balance = q .balance in
+    let none = q .takes .quiet in
+    let lost : gave (write g s f off bs) m .answer .third ≡ 0 → lostBits m m′ ≡ 0 = λ e. let v = none e in omega arith in
     record {
       own = omega arith;
       copies = omega arith;
       within-free = omega arith;
       free-after = omega arith;
-      stays-used = q .stays;
       new-bits = omega arith;
+      balance = omega arith;
+      falls = λ b u z. let x = q .falls b u z in record { set = x .set; page = x .page; held = x .held; was-unmarked = x .was-unmarked; is-marked = x .is-marked };
+      none-freed = none;
+      stays-used = λ e b u. test? (ltb b 4096)
+          (λ l. test? (usedIn m′ b) (λ k. k)
+          (λ k. let o = count-here 4096 (λ b. usedIn m b && not (usedIn m′ b)) b (ltb-true b 4096 l) (rw (u, k)) in absurd (omega (arith, lost e))))
+          (λ l. absurd (true≢false (sym u ∙ bit-default (m .tables) b (ltb-false b 4096 l))));
+      as-taken = λ e. let v = none e in let w = lost e in omega arith;
       not-refused = λ e. q .not-full (omega arith);
       none-counted = λ e. q .takes .none-counted (omega arith);
       none-marked = λ e. q .takes .none-marked (omega arith);

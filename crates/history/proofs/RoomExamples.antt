@@ -9,15 +9,19 @@ use Rattle.history.proofs.CallImage.{after-image, gave-image, lengths-o
 use Rattle.history.proofs.Demand3.{format-image}
 use Rattle.history.proofs.Image.{image-store, imageOf}
 use Rattle.history.specs.Image.{Image, after, gave, storeIn}
-use Rattle.history.specs.Room.{Tight, answerFor, blocksTaken, childCount, enoughFor, example, exampleCalls, freeIn, groupPages, touchedPages, twoPages}
+use Rattle.history.specs.Room.{Tight, answerFor, blocksTaken, childCount, crowded, enoughFor, example, exampleCalls, fourPages, freeIn, freedBy, groupPages, touchedPages, twoPages}
 use Rattle.rules.proofs.Whole.Order.{InOrder, order-format, order-step}
 use Rattle.rules.proofs.Whole.Rows.{computed}
+use Rattle.base.specs.Count.{sum}
+use Rattle.rules.specs.Agreement.{tallyIn}
 use Rattle.rules.specs.Calls.{Result, Store, blankMemory, formatted, step}
-use Rattle.rules.specs.Numbers.{Answer, Call, format, refusal}
-use Rattle.rules.specs.Rows.{gives}
+use Rattle.rules.specs.Freed.{freedAt, freedByChildren, freedByPages, freedByWrite, freedGiven}
+use Rattle.rules.specs.Numbers.{Answer, Call, format, narrowWrite, refusal}
+use Rattle.rules.specs.Rows.{withChildren, gives}
 use Rattle.rules.specs.Rules.{each}
 use Rattle.rules.specs.State.{childrenOf, isMarked, isVirgin}
 use Rattle.rules.specs.Storage.{freeBlocks, real}
+use Rattle.rules.specs.Tally.{anyOf, anyUnmapped, childPage, childTurn, dependsAbove, eachChild, eachPage, holdsByte, kindAt, kindIn, markFrees, neededCopy, pageTurns, reachedDown, sizeIn, storedPages, tallyKind, tallyMark, tallySettle, tallySize, tallyWriteNeed}
 use Rattle.tables.specs.Calls.{formatLengths}
 use Rattle.tables.specs.Layout.{tableBytes}
 
@@ -120,7 +124,7 @@ with-34 = (refl, refl, refl)
 abbrev third-marked : Store real → Bool
 third-marked x = isMarked (x .files 0 3 .state)
 
-with-five : (stepWith 1 1 5 .answer ≡ gives 0 2 3 1) × (stepWith 8 1 5 .answer ≡ gives 0 2 3 1) × (freeBlocks (storeWith 5 .memory) ≡ 5) × (enoughWith 1 5 ≡ 6)
+with-five : (stepWith 1 1 5 .answer ≡ gives 0 2 3 1) × (stepWith 8 1 5 .answer ≡ gives 0 2 4 1) × (freeBlocks (storeWith 5 .memory) ≡ 5) × (enoughWith 1 5 ≡ 6)
     × (third-marked (storeWith 5) ≡ false) × (third-marked (stepWith 1 1 5 .store) ≡ true) × (third-marked (stepWith 8 1 5 .store) ≡ true)
 unfolding computed stepsOn touchedPages
 with-five = (refl, refl, refl, refl, refl, refl, refl)
@@ -128,6 +132,31 @@ with-five = (refl, refl, refl, refl, refl, refl, refl)
 with-one : (stepWith 1 2 1 .answer ≡ refusal 8) × (stepWith 8 2 1 .answer ≡ refusal 8) × (freeBlocks (storeWith 1 .memory) ≡ 1) × (enoughWith 2 1 ≡ 2)
 unfolding computed stepsOn touchedPages
 with-one = (refl, refl, refl, refl)
+
+-- the crowded example
+abbrev crowdedStore : Store real
+crowdedStore = stepsOn 8 (withChildren 2048 4) (formatted real (blankMemory 8))
+
+-- the definitions of the tally that are computed
+unfoldable tallied : Unit {0}
+unfolding freedByWrite freedByPages freedByChildren freedAt tallyWriteNeed holdsByte eachChild eachPage tallySettle tallySize sizeIn pageTurns childTurn childPage neededCopy kindAt kindIn tallyKind tallyMark markFrees storedPages reachedDown anyOf dependsAbove anyUnmapped sum
+tallied = tt
+
+with-crowd : (step real (blankMemory 8) (narrowWrite 0 0 0 fourPages) crowdedStore .answer ≡ gives 0 0 8 3) × (freeBlocks (crowdedStore .memory) ≡ 4)
+    × (freedByWrite (tallyIn crowdedStore) 0 0 0 2048 ≡ 4)
+unfolding computed stepsOn tallied
+with-crowd = (refl, refl, refl)
+
+crowd-gives : gave (narrowWrite 0 0 0 fourPages) crowded .answer ≡ gives 0 0 8 3
+crowd-gives = gave-is 8 (omega arith) (omega arith) (withChildren 2048 4) (narrowWrite 0 0 0 fourPages) ∙ with-crowd .0
+
+crowd-store : storeIn crowded ≡ crowdedStore
+crowd-store = store-is 8 (omega arith) (omega arith) (withChildren 2048 4)
+
+crowd-freed : freedBy 1 0 0 0 fourPages crowded ≡ 4
+crowd-freed =
+    ap (λ (a : Answer). freedGiven (a .number) (tallyIn (storeIn crowded)) 0 0 0 (length fourPages)) crowd-gives
+    ∙ ap₂ (λ (r : Store real) n. freedByWrite (tallyIn r) 0 0 0 n) crowd-store (length-replicate {A = ℕ} 2048 9) ∙ with-crowd .2
 
 -- THEOREM
 pub tight : Tight
@@ -159,4 +188,7 @@ tight =
       childless = ap (λ n. n + 1) (free-is 1 (omega arith) ∙ with-one .2) ∙ sym (enough-is 1 (omega arith) 2 ∙ with-one .3);
       narrow-full = answer-is 1 (omega arith) 1 2 ∙ with-one .0;
       eights-full = answer-is 1 (omega arith) 8 2 ∙ with-one .1;
+      crowded-free = ap (λ (x : Store real). freeBlocks (x .memory)) crowd-store ∙ with-crowd .1;
+      crowded-freed = crowd-freed;
+      crowded-gives = crowd-gives;
     }

@@ -4,7 +4,7 @@ use mathlib.Core.List.{List}
 use mathlib.Core.Path.{_≡_}
 use lib.ListN.{length}
 use Rattle.history.specs.Compaction.{CompactionClaim, CompactionRefusedClaim}
-use Rattle.history.specs.Conversion.{ConversionClaim, EveryStoreClaim, GoesOnClaim}
+use Rattle.history.specs.Conversion.{ConversionClaim, EveryStoreClaim, GoesOnClaim, NewAlreadyClaim}
 use Rattle.history.specs.Demand3.{Demand3Claim, MarksThroughout}
 use Rattle.history.specs.Events.{Event, eventsOn, listedAll, runsAll}
 use Rattle.history.specs.Image.{Held, Image}
@@ -57,3 +57,5 @@ pub record Claims : Type 0 where
   -- document 02, Ask 9: what a compaction does and leaves, and when it is refused
   pub compaction : CompactionClaim
   pub compaction-refused : CompactionRefusedClaim
+  -- document 02, Ask 10: tables that are new already come out of a conversion as they are (that it clears the marked files of older ones is said by `conversion`)
+  pub new-already : NewAlreadyClaim

@@ -249,6 +249,11 @@ map-byte t at k bs =
     let e : 8 * k + j ≡ k * 8 + j = omega arith in
     word-bit zero t at k bs j l ∙ ap (bitAt t at) e)
 
+-- LAW: a byte made of bits is a byte
+pub map-lt : (f : ℕ → Bool) (k : ℕ) → mapByte f k < 256
+unfolding mapByte
+map-lt f k = number-lt f (k * 8) 8
+
 -- LAW: the bits of a byte made of bits are those bits
 pub map-bit : (f : ℕ → Bool) (k j : ℕ) → j < 8 → isOne (bit (mapByte f k) (7 - j)) ≡ f (k * 8 + j)
 unfolding mapByte

@@ -151,6 +151,22 @@ byte-lt (suc m) w j h =
     (λ e. rw (eq-eqb j (suc m) e) (omega arith))
     (λ n. rw (ne-eqb j (suc m) n) (byte-lt m (w / 256) j (omega arith)))
 
+-- the bytes of a word whose first byte alone may be other than 0
+pub byte-first : (m x j : ℕ) → j ≤ m → byte m (x * 256 ^ m) j ≡ cond (eqb j 0) x 0
+unfolding byte
+byte-first zero x j h =
+    let e : j ≡ 0 = omega arith in
+    let q : x * 256 ^ zero ≡ x = omega arith in
+    rw (e, q)
+byte-first (suc m) x j h =
+    let w : ℕ = x * 256 ^ m in
+    let q : x * 256 ^ suc m ≡ w * 256 = ap (λ n. x * n) (pow-suc 256 m) ∙ omega arith in
+    let hi : w * 256 / 256 ≡ w = omega arith in
+    let lo : w * 256 % 256 ≡ 0 = omega arith in
+    same? j (suc m)
+    (λ e. rw (q, eq-eqb j (suc m) e, lo, ne-eqb j 0 (omega arith)))
+    (λ n. rw (q, ne-eqb j (suc m) n, hi) (byte-first m x j (omega arith)))
+
 some-bytes : (k : ℕ) → 0 < 256 ^ k
 some-bytes zero = omega arith
 some-bytes (suc k) = omega (arith, some-bytes k)

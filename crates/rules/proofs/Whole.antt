@@ -5,6 +5,7 @@ pub mod Holds
 pub mod HoldsMeans
 pub mod Quiet
 pub mod HoldsOf
+pub mod Clearing
 pub mod Compared
 pub mod OrderMarks
 pub mod OrderOthers

@@ -11,6 +11,7 @@ pub mod Trees
 pub mod Plain
 pub mod Tally
 pub mod Marking
+pub mod Freed
 pub mod Agreement
 pub mod Rows
 pub mod TermClaims

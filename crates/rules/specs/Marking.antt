@@ -1,6 +1,6 @@
--- WHY A FILE BECOMES MARKED, judged at the turn of each needed copy. Document 01, "Marking" and "Demand 3"; document 02, Asks 2 and 5.
+-- WHY A FILE BECOMES MARKED, judged at the turn of each needed copy. Document 01, "Marking" and "Demand 3"; document 02, Asks 2, 5 and 10.
 -- Of the tally this reads the turn of a child (`childTurn`) and, for the pages before, the turns at a page (`atPage`): a page that a child needs
--- becomes a hole there, is taken over, or is copied to a free block; with none free the child's file is marked.
+-- becomes a hole there, is taken over, or is copied to a free block; with none free the child's file is marked, and the blocks that it and its dependents held are free.
 use mathlib.Core.Bool.{_&&_, Bool, cond, false, not, true}
 use mathlib.Core.List.{_++_, List, List·Memᴰ, _∷_, []}
 use mathlib.Core.Path.{_≡_}
@@ -42,7 +42,7 @@ unfoldable pub inTurn : Tree → ℕ → Bool → ℕ → Turn → List ℕ
 inTurn t s hands p x = cond (hands && isStored (x .files s .map p)) (behind p x (t .children s)) (t .children s)
 
 -- what the turn of a child at page p finds, where the first finds x: "that call's earlier copies being taken", at the pages below p, and at page p for
--- the children before it. (A page taken over takes no block, and is stored for the others as it was.)
+-- the children before it, and the blocks that earlier markings freed being free. (A page taken over takes no block, and is stored for the others as it was.)
 unfoldable pub turnBefore : Tree → ℕ → (ℕ → Bool) → (ℕ → Bool) → Turn → ℕ → List ℕ → Turn
 turnBefore t s touches hands x p earlier = eachChild (childTurn t s p) earlier (eachPage (atPage t s touches hands) p x)
 

@@ -1,5 +1,5 @@
 -- Rows M1 to M12 of document 01, "Marked rows", in one table; M11 and M12 as document 02, Ask 2, changes them. "the rows of document 01 relied on the old
--- default and now ask for narrow writes" (Ask 5). Rows of writes by groups, in a second table.
+-- default and now ask for narrow writes" (Ask 5). Rows of writes by groups, in a second table; of what marking frees (Ask 10), in a third.
 use mathlib.Core.Bool.{false, true}
 use mathlib.Core.List.{_++_, List, _∷_, []}
 use mathlib.Core.Path.{_≡_}
@@ -126,10 +126,10 @@ groupRows =
     ∷ record { blocks = 10; calls = lastPageOfTwo 8 ++ (narrowWrite 0 0 31744 (9 ∷ []) ∷ read 1 0 31744 (0 ∷ []) ∷ []); gives = gives 0 1 1 0 }
     ∷ record { blocks = 10; calls = lastPageOfTwo 8 ++ (narrowWrite 0 0 31744 (9 ∷ []) ∷ read 2 0 31744 (0 ∷ []) ∷ []); gives = refusal 6 }
     -- the extra pages page by page, ascending, the children in order of making: two copies of page 63 and two of page 0 take the four free blocks. Then a
-    -- write of page 0 finds it copied for both, and one of page 6 marks both
+    -- write of page 0 finds it copied for both; one of page 6 marks the first, whose two blocks are free then, and the second has its copy
     ∷ record { blocks = 11; calls = lastPageOfTwo 64; gives = gives 0 0 4 0 }
     ∷ record { blocks = 11; calls = lastPageOfTwo 64 ++ (narrowWrite 0 0 0 (9 ∷ []) ∷ []); gives = gives 0 0 0 0 }
-    ∷ record { blocks = 11; calls = lastPageOfTwo 64 ++ (narrowWrite 0 0 3072 (9 ∷ []) ∷ []); gives = gives 0 0 0 2 }
+    ∷ record { blocks = 11; calls = lastPageOfTwo 64 ++ (narrowWrite 0 0 3072 (9 ∷ []) ∷ []); gives = gives 0 0 1 1 }
     -- extra pages on both sides of the touched ones, with one block for them: page 0 is copied, page 13 not
     ∷ record { blocks = 10; calls = twoPages 7 ++ (narrowWrite 0 0 0 (9 ∷ []) ∷ []); gives = gives 0 0 0 0 }
     ∷ record { blocks = 10; calls = twoPages 7 ++ (narrowWrite 0 0 6656 (9 ∷ []) ∷ []); gives = gives 0 0 0 1 }
@@ -147,15 +147,61 @@ groupRows =
     ∷ record { blocks = 1; calls = create 0 0 ∷ make 0 1 true ∷ groupedWrite 0 0 0 (7 ∷ []) ∷ []; gives = gives 0 1 0 0 }
     ∷ []
 
+-- a file of n bytes, all stored, and so many virgin children of its set
+unfoldable pub withChildren : ℕ → ℕ → List Call
+withChildren n zero = create 0 0 ∷ narrowWrite 0 0 0 (replicate n 7) ∷ []
+withChildren n (suc c) = withChildren n c ++ (make 0 (suc c) true ∷ [])
+
+-- that file written whole
+abbrev rewritten : ℕ → ℕ → List Call
+rewritten n c = withChildren n c ++ (narrowWrite 0 0 0 (replicate n 9) ∷ [])
+
+-- set 1 has page 0 of the file stored, and reads page 1 through set 0; sets 2 and 3 are made from it, and set 3 has page 0 stored too: three blocks
+abbrev throughTwo : List Call
+throughTwo =
+    create 0 0 ∷ narrowWrite 0 0 512 (7 ∷ []) ∷ make 0 1 true ∷ narrowWrite 1 0 0 (8 ∷ []) ∷ make 1 2 true ∷ make 1 3 true ∷ narrowWrite 3 0 0 (9 ∷ []) ∷ []
+
+-- the file of one page has a copy in set 1, and a copy of that in set 2, which has page 1 stored; then page 0 is written in set 0
+abbrev dependentMarked : List Call
+dependentMarked = writeOnce ++ (make 0 1 true ∷ make 1 2 true ∷ narrowWrite 2 0 512 (8 ∷ []) ∷ narrowWrite 0 0 0 (9 ∷ []) ∷ [])
+
+-- ROWS OF MARKING (document 02, Ask 10)
+unfoldable pub markingRows : List Row
+markingRows =
+    -- one child, two pages, one block free: page 0 is copied, page 1 finds none, and the child is marked; its copy is free then, still counts, and page 1 is not tried again
+    record { blocks = 3; calls = rewritten 1024 1; gives = gives 0 0 1 1 }
+    ∷ record { blocks = 3; calls = rewritten 1024 1 ++ (tellFree ∷ []); gives = gives 0 1 0 0 }
+    -- its record is empty: another file takes that block, and deleting the marked file does not free it
+    ∷ record { blocks = 3; calls = rewritten 1024 1 ++ (create 0 1 ∷ narrowWrite 0 1 0 (7 ∷ []) ∷ delete 1 0 ∷ tellFree ∷ []); gives = gives 0 0 0 0 }
+    -- two children, two blocks free: at page 1 the first is marked, and the second takes the block that this frees
+    ∷ record { blocks = 4; calls = rewritten 1024 2; gives = gives 0 0 3 1 }
+    ∷ record { blocks = 4; calls = rewritten 1024 2 ++ (read 1 0 512 (0 ∷ []) ∷ []); gives = refusal 6 }
+    ∷ record { blocks = 4; calls = rewritten 1024 2 ++ (read 2 0 512 (0 ∷ []) ∷ []); gives = gives 0 1 1 0 }
+    -- four children, four pages, four blocks free: four times a block comes free, one block twice, and eight copies are made
+    ∷ record { blocks = 8; calls = rewritten 2048 4; gives = gives 0 0 8 3 }
+    -- two children, pages 0 and 1 of three written by groups of three: a block that marking freed serves the extra page 2
+    ∷ record { blocks = 6; calls = withChildren 1536 2 ++ (write 3 0 0 0 (replicate 1024 9) ∷ []); gives = gives 0 0 4 1 }
+    -- a delete: set 2 takes page 0 over, is marked at page 1, and set 3 takes that block for page 1; the delete does not free it
+    ∷ record { blocks = 3; calls = throughTwo ++ (delete 1 0 ∷ []); gives = gives 0 0 1 1 }
+    ∷ record { blocks = 3; calls = throughTwo ++ (delete 1 0 ∷ tellFree ∷ []); gives = gives 0 0 0 0 }
+    ∷ record { blocks = 3; calls = throughTwo ++ (delete 1 0 ∷ read 3 0 512 (0 ∷ []) ∷ []); gives = gives 0 1 1 0 }
+    -- a truncate: set 1 is marked at the part page 0, and holds nothing; set 2, which has page 0, takes page 1 over
+    ∷ record { blocks = 3; calls = withChildren 1024 2 ++ (narrowWrite 2 0 0 (8 ∷ []) ∷ truncate 0 0 100 ∷ []); gives = gives 0 0 0 1 }
+    -- the blocks of dependents too
+    ∷ record { blocks = 2; calls = dependentMarked; gives = gives 0 0 0 2 }
+    ∷ record { blocks = 2; calls = dependentMarked ++ (tellFree ∷ []); gives = gives 0 1 0 0 }
+    ∷ []
+
 -- each row's answer is the one given
 abbrev pub AllRows : List Row → Type 0
 AllRows [] = Unit {0}
 AllRows (r ∷ rs) = (answered r ≡ r .gives) × AllRows rs
 
--- THE ROWS: M1 to M12; those of groups; and row M1 in general: whatever the table of numbers looks at, a write that ends at 32,768, with room
+-- THE ROWS: M1 to M12; those of groups and of marking; and row M1 in general: whatever the table of numbers looks at, a write that ends at 32,768, with room
 -- enough, gets number 0
 pub record RowsClaim : Type 0 where
   pub table : AllRows rows
   pub groups : AllRows groupRows
+  pub marking : AllRows markingRows
   pub m1 : (v : View) (g s f off : ℕ) (bs : List ℕ) → v .formed ≡ true → s < setCount → v .tree .used s ≡ true → f < fileCount → v .tree .writeable s ≡ true
       → live (v .state f s) ≡ true → off + length bs ≡ largestSize → v .writeNeed s f off (length bs) ≤ v .free → numberOf v (write g s f off bs) ≡ 0

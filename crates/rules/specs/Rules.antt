@@ -1,5 +1,5 @@
--- The rules of "Changing calls" (document 01), with "Delete hands its blocks to the copy" and "Eight pages at a time" (document 02, Asks 2 and 5), once, over
--- any storage.
+-- The rules of "Changing calls" (document 01), with "Delete hands its blocks to the copy", "Eight pages at a time" and "Marked files give their room back" (document 02,
+-- Asks 2, 5 and 10), once, over any storage.
 use mathlib.Core.Bool.{_&&_, Bool, cond, false, not, true}
 use mathlib.Core.List.{_++_, List, _∷_, []}
 use Prim.Native.Nat.{_%_, _*_, _+_, _-_, _/_, max, min, suc, zero, ℕ}
@@ -89,13 +89,13 @@ module _ {K : Type 0} where
   unfoldable pub settleFile : Tree → ℕ → Files K → Files K
   settleFile t c files = settleAs (files c .state) t files c
 
-  -- "Marked files keep their records and blocks."
-  unfoldable pub markFile : File K → File K
-  markFile x = record { state = marked; size = x .size; map = x .map }
+  -- what marking leaves of a file: "size 0 and all entries unmapped"
+  abbrev pub markedFile : File K
+  markedFile = record { state = marked; size = 0; map = λ p. unmapped }
 
-  -- marking the file of set c, "and so on down"
+  -- marking the file of set c, "and so on down", "for dependents too"
   unfoldable pub markDown : Tree → Files K → ℕ → Files K
-  markDown t files c s = cond (reaches t files c s) (markFile (files s)) (files s)
+  markDown t files c s = cond (reaches t files c s) markedFile (files s)
 
   -- 64 holes
   unfoldable pub holes : ℕ → Entry K
@@ -160,12 +160,18 @@ module _ (S : Storage) (t : Tree) where
   unfoldable pub reserve : ℕ → ℕ → Work S → Work S
   reserve s p w = reserveAs (w .files s .map p) p w
 
+  -- the blocks of the files of those sets that pass are free again
+  unfoldable pub freeSets : (ℕ → Bool) → Files (S .Block) → S .Memory → S .Memory
+  freeSets passes files m = each (λ x n. cond (passes x) (freeMap S (files x .map) n) n) (from 0 setCount) m
+
   -- Step 4, for one page and one child that needs it.
-  -- "with none free, the child's file is marked"; the third count has those down the tree too
+  -- "with none free, the child's file is marked"; the third count has those down the tree too. "Marking now frees its stored blocks at that moment, any handed over
+  -- earlier in the same call among them, ... for dependents too": all that the files marked still have in their maps. So "A later copy in the same call may take
+  -- these blocks".
   unfoldable pub mark : ℕ → Work S → Work S
   mark c w =
       record {
-        memory = w .memory;
+        memory = freeSets (reaches t (w .files) c) (w .files) (w .memory);
         files = markDown t (w .files) c;
         pending = w .pending;
         taken = w .taken;

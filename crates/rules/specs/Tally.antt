@@ -1,5 +1,5 @@
 -- The tally: "the same calls under the rules above with sets, states, sizes, kinds and a count of free blocks (B at format), but no block numbers or bytes".
--- Document 01, "Demand 3", and document 02, Asks 2, 3 and 5. It is stated on its own, in its own words, and shares no rule with the store but the table of
+-- Document 01, "Demand 3", and document 02, Asks 2, 3, 5 and 10. It is stated on its own, in its own words, and shares no rule with the store but the table of
 -- numbers: a rule of the store that marked, copied or counted too much or too little would show.
 use mathlib.Core.Bool.{_&&_, Bool, cond, false, not, true, _||_}
 use mathlib.Core.List.{List, _∷_, []}
@@ -60,6 +60,10 @@ pub record Turn : Type 0 where
   pub copies : ℕ
   pub marks : ℕ
 
+-- the blocks of a file
+unfoldable pub storedPages : TallyFile → ℕ
+storedPages x = count pageCount (λ p. isStored (x .map p))
+
 -- "A child needs page p when its file is own or virgin and p is unmapped there."
 abbrev pub tallyNeeds : TallyFiles → ℕ → ℕ → Bool
 tallyNeeds fs c p = live (fs c .state) && isUnmapped (fs c .map p)
@@ -108,9 +112,13 @@ module _ (t : Tree) where
   abbrev pub markedWith : TallyFiles → ℕ → ℕ → Bool
   markedWith fs c x = reachedDown fs setCount c x
 
-  -- the files with those marked that are reached from set c
+  -- the files with those marked that are reached from set c: marking "leaves size 0 and all entries unmapped, for dependents too"
   unfoldable pub tallyMark : TallyFiles → ℕ → TallyFiles
-  tallyMark fs c x = cond (markedWith fs c x) (record { state = marked; size = fs x .size; map = fs x .map }) (fs x)
+  tallyMark fs c x = cond (markedWith fs c x) (record { state = marked; size = 0; map = λ p. unmapped }) (fs x)
+
+  -- the blocks that those held, which come free: "Marking now frees its stored blocks at that moment"
+  unfoldable pub markFrees : TallyFiles → ℕ → ℕ
+  markFrees fs c = sum setCount (λ x. cond (markedWith fs c x) (storedPages (fs x)) 0)
 
   -- step 2: a virgin file becomes own with its size
   unfoldable pub tallySettle : ℕ → TallyFiles → TallyFiles
@@ -119,11 +127,12 @@ module _ (t : Tree) where
   unfoldable pub tallyKind : ℕ → ℕ → Kind → TallyFiles → TallyFiles
   tallyKind c p k fs = upd fs c (record { state = fs c .state; size = fs c .size; map = upd (fs c .map) p k })
 
-  -- A NEEDED COPY, of page p for child c: it finds none free if, at its turn, no block is free
+  -- A NEEDED COPY, of page p for child c: it finds none free if, at its turn, no block is free. The blocks that marking frees are free from then on: "A later copy in
+  -- the same call may take these blocks, so 'no free block' is judged at each copy's turn."
   unfoldable pub neededCopy : ℕ → ℕ → Turn → Turn
   neededCopy p c x =
       cond (eqb (x .free) 0)
-      (record { files = tallyMark (x .files) c; free = 0; copies = x .copies; marks = x .marks + count setCount (markedWith (x .files) c) })
+      (record { files = tallyMark (x .files) c; free = markFrees (x .files) c; copies = x .copies; marks = x .marks + count setCount (markedWith (x .files) c) })
       (record { files = tallyKind c p (stored tt) (x .files); free = x .free - 1; copies = x .copies + 1; marks = x .marks })
 
   -- page p of child c, where page p of the file that is changed is of kind k
@@ -250,10 +259,6 @@ unfoldable pub tallyTruncate : ℕ → ℕ → ℕ → Tally → TallyResult
 tallyTruncate s f n ta =
     let z : ℕ = tallySize (ta .tree) (ta .files f) s in
     cond (eqb n z) (record { answer = noCounts; tally = ta }) (cond (ltb z n) (tallyGrow s f n ta) (tallyCut s f n z ta))
-
--- the blocks of a file
-unfoldable pub storedPages : TallyFile → ℕ
-storedPages x = count pageCount (λ p. isStored (x .map p))
 
 -- released are all blocks still in the map after the turns; the children of a marked file have no turns
 unfoldable pub tallyDelete : ℕ → ℕ → Tally → TallyResult

@@ -138,9 +138,18 @@ module _ (tb : Tables) where
       && allFiles aboveFormed
       && allFiles pastFormed
 
-  -- the rules on B, next start, blocks and bits; those on sets and files
+  -- "leaves size 0 and all entries unmapped ... Well formed asks the same of marked files" (document 02, Ask 10)
+  unfoldable pub marksFormed : Bool
+  marksFormed = allFiles (λ f s. not (isMarked (tb .files f s .state)) || zeroFile (tb .files f s))
+
+  -- the rules on B, next start, blocks and bits
   abbrev pub blocksFormed : Bool
   blocksFormed = headerFormed && bitsFormed
 
+  -- those on sets and files before Ask 10, which let a marked file keep its record
+  abbrev pub olderSetsFormed : Bool
+  olderSetsFormed = zerosFormed && treeFormed && termsFormed && filesFormed
+
+  -- those on sets and files
   abbrev pub setsFormed : Bool
-  setsFormed = zerosFormed && treeFormed && termsFormed && filesFormed
+  setsFormed = olderSetsFormed && marksFormed

@@ -17,7 +17,7 @@ use Rattle.rules.proofs.Tree.SetsOk.{SetsOk}
 use Rattle.rules.proofs.Formed.Shape.{FilesFormed}
 use Rattle.rules.proofs.Tally.TallyLoops.{no-pages}
 use Rattle.rules.specs.State.{File, SetRecord, Tables, absentFile, pageBytes, treeOf}
-use Rattle.rules.specs.WellFormed.{bitsFormed, blocksFormed, filesFormed, headerFormed, pagesFit, setsFormed, termsFormed, treeFormed, zerosFormed}
+use Rattle.rules.specs.WellFormed.{bitsFormed, blocksFormed, filesFormed, headerFormed, marksFormed, olderSetsFormed, pagesFit, setsFormed, termsFormed, treeFormed, zerosFormed}
 use Rattle.tables.proofs.OneReading.{formed-packed}
 use Rattle.tables.proofs.ReadParts.{bit-default, map-default, set-default, size-default, state-default}
 use Rattle.tables.specs.Calls.{storeOf}
@@ -58,7 +58,7 @@ module _ (t : List ℕ) where
     map = λ p. map-default t f s p (rw h) i;
   }
 
-  ranged : Ranged (unpack t)
+  pub ranged : Ranged (unpack t)
   ranged = record {
     no-sets = λ s h. set-default t s h;
     no-numbers = λ f s h. absent-default f s (rw (le-ltb f 16 h));
@@ -66,7 +66,7 @@ module _ (t : List ℕ) where
     no-pages = λ f s p h. map-default t f s p (rw (le-ltb p 64 h) (and-false (isFile f s)));
   }
 
-  empty-beyond : EmptyBeyond (unpack t)
+  pub empty-beyond : EmptyBeyond (unpack t)
   empty-beyond = record {
     file-map = λ f s p h. ap (λ (x : File ℕ). x .map p) (ranged .no-numbers f s h);
     set-map = λ f s p h. ap (λ (x : File ℕ). x .map p) (ranged .no-files f s h);
@@ -74,7 +74,7 @@ module _ (t : List ℕ) where
     bit = λ b h. bit-default t b h;
   }
 
-  absent-beyond : AbsentBeyond (unpack t)
+  pub absent-beyond : AbsentBeyond (unpack t)
   absent-beyond = record {
     file-state = λ f s h. ap (λ (x : File ℕ). x .state) (ranged .no-numbers f s h);
     set-state = λ f s h. ap (λ (x : File ℕ). x .state) (ranged .no-files f s h);
@@ -91,7 +91,7 @@ formed-store t p h =
     let sets = and-right (fieldsFormed t) (setsFormed (unpack t)) (and-right (blockRules t && pagesFit (unpack t) n) (setRules t) h) in
     let hd = and-left (headerFormed (unpack t)) (bitsFormed (unpack t)) blocks in
     let bits = and-right (headerFormed (unpack t)) (bitsFormed (unpack t)) blocks in
-    let z = and-4 (zerosFormed (unpack t)) (treeFormed (unpack t)) (termsFormed (unpack t)) (filesFormed (unpack t)) sets .0 in
+    let z = and-4 (zerosFormed (unpack t)) (treeFormed (unpack t)) (termsFormed (unpack t)) (filesFormed (unpack t)) (and-left (olderSetsFormed (unpack t)) (marksFormed (unpack t)) sets) .0 in
     let st = formed-state (unpack t) (ranged t) sets in
     let ok : BlocksOk (storeOf t p) = blocks-formed (storeOf t p) (empty-beyond t) (absent-beyond t) hd bits z in
     record {

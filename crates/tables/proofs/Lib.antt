@@ -22,6 +22,7 @@ pub mod FreeBlocks
 pub mod Pending
 pub mod KeptEntries
 pub mod FormedStore
+pub mod Clearing
 pub mod Registers
 pub mod NumberFits
 pub mod PanelRows

@@ -17,7 +17,7 @@ use Rattle.tables.proofs.ReadParts.{read-set}
 use Rattle.tables.proofs.Widening.{tab-bytes, used-is, widened-formed, widened-packs, word-moved}
 use Rattle.tables.specs.Convert.{Widened, oldFilesAt, oldSetAt, oldSetWord, oldTableBytes, oldUnpack, oldWellFormed}
 use Rattle.tables.specs.Layout.{allFilesBytes, filesAt, readSet, setAt, setWord, setsAt, termAt, termWord, treeBytes, writeTerm}
-use Rattle.tables.specs.Packed.{pack, unpack, wellFormed}
+use Rattle.tables.specs.Packed.{pack, termedWellFormed, unpack}
 use Rattle.tables.specs.Views.{PackedTables}
 
 -- ---- the tables without their terms
@@ -97,7 +97,7 @@ module _ (t : List ℕ) (bs : Bytes t) (n : ℕ) (p : PackedTables t) (blank : (
     files = λ i h. sym (files-are t i h);
   }
 
-  pub narrowed-formed : wellFormed t n ≡ true → (oldWellFormed (narrowed t) n ≡ true) × (pack (oldUnpack (narrowed t)) ≡ t)
+  pub narrowed-formed : termedWellFormed t n ≡ true → (oldWellFormed (narrowed t) n ≡ true) × (pack (oldUnpack (narrowed t)) ≡ t)
   narrowed-formed f = (
     widened-formed (narrowed t) t (narrowed-bytes t bs) is-narrowed (narrowed-length t) n ∙ f,
     sym (widened-packs (narrowed t) t (narrowed-bytes t bs) is-narrowed bs n f),

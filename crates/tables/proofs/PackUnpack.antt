@@ -4,16 +4,16 @@ use mathlib.Core.Path.{ap, ap₂, subst, sym, _∙_, _≡_}
 use Prim.Native.Nat.{_%_, _*_, _+_, _-_, _/_, _<_, ℕ, _≤_}
 use native.Mathlib.Omega.{arith}
 use lib.Dec.{ltb}
-use lib.ListN.{getD}
+use lib.ListN.{List·getD-eq-default, getD}
 use borrow.Author.Tests.{ltb-false, ltb-true}
 use Rattle.base.specs.Logic.{test?}
 use Rattle.base.specs.Tabulate.{tab-of}
-use Rattle.packing.specs.Bitmap.{bitAt, map-byte, map-same}
-use Rattle.packing.specs.Words.{Bytes, byte, get-lt, word-byte}
+use Rattle.packing.specs.Bitmap.{bitAt, map-byte, map-lt, map-same}
+use Rattle.packing.specs.Words.{Bytes, byte, byte-lt, get-lt, word-byte}
 use Rattle.rules.specs.State.{SetRecord, Tables, fileCount, largestBlocks, pageCount, setCount}
 use Rattle.tables.proofs.InRange.{file-in, page-in}
-use Rattle.tables.proofs.Layouts.{entry-formed, head-zero-field, header-zero-field, read-blocks-fits, read-entry-fits, read-next-fits, read-set-fits, read-set-term, read-size-fits, read-write-blocks, read-write-entry, read-write-next, read-write-set, read-write-size, read-write-state, set-zero-field, write-read-entry, write-read-head, write-read-header, write-read-set, write-read-term}
-use Rattle.tables.proofs.PackWords.{at-entry, at-head, at-header, at-map, at-set, at-term, bit-packed, entry-packed, head-packed, header-packed, length-pack, set-packed, term-packed}
+use Rattle.tables.proofs.Layouts.{entry-formed, head-zero-field, header-zero-field, read-blocks-fits, read-entry-fits, read-next-fits, read-set-fits, read-set-term, read-size-fits, read-write-blocks, read-write-entry, read-write-next, read-write-set, read-write-size, read-write-state, set-zero-field, write-entry-lt, write-head-lt, write-header-lt, write-read-entry, write-read-head, write-read-header, write-read-set, write-read-term, write-set-lt, write-term-lt}
+use Rattle.tables.proofs.PackWords.{at-entry, at-head, at-header, at-map, at-set, at-term, bit-packed, entry-packed, head-packed, header-packed, length-pack, pack-at, set-packed, term-packed}
 use Rattle.tables.proofs.ReadParts.{bit-default, map-default, read-bit, read-blocks, read-map, read-next, read-set, read-size, read-state, set-default, size-default, state-default}
 use Rattle.tables.specs.Layout.{bitmapAt, entryAt, entryBytes, entryWord, fileAt, fileBytes, filesAt, headBytes, headWord, headerAt, headerWord, readBlocks, readEntry, readNext, readSet, readSize, readState, setAt, setBytes, setWord, setsAt, tableBytes, termAt, termWord, treeBytes, writeEntry, writeHead, writeHeader, writeSet, writeTerm}
 use Rattle.tables.specs.OneReading.{Fits}
@@ -100,6 +100,23 @@ at-places P header bits sets terms heads entries i h =
     test? (ltb j headBytes) (λ e. let l = ltb-true j headBytes e in subst P (omega arith) (heads (n % 16) (n / 16) j (omega arith) (omega arith) (omega arith)))
     (λ e₄. let l₄ = ltb-false j headBytes e₄ in
     subst P (omega arith) (entries (n % 16) (n / 16) ((j - headBytes) / entryBytes) ((j - headBytes) % entryBytes) (omega arith) (omega arith) (omega arith) (omega arith))))))
+
+-- LAW: the tables of a state that fits are bytes
+module _ (tb : Tables) (h : Fits tb) where
+  table-byte : (i : ℕ) → i < tableBytes → tableByte tb i < 256
+  table-byte = at-places (λ i. tableByte tb i < 256)
+      (λ j k. rw (at-header tb j k) (byte-lt 3 _ j (write-header-lt (tb .blocks) (tb .next) (h .blocks-fit) (h .next-fits))))
+      (λ k l. rw (at-map tb k l) (map-lt (tb .bits) k))
+      (λ s j hs k. rw (at-set tb s j hs k) (byte-lt 2 _ j (write-set-lt (tb .sets s) (h .set-fits s))))
+      (λ s j hs k. rw (at-term tb s j hs k) (byte-lt 3 _ j (write-term-lt (tb .sets s .term) (h .set-fits s .first-fits, h .set-fits s .end-fits))))
+      (λ f s j hf hs k. rw (at-head tb f s j hf hs k) (byte-lt 3 _ j (write-head-lt (tb .files f s .state) (tb .files f s .size) (h .size-fits f s))))
+      (λ f s p j hf hs hp k. rw (at-entry tb f s p j hf hs hp k) (byte-lt 1 _ j (write-entry-lt (tb .files f s .map p) (h .block-fits f s p))))
+
+  pub pack-bytes : Bytes (pack tb)
+  pack-bytes i = test? (ltb i tableBytes)
+      (λ e. let l = ltb-true i tableBytes e in rw (pack-at tb i l) (table-byte i l))
+      (λ e. let l = ltb-false i tableBytes e in
+      let z : getD (pack tb) i 0 ≡ 0 = List·getD-eq-default (pack tb) 0 (omega (arith, length-pack tb)) in rw z (omega arith))
 
 -- ---- tables, their state and its tables
 

@@ -17,7 +17,7 @@ length-pack tb = length-tab tableBytes (tableByte tb)
 
 -- ---- byte j of each word
 
-pack-at : (tb : Tables) (i : ℕ) → i < tableBytes → getD (pack tb) i 0 ≡ tableByte tb i
+pub pack-at : (tb : Tables) (i : ℕ) → i < tableBytes → getD (pack tb) i 0 ≡ tableByte tb i
 unfolding pack
 pack-at tb i h = getD-tab tableBytes (tableByte tb) i 0 h
 
@@ -49,7 +49,7 @@ module _ (tb : Tables) where
       let b : treeBytes + j - treeBytes ≡ j = omega arith in
       ap (tableByte tb) a ∙ at-set-record s (treeBytes + j) h (omega arith) ∙ rw (le-ltb (treeBytes + j) treeBytes (omega arith), b)
 
-  at-record : (f s j : ℕ) → f < fileCount → s < setCount → j < fileBytes → tableByte tb (fileAt f s + j) ≡ recordByte tb (s * fileCount + f) j
+  pub at-record : (f s j : ℕ) → f < fileCount → s < setCount → j < fileBytes → tableByte tb (fileAt f s + j) ≡ recordByte tb (s * fileCount + f) j
   unfolding tableByte
   at-record f s j hf hs h =
       let i = fileAt f s + j in

@@ -17,15 +17,15 @@ use Rattle.packing.specs.Words.{Bytes, byte, byte-lt, bytes-word, getWord, word
 use Rattle.rules.specs.Numbers.{noCounts}
 use Rattle.rules.specs.State.{SetRecord, fileCount, largestBlocks, pageCount, setCount}
 use Rattle.rules.specs.Terms.{defaultTerm, lastEnd, withTerm}
-use Rattle.rules.specs.WellFormed.{allFiles, allPages, allSets, blocksFormed, pagesFit, setsFormed}
+use Rattle.rules.specs.WellFormed.{allFiles, allPages, allSets, blocksFormed, olderSetsFormed, pagesFit}
 use Rattle.tables.proofs.InRange.{file-in, page-in}
 use Rattle.tables.proofs.Layouts.{read-set-with}
-use Rattle.tables.proofs.OneReading.{formed-packed}
+use Rattle.tables.proofs.OneReading.{termed-packed}
 use Rattle.tables.proofs.PackUnpack.{pack-unpack}
 use Rattle.tables.specs.Calls.{lookedAt}
-use Rattle.tables.specs.Convert.{Widened, convertOn, oldEntryAt, oldEntryWord, oldFieldsFormed, oldFileAt, oldFilesAt, oldHeadWord, oldKindsFormed, oldSetAt, oldSetWord, oldTableBytes, oldUnpack, oldWellFormed, withDefault}
+use Rattle.tables.specs.Convert.{Widened, cleared, convertOn, oldEntryAt, oldEntryWord, oldFieldsFormed, oldFileAt, oldFilesAt, oldHeadWord, oldKindsFormed, oldSetAt, oldSetWord, oldTableBytes, oldUnpack, oldWellFormed, olderUnpack, olderWellFormed, withDefault}
 use Rattle.tables.specs.Layout.{bitmapAt, entryAt, entryBytes, entryWord, fileAt, fileBytes, filesAt, headBytes, headWidths, headWord, headerAt, headerWidths, headerWord, readBlocks, readNext, readSet, readTerm, setAt, setBytes, setWidths, setWord, setsAt, tableBytes, termAt, termWord, treeBytes}
-use Rattle.tables.specs.Packed.{blockRules, entryFormed, fieldsFormed, isFile, isPage, kindsFormed, pack, setRules, unpack, wellFormed}
+use Rattle.tables.specs.Packed.{blockRules, entryFormed, fieldsFormed, isFile, isPage, kindsFormed, olderSetRules, pack, termedWellFormed, unpack}
 
 -- a word whose bytes stand at another place of another list
 pub word-moved : (t t′ : List ℕ) → Bytes t → (m a b : ℕ) → ((j : ℕ) → j ≤ m → getD t′ (a + j) 0 ≡ getD t (b + j) 0) → getWord m t′ a ≡ getWord m t b
@@ -213,30 +213,30 @@ module _ (t t′ : List ℕ) (bs : Bytes t) (w : Widened t t′) where
       (files-same _ _ (λ f s hf hs. ap (λ x. eqb (getField headWidths x 2) 0) (head-is f s hf hs)))
 
   -- LAW: old tables of the right length are well formed by the rules of their time exactly when the new ones are
-  pub widened-formed : length t ≡ oldTableBytes → (n : ℕ) → oldWellFormed t n ≡ wellFormed t′ n
-  unfolding oldWellFormed wellFormed blockRules setRules
+  pub widened-formed : length t ≡ oldTableBytes → (n : ℕ) → oldWellFormed t n ≡ termedWellFormed t′ n
+  unfolding oldWellFormed termedWellFormed blockRules olderSetRules
   widened-formed len n =
       rw (eq-eqb (length t) oldTableBytes len, eq-eqb (length t′) tableBytes (w .new-length), kinds-are, fields-are, unpack-widened)
 
   -- LAW: and then they are the tables of that state
-  pub widened-packs : Bytes t′ → (n : ℕ) → wellFormed t′ n ≡ true → t′ ≡ pack (oldUnpack t)
-  widened-packs bs′ n h = sym (pack-unpack t′ (formed-packed t′ n h) bs′) ∙ ap pack unpack-widened
+  pub widened-packs : Bytes t′ → (n : ℕ) → termedWellFormed t′ n ≡ true → t′ ≡ pack (oldUnpack t)
+  widened-packs bs′ n h = sym (pack-unpack t′ (termed-packed t′ n h) bs′) ∙ ap pack unpack-widened
 
 -- the length of old tables that are well formed
 pub old-length : (t : List ℕ) (n : ℕ) → oldWellFormed t n ≡ true → length t ≡ oldTableBytes
 unfolding oldWellFormed
 old-length t n h =
     let a = eqb (length t) oldTableBytes in
-    let b = and-left (a && oldKindsFormed t && blocksFormed (oldUnpack t)) (pagesFit (oldUnpack t) n) (and-left _ (oldFieldsFormed t && setsFormed (oldUnpack t)) h) in
+    let b = and-left (a && oldKindsFormed t && blocksFormed (oldUnpack t)) (pagesFit (oldUnpack t) n) (and-left _ (oldFieldsFormed t && olderSetsFormed (oldUnpack t)) h) in
     eqb-true (length t) oldTableBytes (and-left a (oldKindsFormed t) (and-left (a && oldKindsFormed t) (blocksFormed (oldUnpack t)) b))
 
--- the converter leaves the pages, and makes tables of old ones that are well formed
+-- the converter leaves the pages, and makes tables of older ones that are well formed
 pub convert-pages : (old p second : List ℕ) → convertOn old p second .pages ≡ p
 unfolding convertOn
-convert-pages old p second = test? (oldWellFormed old (length p) && eqb (length second) tableBytes) (λ e. rw e) (λ e. rw e)
+convert-pages old p second = test? (olderWellFormed old (length p) && eqb (length second) tableBytes) (λ e. rw e) (λ e. rw e)
 
-pub convert-accepted : (old p second : List ℕ) → oldWellFormed old (length p) ≡ true → length second ≡ tableBytes
-    → convertOn old p second ≡ lookedAt noCounts (pack (oldUnpack old)) p []
+pub convert-accepted : (old p second : List ℕ) → olderWellFormed old (length p) ≡ true → length second ≡ tableBytes
+    → convertOn old p second ≡ lookedAt noCounts (pack (cleared (olderUnpack old))) p []
 unfolding convertOn
 convert-accepted old p second f l = rw (f, eq-eqb (length second) tableBytes l)
 

@@ -1,4 +1,4 @@
--- The tables unpacked and packed, and what is well formed. Document 01, "Packed tables"; document 02, Asks 4 and 8.
+-- The tables unpacked and packed, and what is well formed. Document 01, "Packed tables"; document 02, Asks 4, 8 and 10.
 use mathlib.Core.Bool.{_&&_, Bool, cond, _||_}
 use mathlib.Core.List.{List}
 use Prim.Native.Nat.{_%_, _-_, _/_, ℕ}
@@ -9,7 +9,7 @@ use Rattle.packing.specs.Bitmap.{bitAt, mapByte}
 use Rattle.packing.specs.Fields.{getField}
 use Rattle.packing.specs.Words.{byte}
 use Rattle.rules.specs.State.{File, SetRecord, Tables, absent, fileCount, largestBlocks, pageCount, setCount, unmapped, unusedSet}
-use Rattle.rules.specs.WellFormed.{allFiles, allPages, allSets, blocksFormed, pagesFit, setsFormed}
+use Rattle.rules.specs.WellFormed.{allFiles, allPages, allSets, blocksFormed, olderSetsFormed, pagesFit, setsFormed}
 use Rattle.tables.specs.Layout.{bitmapAt, entryBytes, entryWidths, entryWord, fileBytes, filesAt, headBytes, headWidths, headWord, headerWidths, headerWord, readBlocks, readEntry, readNext, readSet, readSize, readState, setBytes, setWidths, setWord, setsAt, tableBytes, termWord, treeBytes, writeEntry, writeHead, writeHeader, writeSet, writeTerm}
 
 -- is there such a file, such a page of it
@@ -81,6 +81,14 @@ module _ (t : List ℕ) where
   unfoldable pub setRules : Bool
   setRules = fieldsFormed && setsFormed (unpack t)
 
+  -- the same before document 02, Ask 10: a marked file may keep its record
+  unfoldable pub olderSetRules : Bool
+  olderSetRules = fieldsFormed && olderSetsFormed (unpack t)
+
   -- WELL FORMED, with a pages buffer of so many bytes
   unfoldable pub wellFormed : ℕ → Bool
   wellFormed pagesLength = blockRules && pagesFit (unpack t) pagesLength && setRules
+
+  -- WELL FORMED BY THE RULES BEFORE ASK 10, which the converter takes too: tables of the present length, with terms
+  unfoldable pub termedWellFormed : ℕ → Bool
+  termedWellFormed pagesLength = blockRules && pagesFit (unpack t) pagesLength && olderSetRules

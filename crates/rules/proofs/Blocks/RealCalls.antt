@@ -11,13 +11,14 @@ use borrow.Author.Tests.{eq-eqb, eqb-true, ne-eqb}
 use Rattle.base.specs.Count.{count-all}
 use Rattle.base.specs.Logic.{same?}
 use Rattle.base.specs.Update.{upd, upd-keeps, upd-map, upd-other, upd-same}
-use Rattle.rules.proofs.Steps.Erased.{unlinked}
+use Rattle.rules.proofs.Agreement.Truncate.{apart}
 use Rattle.rules.proofs.Blocks.GoodWork.{not-stored}
-use Rattle.rules.proofs.Storages.Model.{model}
 use Rattle.rules.proofs.Blocks.RealSim.{pagesSeen, realDemands, toModel}
 use Rattle.rules.proofs.Blocks.RealStore.{BlocksOk, Outer, PagesInside, RealKept, good-begin, kept-finish, none-stored}
+use Rattle.rules.proofs.Steps.Erased.{unlinked}
+use Rattle.rules.proofs.Steps.Handing.{ProperTree}
+use Rattle.rules.proofs.Storages.Model.{model}
 use Rattle.rules.proofs.Storages.StoreSim.{Same, Standing, StoreSim, calls-same}
-use Rattle.rules.proofs.Agreement.Truncate.{apart}
 use Rattle.rules.specs.Calls.{Store, blankMemory, created, formatted, made, newFile, step, treeIn}
 use Rattle.rules.specs.Numbers.{Call}
 use Rattle.rules.specs.Plain.{present}
@@ -27,7 +28,6 @@ use Rattle.rules.specs.State.{Entry, File, Files, SetRecord, absentFile,
 use Rattle.rules.specs.Storage.{Memory, freeBlocks, real}
 use Rattle.rules.specs.Terms.{defaultTerm}
 use Rattle.rules.specs.WellFormed.{names}
-use Rattle.rules.proofs.Steps.Handing.{ProperTree, not-itself}
 
 -- FILES THAT CHANGE WITHOUT BLOCKS: each is as it was, or nothing was stored in it and nothing is
 abbrev NoneStored : File ℕ → Type 0
@@ -194,7 +194,7 @@ realStore B l = record {
   sim = λ r f s. toModel (treeIn real r) s (r .memory) (Outer r f);
   free = λ r k. refl;
   fresh-same = fresh-free B;
-  kid = λ r f s p c m. not-itself (treeIn real r) (p .ok) s c m;
+  kid = λ r f s p c m. (p .ok, m);
   good-begin = λ r f s k. good-begin r (k .blocks-ok) (k .pages-in) f s;
   frame = λ r f s w g j x p b n e. g .outer-page b (record { file = j; set = x; page = p; other = n; names = e });
   kept-finish = kept-finish B;

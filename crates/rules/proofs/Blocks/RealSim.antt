@@ -1,29 +1,50 @@
 -- The model stands for the store's own storage: each step of the rules keeps the work good. Assumes nothing.
-use mathlib.Core.Bool.{Bool, false, not, true, true≢false}
+use mathlib.Core.Bool.{Bool, cond, false, not, true, true≢false}
+use mathlib.Core.List.{List, List·Memᴰ, List·Memᴰ·cases-cons, List·Memᴰ·head, _∷_, []}
 use mathlib.Core.Logic.{inl, inr, _⊎_, ⊎-elim}
-use mathlib.Core.Path.{_≡_, ap, refl, subst, subst₂, sym, _∙_}
+use mathlib.Core.Path.{_≡_, ap, ap₂, fun-ext, refl, subst, subst₂, sym, _∙_}
 use Prim.Native.Nat.{_<_, ℕ}
 use native.Mathlib.Omega.{arith}
 use lib.ListN.{set}
 use Rattle.base.specs.Count.{count-less}
-use Rattle.base.specs.Logic.{same?}
+use Rattle.base.specs.Logic.{same?, test?}
 use Rattle.base.specs.Update.{upd, upd-keeps, upd-other, upd-same}
+use Rattle.rules.proofs.Agreement.Agree.{from-mem, from-once}
+use Rattle.rules.proofs.Agreement.Truncate.{apart}
 use Rattle.rules.proofs.Blocks.GoodWork.{Good, PagesIn, Place, ShortPage, Used, at, good-alike, good-more, not-stored, overlay-short, put-in, putEntry-named, putEntry-still, slot, upd-named, zero-short}
-use Rattle.rules.proofs.Storages.MapBlocks.{mapEntry}
-use Rattle.rules.proofs.Storages.Model.{model}
-use Rattle.rules.proofs.Steps.OneStep.{putEntry-ent, putEntry-other, putEntry-page, putEntry-state}
-use Rattle.rules.proofs.Steps.Reached.{mark-map-same, mark-presence}
-use Rattle.rules.proofs.Steps.States.{live-present}
-use Rattle.rules.proofs.Storages.Sim.{Demands, Sim, Translation, settle-ent}
-use Rattle.rules.proofs.Steps.StepFour.{needs-alive, needs-unmapped}
 use Rattle.rules.proofs.Blocks.TakeBlock.{take-below, take-bits, take-blocks, take-count, take-next, take-pages, take-unused}
 use Rattle.rules.proofs.Blocks.Tidy.{Tidy, resolve-named, settle-presence, tidy-fewer, tidy-put}
-use Rattle.rules.proofs.Agreement.Truncate.{apart}
-use Rattle.rules.specs.Reading.{needs, resolve}
-use Rattle.rules.specs.Rules.{Work, copy, dropPage, enterAs, freeEntry, handOver, mark, putEntry, reserve, reserveAs, resize, settle, takeOwn, withFiles}
-use Rattle.rules.specs.State.{Entry, File, Files, Tree, absentFile, hole, isAbsent, isStored, stored, unmapped}
-use Rattle.rules.specs.Storage.{PageData, Memory, freeBlocks, real, takeBlock}
+use Rattle.rules.proofs.Steps.Handing.{not-reached}
+use Rattle.rules.proofs.Steps.OneStep.{TreeOk, putEntry-ent, putEntry-other, putEntry-page, putEntry-state}
+use Rattle.rules.proofs.Steps.Pending.{drops, drops-hole, drops-memory, each-same}
+use Rattle.rules.proofs.Steps.Reached.{mark-presence, marked-by, reached-live}
+use Rattle.rules.proofs.Steps.States.{live-present}
+use Rattle.rules.proofs.Steps.StepFour.{each-all, each-inv, needs-alive, needs-unmapped}
+use Rattle.rules.proofs.Steps.WriterSteps.{NoDup}
+use Rattle.rules.proofs.Storages.MapBlocks.{mapEntry, mapFiles}
+use Rattle.rules.proofs.Storages.Model.{model}
+use Rattle.rules.proofs.Storages.Sim.{Demands, Sim, Translation, settle-ent}
+use Rattle.rules.specs.Reading.{needs, reaches, resolve}
+use Rattle.rules.specs.Rules.{Work, copy, dropPage, each, enterAs, freeEntry, freeMap, freeSets, from, handOver, mark, markDown, putEntry, reserve, reserveAs, resize, settle, takeOwn, withFiles}
+use Rattle.rules.specs.State.{Entry, File, Files, Tree, absentFile, hole, isAbsent, isStored, live, stored, unmapped}
+use Rattle.rules.specs.Storage.{Memory, PageData, freeBlocks, real, takeBlock}
 use Rattle.rules.specs.WellFormed.{names}
+
+drop-pages : (e : Entry ℕ) (m : Memory) (b : ℕ) → freeEntry real e m .pages b ≡ m .pages b
+unfolding freeEntry
+drop-pages unmapped m b = refl
+drop-pages hole m b = refl
+drop-pages (stored k) m b = refl
+
+none-here : (b : ℕ) → _≡_ {A = Entry ℕ} unmapped (stored b) → ⊥
+none-here b e = let z : _≡_ {A = ℕ} 0 1 = cc in omega arith
+
+free-sets-pages : (t : Tree) (passes : ℕ → Bool) (files : Files ℕ) (m : Memory) (b : ℕ) → freeSets real t passes files m .pages b ≡ m .pages b
+unfolding freeSets freeMap
+free-sets-pages t passes files m b =
+    each-inv _ (λ (n : Memory). n .pages b ≡ m .pages b) (from 0 8)
+    (λ x n l i. test? {P = cond (passes x) (freeMap real (files x .map) n) n .pages b ≡ m .pages b} (passes x)
+    (λ e. rw e (each-inv _ (λ (k : Memory). k .pages b ≡ m .pages b) (from 0 64) (λ p k l j. drop-pages (files x .map p) k b ∙ j) n i)) (λ e. rw e i)) m refl
 
 module _ (t : Tree) (s : ℕ) (m₀ : Memory) (Outer : ℕ → Type 0) where
   abbrev Ok : Work real → Type 0
@@ -42,11 +63,6 @@ module _ (t : Tree) (s : ℕ) (m₀ : Memory) (Outer : ℕ → Type 0) where
   good-settle : (c : ℕ) (w : Work real) → Ok w → Ok (settle real t c w)
   unfolding settle
   good-settle c w g = good-files w (settle real t c w) refl refl (settle-ent t c (w .files)) (λ x n. settle-presence t c (w .files) x) g
-
-  good-mark : (c p : ℕ) (w : Work real) → Ok w → needs (w .files) c p ≡ true → Ok (mark real t c w)
-  unfolding mark
-  good-mark c p w g n =
-      good-files w (mark real t c w) refl refl (mark-map-same t (w .files) c) (λ x o. mark-presence t (w .files) c (needs-alive (w .files) c p n) x) g
 
   good-resize : (n : ℕ) (w : Work real) → Ok w → Ok (resize real t s n w)
   unfolding resize
@@ -346,65 +362,206 @@ module _ (t : Tree) (s : ℕ) (m₀ : Memory) (Outer : ℕ → Type 0) where
     good-hand = rw e good-moved
 
   -- A BLOCK FREE AGAIN
-  good-drop : (p : ℕ) (w : Work real) → Ok w → isStored (w .pending p) ≡ false → Ok (dropPage real t s p w)
+  good-drop : (y p : ℕ) (w : Work real) → Ok w → (s ≡ y → isStored (w .pending p) ≡ false) → Ok (dropPage real t y p w)
   unfolding dropPage freeEntry
-  good-drop p w g n = go (w .files s .map p) refl
+  good-drop y p w g n = go (w .files y .map p) refl
     where
       w′ : Entry ℕ → Work real
-      w′ e = record { memory = freeEntry real e (w .memory); files = putEntry (w .files) s p hole; pending = w .pending; taken = w .taken; copies = w .copies; marks = w .marks }
+      w′ e = record { memory = freeEntry real e (w .memory); files = putEntry (w .files) y p hole; pending = w .pending; taken = w .taken; copies = w .copies; marks = w .marks }
 
       less : (e : Entry ℕ) (h : Bool) (x q b : ℕ) → at (w′ e) h x q ≡ stored b → at w h x q ≡ stored b
       less e true x q b a = a
-      less e false x q b a = hole-less w s p x q b a
+      less e false x q b a = hole-less w y p x q b a
 
-      more : (e : Entry ℕ) (h : Bool) (x q b : ℕ) → (w .files s .map p ≡ stored b → ⊥) → at w h x q ≡ stored b → at (w′ e) h x q ≡ stored b
+      more : (e : Entry ℕ) (h : Bool) (x q b : ℕ) → (w .files y .map p ≡ stored b → ⊥) → at w h x q ≡ stored b → at (w′ e) h x q ≡ stored b
       more e true x q b n a = a
-      more e false x q b n a = hole-more w s p x q b a n
+      more e false x q b n a = hole-more w y p x q b a n
 
       -- nobody else names the block
-      nobody : (b : ℕ) → w .files s .map p ≡ stored b → (h : Bool) (x q : ℕ) → at (w′ (stored b)) h x q ≡ stored b → ⊥
-      nobody b e true x q a = let z = g .apart true false x s q p b a e in not-stored (w .pending p) b n (ap (w .pending) (sym (z .1)) ∙ a)
+      nobody : (b : ℕ) → w .files y .map p ≡ stored b → (h : Bool) (x q : ℕ) → at (w′ (stored b)) h x q ≡ stored b → ⊥
+      nobody b e true x q a = let z = g .apart true false x y q p b a e in not-stored (w .pending p) b (n (z .0)) (ap (w .pending) (sym (z .1)) ∙ a)
       nobody b e false x q a =
-          let z = g .apart false false x s q p b (hole-less w s p x q b a) e in
-          let y : putEntry (w .files) s p hole s .map p ≡ stored b = subst₂ (λ i j. putEntry (w .files) s p hole i .map j ≡ stored b) (z .0) (z .1) a in
-          let o : _≡_ {A = ℕ} 0 1 = cc (putEntry-ent (w .files) s p hole) in omega arith
+          let z = g .apart false false x y q p b (hole-less w y p x q b a) e in
+          let r : putEntry (w .files) y p hole y .map p ≡ stored b = subst₂ (λ i j. putEntry (w .files) y p hole i .map j ≡ stored b) (z .0) (z .1) a in
+          let o : _≡_ {A = ℕ} 0 1 = cc (r, putEntry-ent (w .files) y p hole) in omega arith
 
       still : (b b′ : ℕ) → Used (w .memory) b′ → (b ≡ b′ → ⊥) → Used (freeEntry real (stored b) (w .memory)) b′
       still b b′ u d = record { bit = upd-other (w .memory .bits) b false b′ d ∙ u .bit; below = u .below }
 
-      go : (e : Entry ℕ) → w .files s .map p ≡ e → Ok (w′ e)
-      go unmapped e = good-holed w s p (w′ unmapped) refl refl refl (ap isStored e) g
-      go hole e = good-holed w s p (w′ hole) refl refl refl (ap isStored e) g
+      go : (e : Entry ℕ) → w .files y .map p ≡ e → Ok (w′ e)
+      go unmapped e = good-holed w y p (w′ unmapped) refl refl refl (ap isStored e) g
+      go hole e = good-holed w y p (w′ hole) refl refl refl (ap isStored e) g
       go (stored b) e = record {
         next = g .next;
         blocks = g .blocks;
         pages-in = g .pages-in;
-        tidy = hole-tidy w s p (g .tidy);
+        tidy = hole-tidy w y p (g .tidy);
         used = λ h x q b′ a. still b b′ (g .used h x q b′ (less (stored b) h x q b′ a)) (λ d. nobody b e h x q (a ∙ ap stored (sym d)));
         apart = λ h h′ x x′ q q′ b′ a a′. g .apart h h′ x x′ q q′ b′ (less (stored b) h x q b′ a) (less (stored b) h′ x′ q′ b′ a′);
         one = λ h h′ x x′ q b′ b″ a a′. g .one h h′ x x′ q b′ b″ (less (stored b) h x q b′ a) (less (stored b) h′ x′ q b″ a′);
         only = λ b′ o. same? b b′
             (λ d. absurd (true≢false (sym o ∙ subst (λ y. upd (w .memory .bits) b false y ≡ false) d (upd-same (w .memory .bits) b false))))
             (λ d. ⊎-elim inl
-            (λ l. inr (record { pending = l .pending; set = l .set; page = l .page; names = more (stored b) (l .pending) (l .set) (l .page) b′ (λ z. d (let y : b ≡ b′ = cc in y)) (l .names) }))
+            (λ l. inr (record { pending = l .pending; set = l .set; page = l .page; names = more (stored b) (l .pending) (l .set) (l .page) b′ (λ z. d (let r : b ≡ b′ = cc in r)) (l .names) }))
             (g .only b′ (sym (upd-other (w .memory .bits) b false b′ d) ∙ o)));
-        outer = λ b′ o. still b b′ (g .outer b′ o) (λ d. g .outer-not b′ o false s p (e ∙ ap stored d));
+        outer = λ b′ o. still b b′ (g .outer b′ o) (λ d. g .outer-not b′ o false y p (e ∙ ap stored d));
         outer-not = λ b′ o h x q a. g .outer-not b′ o h x q (less (stored b) h x q b′ a);
         outer-page = λ b′ o. g .outer-page b′ o;
       }
 
-  drop-count : (p : ℕ) (w : Work real) → Ok w → freeBlocks (freeEntry real (w .files s .map p) (w .memory)) ≡ freeEntry model (mapEntry (w .memory .pages) (w .files s .map p)) (freeBlocks (w .memory))
+  drop-count : (y p : ℕ) (w : Work real) → Ok w → freeBlocks (freeEntry real (w .files y .map p) (w .memory)) ≡ freeEntry model (mapEntry (w .memory .pages) (w .files y .map p)) (freeBlocks (w .memory))
   unfolding freeEntry freeBlocks
-  drop-count p w g = go (w .files s .map p) refl
+  drop-count y p w g = go (w .files y .map p) refl
     where
-      go : (e : Entry ℕ) → w .files s .map p ≡ e → freeBlocks (freeEntry real e (w .memory)) ≡ freeEntry model (mapEntry (w .memory .pages) e) (freeBlocks (w .memory))
+      go : (e : Entry ℕ) → w .files y .map p ≡ e → freeBlocks (freeEntry real e (w .memory)) ≡ freeEntry model (mapEntry (w .memory .pages) e) (freeBlocks (w .memory))
       go unmapped e = refl
       go hole e = refl
       go (stored b) e =
-          let u = g .used false s p b e in
+          let u = g .used false y p b e in
           let c = count-less (w .memory .blocks) (λ x. not (upd (w .memory .bits) b false x)) (λ x. not (w .memory .bits x)) b (u .below)
           (ap not (upd-same (w .memory .bits) b false)) (ap not (u .bit)) (λ x n. ap not (sym (upd-other (w .memory .bits) b false x n))) in
           omega arith
+
+  -- THE BLOCKS OF SETS FREE AGAIN, page by page
+  abbrev dropSet : ℕ → Work real → Work real
+  dropSet x w = each (dropPage real t x) (from 0 64) w
+
+  abbrev dropSets : (ℕ → Bool) → List ℕ → Work real → Work real
+  dropSets passes xs w = each (λ x v. cond (passes x) (dropSet x v) v) xs w
+
+  module _ (x : ℕ) (n : s ≡ x → ⊥) where
+    good-set : (ps : List ℕ) (w : Work real) → Ok w → Ok (each (dropPage real t x) ps w)
+    good-set ps w g = each-inv (dropPage real t x) Ok ps (λ p v m i. good-drop x p v i (λ e. absurd (n e))) w g
+
+    count-set : (ps : List ℕ) → NoDup ps → (w : Work real) → Ok w →
+        freeBlocks (each (dropPage real t x) ps w .memory) ≡ each (λ p. freeEntry model (mapEntry (w .memory .pages) (w .files x .map p))) ps (freeBlocks (w .memory))
+    unfolding each dropPage
+    count-set [] d w g = refl
+    count-set (q ∷ qs) d w g =
+        count-set qs (d .1) (dropPage real t x q w) (good-drop x q w g (λ e. absurd (n e)))
+        ∙ each-same (λ p. freeEntry model (mapEntry (freeEntry real (w .files x .map q) (w .memory) .pages) (putEntry (w .files) x q hole x .map p))) (λ p. freeEntry model (mapEntry (w .memory .pages) (w .files x .map p))) qs
+        (λ p m l. ap₂ (λ (pg : ℕ → PageData) e. freeEntry model (mapEntry pg e) m) (fun-ext (drop-pages (w .files x .map q) (w .memory))) (putEntry-page (w .files) x q hole x p (λ e. d .0 (subst (λ y. List·Memᴰ y qs) (sym e) l)))) _
+        ∙ ap (each (λ p. freeEntry model (mapEntry (w .memory .pages) (w .files x .map p))) qs) (drop-count x q w g)
+
+    set-pages : (ps : List ℕ) (w : Work real) (b : ℕ) → each (dropPage real t x) ps w .memory .pages b ≡ w .memory .pages b
+    unfolding dropPage
+    set-pages ps w b = each-inv (dropPage real t x) (λ v. v .memory .pages b ≡ w .memory .pages b) ps (λ p v m i. drop-pages (v .files x .map p) (v .memory) b ∙ i) w refl
+
+  -- what is left of the files: a set that does not pass is as it was, one that does has nothing stored
+  record SetsDropped (passes : ℕ → Bool) (xs : List ℕ) (w v : Work real) : Type 0 where
+    pending : v .pending ≡ w .pending
+    counts : (v .taken ≡ w .taken) × (v .copies ≡ w .copies) × (v .marks ≡ w .marks)
+    other : (x : ℕ) → (List·Memᴰ x xs → ⊥) → v .files x ≡ w .files x
+    idle : (x : ℕ) → passes x ≡ false → v .files x ≡ w .files x
+
+  module _ (passes : ℕ → Bool) where
+    one-dropped : (x : ℕ) (xs : List ℕ) → List·Memᴰ x xs → (w : Work real) → SetsDropped passes xs w (cond (passes x) (dropSet x w) w)
+    one-dropped x xs m w =
+        test? {P = SetsDropped passes xs w (cond (passes x) (dropSet x w) w)} (passes x)
+        (λ e. let d = drops real t x (from 0 64) w in rw e (record {
+          pending = d .pending;
+          counts = d .counts;
+          other = λ y o. d .other-sets y (λ q. o (subst (λ z. List·Memᴰ z xs) q m));
+          idle = λ y f. d .other-sets y (λ q. true≢false (sym e ∙ ap passes q ∙ f));
+        }))
+        (λ e. rw e (record { pending = refl; counts = (refl, refl, refl); other = λ y o. refl; idle = λ y f. refl }))
+
+    sets-dropped : (xs : List ℕ) (w : Work real) → SetsDropped passes xs w (dropSets passes xs w)
+    sets-dropped xs w =
+        each-inv (λ x v. cond (passes x) (dropSet x v) v) (SetsDropped passes xs w) xs
+        (λ x v m i. let d = one-dropped x xs m v in record {
+          pending = d .pending ∙ i .pending;
+          counts = (d .counts .0 ∙ i .counts .0, d .counts .1 ∙ i .counts .1, d .counts .2 ∙ i .counts .2);
+          other = λ y o. d .other y o ∙ i .other y o;
+          idle = λ y f. d .idle y f ∙ i .idle y f;
+        }) w (record { pending = refl; counts = (refl, refl, refl); other = λ y o. refl; idle = λ y f. refl })
+
+    module _ (away : (x : ℕ) → passes x ≡ true → s ≡ x → ⊥) where
+      good-sets : (xs : List ℕ) (w : Work real) → Ok w → Ok (dropSets passes xs w)
+      good-sets xs w g =
+          each-inv (λ x v. cond (passes x) (dropSet x v) v) Ok xs
+          (λ x v m i. test? {P = Ok (cond (passes x) (dropSet x v) v)} (passes x) (λ e. rw e (good-set x (away x e) (from 0 64) v i)) (λ e. rw e i)) w g
+
+      sets-memory : (xs : List ℕ) → NoDup xs → (w : Work real) → dropSets passes xs w .memory ≡ each (λ x m. cond (passes x) (freeMap real (w .files x .map) m) m) xs (w .memory)
+      unfolding each freeMap
+      sets-memory [] d w = refl
+      sets-memory (x ∷ xs) d w =
+          sets-memory xs (d .1) (cond (passes x) (dropSet x w) w)
+          ∙ each-same (λ y m. cond (passes y) (freeMap real (cond (passes x) (dropSet x w) w .files y .map) m) m) (λ y m. cond (passes y) (freeMap real (w .files y .map) m) m) xs
+          (λ y m l. ap (λ (f : File ℕ). cond (passes y) (freeMap real (f .map) m) m) (one-dropped x (x ∷ []) (List·Memᴰ·head refl) w .other y (λ i. ⊎-elim (λ q. d .0 (subst (λ z. List·Memᴰ z xs) q l)) (λ i. elim i [ ]) (List·Memᴰ·cases-cons i)))) _
+          ∙ ap (each (λ y m. cond (passes y) (freeMap real (w .files y .map) m) m) xs)
+          (test? {P = cond (passes x) (dropSet x w) w .memory ≡ cond (passes x) (freeMap real (w .files x .map) (w .memory)) (w .memory)} (passes x) (λ e. rw e (drops-memory real t x (from 0 64) (from-once 0 64) w)) (λ e. rw e))
+
+      sets-count : (xs : List ℕ) → NoDup xs → (w : Work real) → Ok w → freeBlocks (dropSets passes xs w .memory) ≡
+          each (λ x m. cond (passes x) (freeMap model (λ p. mapEntry (w .memory .pages) (w .files x .map p)) m) m) xs (freeBlocks (w .memory))
+      unfolding each freeMap
+      sets-count [] d w g = refl
+      sets-count (x ∷ xs) d w g =
+          let v : Work real = cond (passes x) (dropSet x w) w in
+          let gv : Ok v = test? {P = Ok (cond (passes x) (dropSet x w) w)} (passes x) (λ e. rw e (good-set x (away x e) (from 0 64) w g)) (λ e. rw e g) in
+          let pg : v .memory .pages ≡ w .memory .pages = fun-ext (λ b. test? {P = cond (passes x) (dropSet x w) w .memory .pages b ≡ w .memory .pages b} (passes x) (λ e. rw e (set-pages x (away x e) (from 0 64) w b)) (λ e. rw e)) in
+          sets-count xs (d .1) v gv
+          ∙ each-same (λ y m. cond (passes y) (freeMap model (λ p. mapEntry (v .memory .pages) (v .files y .map p)) m) m) (λ y m. cond (passes y) (freeMap model (λ p. mapEntry (w .memory .pages) (w .files y .map p)) m) m) xs
+          (λ y m l. ap₂ (λ (h : ℕ → PageData) (f : File ℕ). cond (passes y) (freeMap model (λ p. mapEntry h (f .map p)) m) m) pg
+          (one-dropped x (x ∷ []) (List·Memᴰ·head refl) w .other y (λ i. ⊎-elim (λ q. d .0 (subst (λ z. List·Memᴰ z xs) q l)) (λ i. elim i [ ]) (List·Memᴰ·cases-cons i)))) _
+          ∙ ap (each (λ y m. cond (passes y) (freeMap model (λ p. mapEntry (w .memory .pages) (w .files y .map p)) m) m) xs)
+          (test? {P = freeBlocks (cond (passes x) (dropSet x w) w .memory) ≡ cond (passes x) (freeMap model (λ p. mapEntry (w .memory .pages) (w .files x .map p)) (freeBlocks (w .memory))) (freeBlocks (w .memory))} (passes x)
+          (λ e. rw e (count-set x (away x e) (from 0 64) (from-once 0 64) w g)) (λ e. rw e))
+
+      sets-none : (xs : List ℕ) (w : Work real) → (x : ℕ) → List·Memᴰ x xs → passes x ≡ true → (p : ℕ) → p < 64 → isStored (dropSets passes xs w .files x .map p) ≡ false
+      unfolding dropPage
+      sets-none xs w x m e p l =
+          each-all (λ x v. cond (passes x) (dropSet x v) v) (λ v. Unit {0}) (λ x v. passes x ≡ true → isStored (v .files x .map p) ≡ false) xs (λ x v m i. tt)
+          (λ x v m i e. rw e (ap isStored (drops-hole real t x (from 0 64) v p (from-mem 0 64 p (omega arith) (omega arith)))))
+          (λ x y v m i h e. test? {P = isStored (cond (passes y) (dropSet y v) v .files x .map p) ≡ false} (passes y)
+          (λ f. rw f (same? y x (λ q. subst (λ z. isStored (dropSet y v .files z .map p) ≡ false) q (ap isStored (drops-hole real t y (from 0 64) v p (from-mem 0 64 p (omega arith) (omega arith)))))
+          (λ q. ap (λ (z : File ℕ). isStored (z .map p)) (drops real t y (from 0 64) v .other-sets x q) ∙ h e)))
+          (λ f. rw f (h e))) w tt x m e
+
+  -- MARKING
+  module _ (ok : TreeOk t) (c p : ℕ) (w : Work real) (g : Ok w) (nd : needs (w .files) c p ≡ true) (kid : List·Memᴰ c (t .children s)) where
+    abbrev passes : ℕ → Bool
+    passes = reaches t (w .files) c
+
+    alive : live (w .files c .state) ≡ true
+    alive = needs-alive (w .files) c p nd
+
+    mark-away : (x : ℕ) → passes x ≡ true → s ≡ x → ⊥
+    unfolding reaches
+    mark-away x e q = true≢false (sym e ∙ ap passes (sym q) ∙ not-reached t ok (w .files) c (t .level s) s refl (omega (arith, ok .kid-lvl s c kid)))
+
+    mark-below : (x : ℕ) → passes x ≡ true → x < 8
+    mark-below x e = g .tidy .set-low x (mark-away x e) (live-present (w .files x .state) (reached-live t (w .files) c alive x e))
+
+    mark-count : freeBlocks (freeSets real t passes (w .files) (w .memory)) ≡ freeSets model t passes (mapFiles (w .memory .pages) (w .files)) (freeBlocks (w .memory))
+    unfolding freeSets
+    mark-count = ap freeBlocks (sym (sets-memory passes mark-away (from 0 8) (from-once 0 8) w)) ∙ sets-count passes mark-away (from 0 8) (from-once 0 8) w g
+
+    good-mark : Ok (mark real t c w)
+    unfolding mark freeSets
+    good-mark =
+        good-alike t s m₀ Outer (dropSets passes (from 0 8) w) (mark real t c w) (sym (sets-memory passes mark-away (from 0 8) (from-once 0 8) w))
+        (tidy-fewer t s (w .files) (g .tidy) (markDown t (w .files) c) (λ x q b a. was x q b a .1) (λ x o. mark-presence t (w .files) c alive x)) less more (good-sets passes mark-away (from 0 8) w g)
+      where
+        d : SetsDropped passes (from 0 8) w (dropSets passes (from 0 8) w)
+        d = sets-dropped passes (from 0 8) w
+
+        was : (x q b : ℕ) → markDown t (w .files) c x .map q ≡ stored b → (passes x ≡ false) × (w .files x .map q ≡ stored b)
+        was x q b a =
+            test? {P = (passes x ≡ false) × (w .files x .map q ≡ stored b)} (passes x)
+            (λ e. absurd (none-here b (sym (ap (λ (f : File ℕ). f .map q) (marked-by t (w .files) c x true e)) ∙ a)))
+            (λ e. (e, sym (ap (λ (f : File ℕ). f .map q) (marked-by t (w .files) c x false e)) ∙ a))
+
+        less : (h : Bool) (x q b : ℕ) → at (mark real t c w) h x q ≡ stored b → at (dropSets passes (from 0 8) w) h x q ≡ stored b
+        less true x q b a = ap (λ (y : ℕ → Entry ℕ). y q) (d .pending) ∙ a
+        less false x q b a = let z = was x q b a in ap (λ (f : File ℕ). f .map q) (d .idle x (z .0)) ∙ z .1
+
+        more : (h : Bool) (x q b : ℕ) → at (dropSets passes (from 0 8) w) h x q ≡ stored b → at (mark real t c w) h x q ≡ stored b
+        more true x q b a = ap (λ (y : ℕ → Entry ℕ). y q) (sym (d .pending)) ∙ a
+        more false x q b a =
+            test? {P = markDown t (w .files) c x .map q ≡ stored b} (passes x)
+            (λ e. absurd (not-stored _ b (sets-none passes mark-away (from 0 8) w x (from-mem 0 8 x (omega arith) (omega (arith, mark-below x e))) e q (good-sets passes mark-away (from 0 8) w g .tidy .low x q b a)) a))
+            (λ e. ap (λ (f : File ℕ). f .map q) (marked-by t (w .files) c x false e ∙ sym (d .idle x e)) ∙ a)
 
   -- a file with nothing stored is absent
   good-absent : (w : Work real) → Ok w → ((p : ℕ) → isStored (w .pending p) ≡ false) → ((p : ℕ) → p < 64 → isStored (w .files s .map p) ≡ false) → Ok (withFiles real t w (upd (w .files) s absentFile))
@@ -428,18 +585,15 @@ module _ (t : Tree) (s : ℕ) (m₀ : Memory) (Outer : ℕ → Type 0) where
       more true x p b a = a
       more false x p b a = same? s x (λ e. absurd (none p b (ap (λ y. w .files y .map p) e ∙ a))) (λ d. ap (λ (f : File ℕ). f .map p) (upd-other (w .files) s absentFile x d) ∙ a)
 
-drop-pages : (e : Entry ℕ) (m : Memory) (b : ℕ) → freeEntry real e m .pages b ≡ m .pages b
-unfolding freeEntry
-drop-pages unmapped m b = refl
-drop-pages hole m b = refl
-drop-pages (stored k) m b = refl
-
 -- a block is seen as its bytes, the memory as its number of free blocks
 abbrev pub pagesSeen : Translation real model
 pagesSeen = record { block = λ m b. m .pages b; memory = freeBlocks; page = λ x. x }
 
 abbrev pub realDemands : Tree → ℕ → Memory → (ℕ → Type 0) → Demands real
-realDemands t s m₀ Outer = record { Good = Good t s m₀ Outer; Kid = λ c. s ≡ c → ⊥; Whole = ShortPage }
+realDemands t s m₀ Outer = record { Good = Good t s m₀ Outer; Kid = λ c. TreeOk t × List·Memᴰ c (t .children s); Whole = ShortPage }
+
+not-kid : (t : Tree) (s c : ℕ) → TreeOk t × List·Memᴰ c (t .children s) → s ≡ c → ⊥
+not-kid t s c k e = let z : t .level s ≡ t .level c = ap (t .level) e in omega (arith, k .0 .kid-lvl s c (k .1))
 
 pub toModel : (t : Tree) (s : ℕ) (m₀ : Memory) (Outer : ℕ → Type 0) → Sim real model pagesSeen (realDemands t s m₀ Outer) t s
 unfolding freeBlocks
@@ -454,25 +608,27 @@ toModel t s m₀ Outer = record {
   whole-over = overlay-short;
   whole-cut = zero-short;
   good-settle = good-settle t s m₀ Outer;
-  good-mark = λ c p w g n k. good-mark t s m₀ Outer c p w g n;
+  good-mark = λ c p w g n k. good-mark t s m₀ Outer (k .0) c p w g n (k .1);
+  mark-mem = λ c p w g n k. mark-count t s m₀ Outer (k .0) c p w g n (k .1);
+  mark-old = free-sets-pages t;
   good-hole = good-hole t s m₀ Outer;
   good-resize = good-resize t s m₀ Outer;
   good-reserve = good-reserve t s m₀ Outer;
   take-free = λ w g f. take-count (w .memory) (g .next) f;
   take-mem = λ w g f. take-count (w .memory) (g .next) f;
   take-old = λ w g b. take-pages (w .memory) b;
-  good-copy = λ b c p w g f n k r. good-copy t s m₀ Outer w g f b c p n k r;
+  good-copy = λ b c p w g f n k r. good-copy t s m₀ Outer w g f b c p n (not-kid t s c k) r;
   copy-mem = λ b w g f. take-count (w .memory) (g .next) f;
   copy-new = λ b w g f. upd-same _ (takeBlock (w .memory) .0) _ ∙ take-pages (w .memory) b;
   copy-old = λ b w g f x q b′ a.
       upd-other _ (takeBlock (w .memory) .0) _ b′ (λ e. not-used t s m₀ Outer w g f (subst (Used (w .memory)) (sym e) (g .used false x q b′ a))) ∙ take-pages (w .memory) b′;
-  good-hand = λ b c p w g n k e o. good-hand t s m₀ Outer b c p w g n k e o;
+  good-hand = λ b c p w g n k e o. good-hand t s m₀ Outer b c p w g n (not-kid t s c k) e o;
   good-enter = good-enter t s m₀ Outer;
   enter-mem = λ b b′ v w g. refl;
   enter-new = λ b b′ v w g. upd-same (w .memory .pages) b v;
   enter-old = λ p b v w g h x q b′ a n. upd-other (w .memory .pages) b v b′ (λ e. let z = g .apart true false s x p q b h (a ∙ ap stored (sym e)) in n (z .0) (z .1));
-  good-drop = good-drop t s m₀ Outer;
-  drop-mem = drop-count t s m₀ Outer;
+  good-drop = λ p w g n. good-drop t s m₀ Outer s p w g (λ _. n);
+  drop-mem = drop-count t s m₀ Outer s;
   drop-old = drop-pages;
   good-absent = good-absent t s m₀ Outer;
 }

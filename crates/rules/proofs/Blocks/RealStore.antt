@@ -5,7 +5,6 @@ use mathlib.Core.Logic.{inl, inr, _⊎_, ⊎-elim}
 use mathlib.Core.Path.{_≡_, ap, refl, subst, sym, _∙_}
 use Prim.Native.Nat.{_<_, ℕ}
 use native.Mathlib.Omega.{arith}
-use lib.Pow.{low}
 use Rattle.base.specs.Logic.{same?}
 use Rattle.base.specs.Update.{upd, upd-other, upd-same}
 use Rattle.rules.proofs.Blocks.GoodWork.{Good, PagesIn, Place, Used, at, slot}
@@ -15,6 +14,7 @@ use Rattle.rules.specs.Calls.{Store, begin, finish, treeIn}
 use Rattle.rules.specs.Rules.{Work}
 use Rattle.rules.specs.State.{Entry, Files, isAbsent, isStored, stored, unmapped}
 use Rattle.rules.specs.Storage.{real}
+use lib.Pow.{low}
 
 -- an entry that names block b
 pub record Named (r : Store real) (b : ℕ) : Type 0 where
@@ -71,6 +71,7 @@ module _ (r : Store real) (k : BlocksOk r) (pi : PagesInside r) (f s : ℕ) wher
       low = λ x p b e. k .placed .page-low f x p b e;
       present = λ x p b n e. k .placed .present f x p b e;
       lives = λ x n e. k .placed .lives f x e;
+      set-low = λ x n e. k .placed .set-low x (k .placed .lives f x e);
     };
     used = used;
     apart = apart;

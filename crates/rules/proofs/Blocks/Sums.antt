@@ -17,6 +17,12 @@ unfolding sum
 sum-same zero g g′ h = refl
 sum-same (suc n) g g′ h = let a = h n (omega arith) in let b = sum-same n g g′ (λ x l. h x (omega arith)) in omega arith
 
+-- a sum of sums
+pub sum-plus : (n : ℕ) (g h : ℕ → ℕ) → sum n (λ x. g x + h x) ≡ sum n g + sum n h
+unfolding sum
+sum-plus zero g h = refl
+sum-plus (suc n) g h = let a = sum-plus n g h in omega arith
+
 -- a sum in two parts
 sum-split : (k n : ℕ) (g : ℕ → ℕ) → sum (k + n) g ≡ sum n g + sum k (λ j. g (n + j))
 unfolding sum

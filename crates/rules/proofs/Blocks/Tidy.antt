@@ -18,6 +18,7 @@ module _ {K : Type 0} where
     pub low : (x p : ℕ) (b : K) → files x .map p ≡ stored b → p < 64
     pub present : (x p : ℕ) (b : K) → (s ≡ x → ⊥) → files x .map p ≡ stored b → isAbsent (files x .state) ≡ false
     pub lives : (x : ℕ) → (s ≡ x → ⊥) → isAbsent (files x .state) ≡ false → t .used x ≡ true
+    pub set-low : (x : ℕ) → (s ≡ x → ⊥) → isAbsent (files x .state) ≡ false → x < 8
 
   module _ (t : Tree) (s : ℕ) (files : Files K) (k : Tidy t s files) where
     -- nothing new is stored, and no other file comes or goes
@@ -27,6 +28,7 @@ module _ {K : Type 0} where
       low = λ x p b e. k .low x p b (less x p b e);
       present = λ x p b n e. presence x n ∙ k .present x p b n (less x p b e);
       lives = λ x n h. k .lives x n (sym (presence x n) ∙ h);
+      set-low = λ x n h. k .set-low x n (sym (presence x n) ∙ h);
     }
 
     -- one entry is stored
@@ -36,6 +38,7 @@ module _ {K : Type 0} where
       present = λ x q b′ n e. putEntry-presence x ∙
           ⊎-elim (λ e. k .present x q b′ n e) (λ d. ap (λ y. isAbsent (files y .state)) (d .0) ∙ h (λ z. n (z ∙ sym (d .0)))) (put-named x q b′ e);
       lives = λ x n e. k .lives x n (sym (putEntry-presence x) ∙ e);
+      set-low = λ x n e. k .set-low x n (sym (putEntry-presence x) ∙ e);
     }
       where
         putEntry-presence : (x : ℕ) → isAbsent (putEntry files c p (stored b) x .state) ≡ isAbsent (files x .state)

@@ -28,12 +28,12 @@ times-sum : (tb : Tables) (b : ℕ) → timesNamed tb b ≡ sum3 8 16 64 (hit tb
 unfolding timesNamed
 times-sum tb b = ap (sum 8) (fun-ext (λ s. ap (sum 16) (fun-ext (λ f. count-sum 64 (λ p. names b (tb .files f s .map p))))))
 
-named-is : (b : ℕ) (e : Entry ℕ) → names b e ≡ true → e ≡ stored b
+pub named-is : (b : ℕ) (e : Entry ℕ) → names b e ≡ true → e ≡ stored b
 named-is b unmapped h = absurd (true≢false (sym h))
 named-is b hole h = absurd (true≢false (sym h))
 named-is b (stored c) h = ap stored (sym (eqb-true b c h))
 
-is-named : (b : ℕ) (e : Entry ℕ) → e ≡ stored b → names b e ≡ true
+pub is-named : (b : ℕ) (e : Entry ℕ) → e ≡ stored b → names b e ≡ true
 is-named b e h = rw h (eq-eqb b b refl)
 
 hit-yes : (tb : Tables) (b s f p : ℕ) → tb .files f s .map p ≡ stored b → hit tb b s f p ≡ 1

@@ -11,15 +11,17 @@ use Rattle.base.specs.Logic.{and-both, and-left, and-right, test?}
 use Rattle.rules.proofs.Formed.FilesOfSets.{format-formed}
 use Rattle.rules.proofs.Steps.OneStep.{Alive, FilesOk, resolve-up, size-up}
 use Rattle.rules.proofs.Steps.Reached.{some-unmapped, unmapped-some}
-use Rattle.rules.proofs.Steps.States.{absent-is, live-present, other-own, own-is, own-or-virgin, unmapped-is, virgin-is}
+use Rattle.rules.proofs.Steps.States.{absent-is, live-present, marked-is, other-own, own-is, own-or-virgin, unmapped-is, virgin-is}
 use Rattle.rules.proofs.Tree.SetsFormed.{sets-formed, terms-formed, tree-formed, zero-sets-formed}
 use Rattle.rules.proofs.Tree.SetsOk.{SetsOk, set-listed}
+use Rattle.rules.proofs.Formed.MarkedBare.{MarkedBare}
 use Rattle.rules.proofs.Formed.Shape.{FileFits, FilesFormed, Shape, fits-absent}
 use Rattle.rules.proofs.Formed.Tests.{all-3, all-4, and-3, and-4, files-at, files-of, not-of, not-then, or-of, or-then, pages-at, pages-of}
 use Rattle.rules.proofs.Steps.WriterSteps.{size-here}
 use Rattle.rules.specs.Reading.{dependent, resolve, sizeByReading, someUnmapped}
-use Rattle.rules.specs.State.{File, Files, Tables, Tree, absentFile, isAbsent, isMarked, isOwn, isStored, isUnmapped, isVirgin, live, own, treeOf, unmapped, unusedSet, virgin}
-use Rattle.rules.specs.WellFormed.{aboveFormed, allFiles, allPages, allSets, filesFormed, pastFormed, rootFileFormed, setsFormed, sizeFormed, termsFormed, treeFormed, virginFormed, zeroFile, zeroSet, zerosFormed}
+use Rattle.rules.specs.Rules.{markedFile}
+use Rattle.rules.specs.State.{File, Files, State, Tables, Tree, absent, absentFile, isAbsent, isMarked, isOwn, isStored, isUnmapped, isVirgin, live, marked, own, treeOf, unmapped, unusedSet, virgin}
+use Rattle.rules.specs.WellFormed.{aboveFormed, allFiles, allPages, allSets, filesFormed, marksFormed, olderSetsFormed, pastFormed, rootFileFormed, setsFormed, sizeFormed, termsFormed, treeFormed, virginFormed, zeroFile, zeroSet, zerosFormed}
 
 -- what lies out of range in the tables: unused sets, absent files, unmapped entries
 pub record Ranged (tb : Tables) : Type 0 where
@@ -37,6 +39,19 @@ zero-map x h p l = unmapped-is (x .map p) (pages-at (λ p. isUnmapped (x .map p)
 
 zero-file : (x : File ℕ) → x .size ≡ 0 → ((p : ℕ) → p < 64 → x .map p ≡ unmapped) → zeroFile x ≡ true
 zero-file x e h = and-both (eqb (x .size) 0) _ (eq-eqb (x .size) 0 e) (pages-of (λ p. isUnmapped (x .map p)) (λ p l. ap isUnmapped (h p l)))
+
+-- THE RULES BEFORE ASK 10 on the files of one number: a marked file may keep its record
+pub record FilesBefore {K : Type 0} (t : Tree) (files : Files K) : Type 0 where
+  pub shape : Shape t files
+  pub ok : FilesOk t files
+  pub past : (s p : ℕ) → p < 64 → Alive files s → sizeByReading t files s ≤ p * 512 → isStored (resolve t files s p) ≡ false
+
+module _ {K : Type 0} {t : Tree} {files : Files K} where
+  before-of : FilesFormed t files → FilesBefore t files
+  before-of h = record { shape = h .shape; ok = h .ok; past = h .past }
+
+  with-bare : FilesBefore t files → MarkedBare files → FilesFormed t files
+  with-bare h m = record { shape = h .shape; ok = h .ok; past = h .past; bare-marked = m }
 
 -- FROM THE TESTS
 module _ (tb : Tables) (r : Ranged tb) (so : SetsOk (tb .sets)) (absents : allFiles (λ f s. not (isAbsent (tb .files f s .state)) || zeroFile (tb .files f s)) ≡ true)
@@ -80,14 +95,17 @@ module _ (tb : Tables) (r : Ranged tb) (so : SetsOk (tb .sets)) (absents : allFi
     root-is-full : isAbsent (files 0 .state) ≡ false → (p : ℕ) → p < 64 → files 0 .map p ≡ unmapped → ⊥
     root-is-full a p l u = true≢false (sym (unmapped-some (files 0 .map) p 64 l u) ∙ not-true (someUnmapped 64 (files 0 .map)) (root-parts a .2))
 
+    zero-blank : (s : ℕ) (l : State) → files s .state ≡ l → zeroFile (files s) ≡ true → files s ≡ record { state = l; size = 0; map = λ p. unmapped }
+    zero-blank s l e z = λ i. record {
+      state = e i;
+      size = zero-size (files s) z i;
+      map = λ p. test? {P = files s .map p ≡ unmapped} (ltb p 64) (λ e. zero-map (files s) z p (ltb-true p 64 e)) (λ e. r .no-pages f s p (ltb-false p 64 e)) i;
+    }
+
     absent-blank : (s : ℕ) → s < 8 → isAbsent (files s .state) ≡ true → files s ≡ absentFile
     absent-blank s l a =
-        let z = not-then (isAbsent (files s .state)) (zeroFile (files s)) (files-at (λ f s. not (isAbsent (tb .files f s .state)) || zeroFile (tb .files f s)) absents f s f16 l) a in
-        λ i. record {
-          state = absent-is (files s .state) a i;
-          size = zero-size (files s) z i;
-          map = λ p. test? {P = files s .map p ≡ unmapped} (ltb p 64) (λ e. zero-map (files s) z p (ltb-true p 64 e)) (λ e. r .no-pages f s p (ltb-false p 64 e)) i;
-        }
+        zero-blank s absent (absent-is (files s .state) a)
+        (not-then (isAbsent (files s .state)) (zeroFile (files s)) (files-at (λ f s. not (isAbsent (tb .files f s .state)) || zeroFile (tb .files f s)) absents f s f16 l) a)
 
     fits : (s : ℕ) → s < 8 → FileFits t s (files s)
     fits s l = record {
@@ -141,14 +159,27 @@ module _ (tb : Tables) (r : Ranged tb) (so : SetsOk (tb .sets)) (absents : allFi
         ⊎-elim (λ o. own-past s p l o z)
         (λ v. virgin-past s p l h v (past-at n (tb .sets s .parent) p (let a = above-level s p l h v in omega arith) l) z) (own-or-virgin (files s .state) h)
 
-    number-formed : FilesFormed t files
-    number-formed = record { shape = shape-at; ok = ok-at; past = λ s p l h z. past-at (tb .sets s .level) s p refl l h z }
+    number-before : FilesBefore t files
+    number-before = record { shape = shape-at; ok = ok-at; past = λ s p l h z. past-at (tb .sets s .level) s p refl l h z }
 
-  -- the files of every number
-  files-formed : (f : ℕ) → FilesFormed (treeOf (tb .sets)) (tb .files f)
-  files-formed f =
-      test? (ltb f 16) (λ e. number-formed f (ltb-true f 16 e))
-      (λ e. let q : tb .files f ≡ (λ s. absentFile) = fun-ext (λ s. r .no-numbers f s (ltb-false f 16 e)) in rw q (format-formed (treeOf (tb .sets))))
+    module _ (marks : marksFormed tb ≡ true) where
+      marked-blank : (s : ℕ) → files s .state ≡ marked → files s ≡ markedFile
+      unfolding marksFormed
+      marked-blank s e =
+          zero-blank s marked e
+          (not-then (isMarked (files s .state)) (zeroFile (files s))
+          (files-at (λ f s. not (isMarked (tb .files f s .state)) || zeroFile (tb .files f s)) marks f s f16 (present-below s (ap isAbsent e))) (ap isMarked e))
+
+  -- the files of every number: before Ask 10, and with its rule
+  files-before : (f : ℕ) → FilesBefore (treeOf (tb .sets)) (tb .files f)
+  files-before f =
+      test? (ltb f 16) (λ e. number-before f (ltb-true f 16 e))
+      (λ e. let q : tb .files f ≡ (λ s. absentFile) = fun-ext (λ s. r .no-numbers f s (ltb-false f 16 e)) in rw q (before-of (format-formed (treeOf (tb .sets)))))
+
+  files-formed : marksFormed tb ≡ true → (f : ℕ) → FilesFormed (treeOf (tb .sets)) (tb .files f)
+  files-formed marks f =
+      test? (ltb f 16) (λ e. with-bare (files-before f) (marked-blank f (ltb-true f 16 e) marks))
+      (λ e. with-bare (files-before f) (λ s m. absurd (true≢false (sym (ap isMarked m) ∙ ap (λ (x : File ℕ). isMarked (x .state)) (r .no-numbers f s (ltb-false f 16 e))))))
 
 -- TO THE TESTS
 module _ (tb : Tables) (k : (f : ℕ) → f < 16 → FilesFormed (treeOf (tb .sets)) (tb .files f)) where
@@ -205,27 +236,56 @@ module _ (tb : Tables) (k : (f : ℕ) → f < 16 → FilesFormed (treeOf (tb .se
       files-of (λ f s. tb .sets s .used || isAbsent (tb .files f s .state))
       (λ f s l h. or-of (tb .sets s .used) (isAbsent (tb .files f s .state)) (λ u. k f l .shape s .unused u))
 
+  tests-marked : marksFormed tb ≡ true
+  unfolding marksFormed
+  tests-marked =
+      files-of (λ f s. not (isMarked (tb .files f s .state)) || zeroFile (tb .files f s))
+      (λ f s l h. not-of (isMarked (tb .files f s .state)) (zeroFile (tb .files f s))
+      (λ m. let e = k f l .bare-marked s (marked-is (tb .files f s .state) m) in zero-file (tb .files f s) (ap (λ (x : File ℕ). x .size) e) (λ p b. ap (λ (x : File ℕ). x .map p) e)))
+
 -- SETS AND FILES TOGETHER
 pub record StateOk (tb : Tables) : Type 0 where
   pub sets-ok : SetsOk (tb .sets)
   pub files-ok : (f : ℕ) → FilesFormed (treeOf (tb .sets)) (tb .files f)
 
+-- what the tests before Ask 10 give
+pub record StateBefore (tb : Tables) : Type 0 where
+  pub sets-ok : SetsOk (tb .sets)
+  pub files-before : (f : ℕ) → FilesBefore (treeOf (tb .sets)) (tb .files f)
+
+module _ (tb : Tables) (r : Ranged tb) (h : olderSetsFormed tb ≡ true) where
+  tests : (zerosFormed tb ≡ true) × (treeFormed tb ≡ true) × (termsFormed tb ≡ true) × (filesFormed tb ≡ true)
+  tests = and-4 (zerosFormed tb) (treeFormed tb) (termsFormed tb) (filesFormed tb) h
+
+  zeros : (allSets (λ s. tb .sets s .used || zeroSet (tb .sets s)) ≡ true) × (allFiles (λ f s. not (isAbsent (tb .files f s .state)) || zeroFile (tb .files f s)) ≡ true)
+      × (allFiles (λ f s. tb .sets s .used || isAbsent (tb .files f s .state)) ≡ true)
+  unfolding zerosFormed
+  zeros =
+      and-3 (allSets (λ s. tb .sets s .used || zeroSet (tb .sets s))) (allFiles (λ f s. not (isAbsent (tb .files f s .state)) || zeroFile (tb .files f s)))
+      (allFiles (λ f s. tb .sets s .used || isAbsent (tb .files f s .state))) (tests .0)
+
+  so : SetsOk (tb .sets)
+  so = sets-formed tb (r .no-sets) (tests .1) (zeros .0) (tests .2)
+
+  pub before-state : StateBefore tb
+  before-state = record { sets-ok = so; files-before = files-before tb r so (zeros .1) (zeros .2) (tests .3) }
+
+  with-marks : marksFormed tb ≡ true → StateOk tb
+  with-marks m = record { sets-ok = so; files-ok = files-formed tb r so (zeros .1) (zeros .2) (tests .3) m }
+
 pub formed-state : (tb : Tables) → Ranged tb → setsFormed tb ≡ true → StateOk tb
-unfolding zerosFormed
 formed-state tb r h =
-    let q = and-4 (zerosFormed tb) (treeFormed tb) (termsFormed tb) (filesFormed tb) h in
-    let z = and-3 (allSets (λ s. tb .sets s .used || zeroSet (tb .sets s))) (allFiles (λ f s. not (isAbsent (tb .files f s .state)) || zeroFile (tb .files f s)))
-    (allFiles (λ f s. tb .sets s .used || isAbsent (tb .files f s .state))) (q .0) in
-    let so : SetsOk (tb .sets) = sets-formed tb (r .no-sets) (q .1) (z .0) (q .2) in
-    record { sets-ok = so; files-ok = files-formed tb r so (z .1) (z .2) (q .3) }
+    with-marks tb r (and-left (olderSetsFormed tb) (marksFormed tb) h) (and-right (olderSetsFormed tb) (marksFormed tb) h)
 
 pub state-formed : (tb : Tables) → StateOk tb → setsFormed tb ≡ true
 unfolding zerosFormed
 state-formed tb k =
-    all-4 (zerosFormed tb) (treeFormed tb) (termsFormed tb) (filesFormed tb)
+    and-both (olderSetsFormed tb) (marksFormed tb)
+    (all-4 (zerosFormed tb) (treeFormed tb) (termsFormed tb) (filesFormed tb)
     (all-3 (allSets (λ s. tb .sets s .used || zeroSet (tb .sets s))) (allFiles (λ f s. not (isAbsent (tb .files f s .state)) || zeroFile (tb .files f s)))
     (allFiles (λ f s. tb .sets s .used || isAbsent (tb .files f s .state)))
     (zero-sets-formed tb (k .sets-ok)) (tests-absent tb (λ f l. k .files-ok f)) (tests-unused tb (λ f l. k .files-ok f)))
     (tree-formed tb (k .sets-ok))
     (terms-formed tb (k .sets-ok))
-    (tests-files tb (λ f l. k .files-ok f))
+    (tests-files tb (λ f l. k .files-ok f)))
+    (tests-marked tb (λ f l. k .files-ok f))

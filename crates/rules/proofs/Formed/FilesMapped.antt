@@ -4,6 +4,7 @@ use Prim.Native.Nat.{_*_, ℕ, _≤_}
 use Rattle.rules.proofs.Storages.MapBlocks.{map-stored, mapEntry, mapFile, mapFiles, resolve-map, size-map}
 use Rattle.rules.proofs.Formed.Shape.{FilesFormed}
 use Rattle.rules.specs.Reading.{resolve}
+use Rattle.rules.specs.Rules.{markedFile}
 use Rattle.rules.specs.State.{Entry, File, Files, Tree, absentFile, hole, isStored, stored, unmapped}
 
 module _ {K L : Type 0} (g : K → L) where
@@ -12,8 +13,11 @@ module _ {K L : Type 0} (g : K → L) where
   map-back hole h = cc
   map-back (stored b) h = cc
 
-  blank-back : (x : File K) → mapFile g x ≡ absentFile → x ≡ absentFile
-  blank-back x h = λ i. record { state = h i .state; size = h i .size; map = λ p. map-back (x .map p) (λ j. h j .map p) i }
+  -- a file with no mapped page
+  file-back : (x y : File K) → ((p : ℕ) → y .map p ≡ unmapped) → mapFile g x ≡ mapFile g y → x ≡ y
+  file-back x y u h =
+      let e : (p : ℕ) → x .map p ≡ y .map p = λ p. map-back (x .map p) ((λ j. h j .map p) ∙ ap (mapEntry g) (u p)) ∙ sym (u p) in
+      λ i. record { state = h i .state; size = h i .size; map = λ p. e p i }
 
   module _ (t : Tree) (files : Files K) where
     past-map : (s p : ℕ) → isStored (resolve t (mapFiles g files) s p) ≡ isStored (resolve t files s p)
@@ -37,12 +41,13 @@ module _ {K L : Type 0} (g : K → L) where
         bare = λ s p l v. ap (mapEntry g) (k .ok .bare s p l v);
       };
       past = λ s p l h z. past-map s p ∙ k .past s p l h (subst (λ n. n ≤ p * 512) (size-map g t files s) z);
+      bare-marked = λ s m. ap (mapFile g) (k .bare-marked s m);
     }
 
     pub unmap-formed : FilesFormed t (mapFiles g files) → FilesFormed t files
     unmap-formed k = record {
       shape = λ s. let f = k .shape s in record {
-        empty = λ e. blank-back (files s) (f .empty e);
+        empty = λ e. file-back (files s) absentFile (λ p. refl) (f .empty e);
         unused = f .unused;
         out = f .out;
         beyond = λ p l. map-back (files s .map p) (f .beyond p l);
@@ -57,4 +62,5 @@ module _ {K L : Type 0} (g : K → L) where
         bare = λ s p l v. map-back (files s .map p) (k .ok .bare s p l v);
       };
       past = λ s p l h z. sym (past-map s p) ∙ k .past s p l h (subst (λ n. n ≤ p * 512) (sym (size-map g t files s)) z);
+      bare-marked = λ s m. file-back (files s) markedFile (λ p. refl) (k .bare-marked s m);
     }

@@ -15,11 +15,12 @@ use Rattle.rules.proofs.Agreement.Remove.{remove-tree}
 use Rattle.rules.proofs.Tree.RemoveSet.{remove-same}
 use Rattle.rules.proofs.Agreement.CreateMake.{away-page, away-size, make-tree}
 use Rattle.rules.proofs.Tree.SetsOk.{SetsOk}
+use Rattle.rules.proofs.Formed.MarkedBare.{bare-whole}
 use Rattle.rules.proofs.Formed.Shape.{FileFits, FilesFormed, fits-absent}
 use Rattle.rules.proofs.Steps.WriterSteps.{resolve-here}
 use Rattle.rules.specs.Calls.{newFile}
 use Rattle.rules.specs.Reading.{resolve, sizeByReading}
-use Rattle.rules.specs.Rules.{holes}
+use Rattle.rules.specs.Rules.{holes, markedFile}
 use Rattle.rules.specs.Sets.{appendSet, childFile, childState, unlinkSet}
 use Rattle.rules.specs.State.{File, Files, SetRecord, State, Tree, absent, absentFile, childrenOf, hole, isAbsent, isStored, live, marked, own, treeOf, unmapped, virgin}
 use Rattle.rules.specs.Trees.{addChild, takeAway}
@@ -59,8 +60,8 @@ module _ {K : Type 0} (t t′ : Tree) (ok : TreeOk t) (ok′ : TreeOk t′) (a :
   }
 
   replaced : FileFits t′ c y → ((p : ℕ) → p < 64 → live (y .state) ≡ true → y .map p ≡ unmapped → Alive b (t′ .parent c) × List·Memᴰ c (t′ .children (t′ .parent c))) →
-      ((p : ℕ) → p < 64 → y .state ≡ virgin → y .map p ≡ unmapped) → ((p : ℕ) → p < 64 → Alive b c → sizeByReading t′ b c ≤ p * 512 → isStored (resolve t′ b c p) ≡ false) → FilesFormed t′ b
-  replaced fits up bare′ past′ = record {
+      ((p : ℕ) → p < 64 → y .state ≡ virgin → y .map p ≡ unmapped) → ((p : ℕ) → p < 64 → Alive b c → sizeByReading t′ b c ≤ p * 512 → isStored (resolve t′ b c p) ≡ false) → (y .state ≡ marked → y ≡ markedFile) → FilesFormed t′ b
+  replaced fits up bare′ past′ marks = record {
     shape = λ x. same? c x (λ e. subst (λ z. FileFits t′ z (b z)) e (rw here fits)) (λ n. rw (upd-other a c y x n) (other-fits x n));
     ok = record {
       closed = λ x p l h u. same? c x
@@ -75,6 +76,7 @@ module _ {K : Type 0} (t t′ : Tree) (ok : TreeOk t) (ok′ : TreeOk t′) (a :
           (λ n. ap (λ (f : File K). f .map p) (upd-other a c y x n) ∙ k .ok .bare x p l (ap (λ (f : File K). f .state) (sym (upd-other a c y x n)) ∙ v));
     };
     past = past-one t t′ a b c k was (λ x p l n h. other-page x p l n (was x n h)) (λ x n h. other-size x n (was x n h)) past′;
+    bare-marked = bare-whole c a (λ x n. k .bare-marked x) y marks;
   }
     where
       up-c : (p : ℕ) → p < 64 → Alive b c → b c .map p ≡ unmapped → Alive b (t′ .parent c) × List·Memᴰ c (t′ .children (t′ .parent c))
@@ -112,6 +114,7 @@ module _ {K : Type 0} (t : Tree) (ok : TreeOk t) (a : Files K) (k : FilesFormed 
       (λ p l h u. absurd (new-full p l u))
       (λ p l v. cc)
       (λ p l h z. ap isStored (resolve-here t (upd a s newFile) s p hole (ap (λ (f : File K). f .map p) (upd-same a s newFile) ∙ new-hole p l) refl))
+      (λ m. cc)
 
 -- MAKE
 child-live : (l : State) → live (childState l) ≡ true → (live l ≡ true) × (childState l ≡ virgin)
@@ -193,6 +196,7 @@ module _ {K : Type 0} (t : Tree) (ok : TreeOk t) (a : Files K) (k : FilesFormed 
       (rw (more-parent, upd-other a c (childFile (a s)) s apart) (child-live (a s .state) h .0), more-ok .child c (t .level s) more-level))
       (λ p l v. refl)
       (λ p l h z. rw (made-page p l h) (k .past s p l (made-live h .0) (subst (λ n. n ≤ p * 512) (made-size h) z)))
+      (λ m i. record { state = m i; size = 0; map = λ p. unmapped })
 
 -- REMOVE
 module _ {K : Type 0} (t : Tree) (ok : TreeOk t) (a : Files K) (k : FilesFormed t a) (c : ℕ) (leaf : (x : ℕ) → List·Memᴰ x (t .children c) → ⊥) where
@@ -216,6 +220,7 @@ module _ {K : Type 0} (t : Tree) (ok : TreeOk t) (a : Files K) (k : FilesFormed 
       (λ p l h u. absurd (true≢false (sym h)))
       (λ p l v. refl)
       (λ p l h z. absurd (true≢false (sym h ∙ ap (λ (f : File K). live (f .state)) (upd-same a c absentFile))))
+      (λ m. cc)
 
 -- The same on set records.
 module _ {K : Type 0} (sets : ℕ → SetRecord) (so : SetsOk sets) (a : Files K) (k : FilesFormed (treeOf sets) a) where
@@ -234,4 +239,5 @@ format-formed t = record {
   shape = λ s. fits-absent t s;
   ok = record { closed = λ s p l h u. absurd (true≢false (sym h)); listed = λ s p l h u. absurd (true≢false (sym h)); bare = λ s p l v. refl };
   past = λ s p l h z. absurd (true≢false (sym h));
+  bare-marked = λ s m. cc;
 }

@@ -17,6 +17,7 @@ use Rattle.rules.proofs.Storages.Model.{model}
 use Rattle.rules.proofs.Steps.Groups.{extra-under}
 use Rattle.rules.proofs.Steps.OneStep.{Alive}
 use Rattle.rules.proofs.Steps.States.{live-present}
+use Rattle.rules.proofs.Formed.MarkedBare.{bare-change, bare-delete}
 use Rattle.rules.proofs.Formed.Shape.{FilesFormed, Fit, fit-change, shape-delete, size-most}
 use Rattle.rules.proofs.Agreement.Truncate.{apart, dropped-under, kept-in, kept-once, kept-part, part-in}
 use Rattle.rules.proofs.Steps.WriterSteps.{NoDup, mem?}
@@ -69,6 +70,7 @@ module _ (t : Tree) (proper : ProperTree t) (s : ℕ) (w : Work model) (k : File
         shape = shape-delete model t s proper w (k .shape);
         ok = r .ok′;
         past = past-one t t (w .files) (deleteFile model t s w .files) s k (r .alive) (r .page) (r .size) (λ p l h z. absurd (true≢false (sym h ∙ ap live (r .empty))));
+        bare-marked = bare-delete model t s proper w (k .bare-marked);
       }
 
   module _ (al : Alive (w .files) s) where
@@ -91,6 +93,7 @@ module _ (t : Tree) (proper : ProperTree t) (s : ℕ) (w : Work model) (k : File
               (λ m. ap isStored (r .cut-page′ p l m))
               (λ o. let q = past p l o (subst (λ m. m ≤ p * 512) (r .new-size) z) in ap isStored (r .old-page p l (q .0) o) ∙ k .past s p l al (q .1))
               (mem? p ds));
+          bare-marked = bare-change model t s proper ps rs ds es lay sz w (k .bare-marked);
         }
 
     -- WRITE

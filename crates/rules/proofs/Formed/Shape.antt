@@ -1,7 +1,7 @@
 -- The rules on files as propositions, for the files of one number, over any storage.
 -- Every step of a write, a truncate and a delete keeps those of them that look at one file at a time. Assumes nothing.
 use mathlib.Core.Bool.{Bool, cond, false, true, true≢false}
-use mathlib.Core.List.{List, List·Memᴰ, List·Memᴰ·head, List·Memᴰ·tail, [], _∷_}
+use mathlib.Core.List.{List, List·Memᴰ, List·Memᴰ·head, List·Memᴰ·tail, _∷_, []}
 use mathlib.Core.Logic.{⊎-elim}
 use mathlib.Core.Option.{Option, none, some}
 use mathlib.Core.Path.{ap, refl, subst, sym, _∙_, _≡_}
@@ -11,16 +11,17 @@ use lib.Dec.{eqb}
 use Rattle.base.specs.Logic.{and-right, pick, same?, test?}
 use Rattle.base.specs.Update.{upd, upd-keeps, upd-other, upd-same}
 use Rattle.rules.proofs.Agreement.Agree.{from-high}
+use Rattle.rules.proofs.Formed.MarkedBare.{MarkedBare}
+use Rattle.rules.proofs.Steps.Handing.{ProperTree, some-leave, some-self}
 use Rattle.rules.proofs.Steps.OneStep.{Alive, FilesOk}
 use Rattle.rules.proofs.Steps.Reached.{reached-by, reached-live, some-unmapped}
 use Rattle.rules.proofs.Steps.States.{live-present}
 use Rattle.rules.proofs.Steps.StepFour.{each-inv, needs-alive, needs-unmapped}
+use Rattle.rules.proofs.Steps.WriterSteps.{NoDup}
 use Rattle.rules.specs.Reading.{dependent, needs, reaches, resolve, shownSize, sizeByReading, walk}
-use Rattle.rules.specs.Rules.{Giving, Work, change, copied, copy, deleteAs, deleteFile, dropPage, each, enter, enterAs, eraseFile, extra, from, give, giveAll, givePage, hand, handOver, handed, mark, markDown, markFile, pageOf, putEntry, reserve, reserveAs, resize, settle, settleAs, settleFile, supply, takeOwn}
+use Rattle.rules.specs.Rules.{Giving, Work, change, copied, copy, deleteAs, deleteFile, dropPage, each, enter, enterAs, eraseFile, extra, from, give, giveAll, givePage, hand, handOver, handed, mark, markDown, pageOf, putEntry, reserve, reserveAs, resize, settle, settleAs, settleFile, supply, takeOwn}
 use Rattle.rules.specs.State.{Entry, File, Files, State, Tree, absent, absentFile, hole, isAbsent, isStored, isUnmapped, live, marked, own, stored, unmapped, virgin}
 use Rattle.rules.specs.Storage.{Storage}
-use Rattle.rules.proofs.Steps.Handing.{ProperTree, some-leave, some-self}
-use Rattle.rules.proofs.Steps.WriterSteps.{NoDup}
 
 -- what a walk gives has what everything shown has
 walk-has : {X Y : Type 0} (parent : ℕ → ℕ) (look : X → Option Y) (d : Y) (P : Y → Type 0) (files : ℕ → X) → P d → ((x : ℕ) (v : Y) → look (files x) ≡ some v → P v) →
@@ -54,11 +55,13 @@ module _ {K : Type 0} where
   abbrev pub Shape : Tree → Files K → Type 0
   Shape t files = (s : ℕ) → FileFits t s (files s)
 
-  -- THE RULES ON THE FILES OF ONE NUMBER. "In an own file, no page wholly past the size resolves to stored", and so in a virgin one, by its size by reading.
+  -- THE RULES ON THE FILES OF ONE NUMBER. "In an own file, no page wholly past the size resolves to stored", and so in a virgin one, by its size by reading. A marked file has
+  -- size 0 and only unmapped entries.
   pub record FilesFormed (t : Tree) (files : Files K) : Type 0 where
     pub shape : Shape t files
     pub ok : FilesOk t files
     pub past : (s p : ℕ) → p < 64 → Alive files s → sizeByReading t files s ≤ p * 512 → isStored (resolve t files s p) ≡ false
+    pub bare-marked : MarkedBare files
 
   -- sizes by reading
   pub size-most : (t : Tree) (files : Files K) → Shape t files → (s : ℕ) → sizeByReading t files s ≤ 32768
@@ -151,11 +154,20 @@ module _ {K : Type 0} where
           (reached-by t files c (t .level x) x h)
 
       fit-mark : Fit t s (markDown t files c)
-      unfolding markDown markFile
+      unfolding markDown
       fit-mark = record {
         shape = λ x. test? (reaches t files c x)
             (λ e. rw e
-            (fits-present t x (files x) _ (f .shape x) (live-present (files x .state) (reached-live t files c al x e)) refl (λ p l. refl) (λ p u. u) (f .shape x .most) (λ v. cc) (λ z. absurd (reach-root x e z))))
+            (let a = live-present (files x .state) (reached-live t files c al x e) in record {
+              empty = λ q. absurd (true≢false (sym q));
+              unused = λ u. absurd (true≢false (sym (f .shape x .unused u) ∙ a));
+              out = λ l. absurd (true≢false (sym (f .shape x .out l) ∙ a));
+              beyond = λ p l. refl;
+              most = omega arith;
+              bare-size = λ v. refl;
+              root-own = λ z h. absurd (reach-root x e z);
+              root-full = λ z h. absurd (reach-root x e z);
+            }))
             (λ e. rw e (f .shape x));
         here = test? (reaches t files c s) (λ e. rw e) (λ e. rw e (f .here));
       }

@@ -5,11 +5,12 @@ use mathlib.Core.List.{List, _∷_, []}
 use mathlib.Core.Path.{ap, ap₂, fun-ext, refl, sym, _∙_, _≡_}
 use Prim.Native.Nat.{_-_, suc, zero, ℕ}
 use lib.Dec.{eqb}
+use Rattle.base.specs.Count.{count, sum}
 use Rattle.base.specs.Logic.{test?}
 use Rattle.base.specs.Update.{upd, upd-keeps, upd-map}
 use Rattle.rules.specs.Marking.{FindsNone, MarkedDown, MarkingTurn, behind, inTurn, mark-below, mark-itself, turnBefore}
 use Rattle.rules.specs.State.{State, Tree, absent, hole, isStored, isUnmapped, isVirgin, live, marked, own, pageCount, setCount, stored, unmapped, virgin}
-use Rattle.rules.specs.Tally.{Kind, TallyFile, TallyFiles, Turn, anyOf, anyUnmapped, atPage, childPage, childTurn, copyTurn, dependsAbove, eachChild, eachPage, handTurns, kindAt, kindIn, kindOver, markedWith, neededCopy, pageTurns, reachedDown, takenOver, tallyKind, tallyMark, tallyNeeds, tallySettle, tallySize}
+use Rattle.rules.specs.Tally.{Kind, TallyFile, TallyFiles, anyOf, anyUnmapped, atPage, childPage, childTurn, copyTurn, dependsAbove, eachChild, eachPage, handTurns, kindAt, kindIn, kindOver, markFrees, markedWith, neededCopy, pageTurns, reachedDown, storedPages, takenOver, tallyKind, tallyMark, tallyNeeds, tallySettle, tallySize, Turn}
 
 -- the same entries, and own or virgin in the same sets
 pub record Alike (fs gs : TallyFiles) : Type 0 where
@@ -46,7 +47,7 @@ module _ (t : Tree) (fs gs : TallyFiles) (h : Alike fs gs) where
       mark-below d p m (sym (h .lives d) ∙ a) l (ap (λ (z : ℕ → Kind). z p) (sym (h .maps d)) ∙ u) (down-same y d r)
 
 -- marking, and one entry put
-mark-map : (t : Tree) (fs : TallyFiles) (c x : ℕ) → tallyMark t fs c x .map ≡ fs x .map
+mark-map : (t : Tree) (fs : TallyFiles) (c x : ℕ) → tallyMark t fs c x .map ≡ cond (markedWith t fs c x) (λ p. unmapped) (fs x .map)
 unfolding tallyMark
 mark-map t fs c x = test? (markedWith t fs c x) (λ e. rw e) (λ e. rw e)
 
@@ -57,9 +58,16 @@ mark-live t fs c x = test? (markedWith t fs c x) (λ e. rw e) (λ e. rw e)
 module _ (t : Tree) (fs gs : TallyFiles) (h : Alike fs gs) where
   mark-alike : (c : ℕ) → Alike (tallyMark t fs c) (tallyMark t gs c)
   mark-alike c = record {
-    maps = λ x. mark-map t fs c x ∙ h .maps x ∙ sym (mark-map t gs c x);
+    maps = λ x. mark-map t fs c x ∙ ap₂ (λ (b : Bool) (m : ℕ → Kind). cond b (λ p. unmapped) m) (reached-same t fs gs h setCount c x) (h .maps x) ∙ sym (mark-map t gs c x);
     lives = λ x. mark-live t fs c x ∙ ap₂ (λ a b. not a && b) (reached-same t fs gs h setCount c x) (h .lives x) ∙ sym (mark-live t gs c x);
   }
+
+  -- marking frees as many blocks
+  frees-same : (c : ℕ) → markFrees t fs c ≡ markFrees t gs c
+  unfolding markFrees storedPages
+  frees-same c =
+      ap (λ (g : ℕ → ℕ). sum setCount g)
+      (fun-ext (λ x. ap₂ (λ (b : Bool) (m : ℕ → Kind). cond b (count pageCount (λ p. isStored (m p))) 0) (reached-same t fs gs h setCount c x) (h .maps x)))
 
   put-alike : (c p : ℕ) (k : Kind) → Alike (tallyKind t c p k fs) (tallyKind t c p k gs)
   unfolding tallyKind
@@ -80,7 +88,7 @@ module _ (t : Tree) (s : ℕ) where
   unfolding neededCopy
   copy-alike p c x y h =
       test? (eqb (x .free) 0)
-      (λ e. rw (e, ap (λ n. eqb n 0) (sym (h .free)) ∙ e) (record { files = mark-alike t (x .files) (y .files) (h .files) c; free = refl }))
+      (λ e. rw (e, ap (λ n. eqb n 0) (sym (h .free)) ∙ e) (record { files = mark-alike t (x .files) (y .files) (h .files) c; free = frees-same t (x .files) (y .files) (h .files) c }))
       (λ e. rw (e, ap (λ n. eqb n 0) (sym (h .free)) ∙ e) (record { files = put-alike t (x .files) (y .files) (h .files) c p (stored tt); free = ap (λ n. n - 1) (h .free) }))
 
   page-alike : (k : Kind) (p c : ℕ) (x y : Turn) → AlikeTurn x y → AlikeTurn (childPage t k p c x) (childPage t k p c y)

@@ -8,12 +8,12 @@ use native.Mathlib.Omega.{arith}
 use lib.Dec.{eqb}
 use borrow.Author.Tests.{ne-eqb}
 use Rattle.base.specs.Logic.{and-false, same?, test?}
-use Rattle.rules.proofs.Storages.Model.{model}
 use Rattle.rules.proofs.Steps.OneStep.{Alive, FilesOk, TreeOk, cut-page, putEntry-ent, putEntry-other, putEntry-page, putEntry-size, putEntry-state, resolve-same, size-same}
 use Rattle.rules.proofs.Steps.Reached.{marked-by}
 use Rattle.rules.proofs.Steps.States.{stored-is}
 use Rattle.rules.proofs.Steps.StepFour.{ChildServed, Going, each-inv, fill-done, fill-served, needs-same, needs-shown, page-done, page-going, served-refl, some-done, some-going}
 use Rattle.rules.proofs.Steps.WriterSteps.{NoDup, mem?, resolve-here}
+use Rattle.rules.proofs.Storages.Model.{model}
 use Rattle.rules.specs.Reading.{dependent, dependsOn, needs, reaches, resolve, sizeByReading}
 use Rattle.rules.specs.Rules.{Work, copy, each, give, giveAll, givePage, hand, handOver, handed, mark, putEntry, supply}
 use Rattle.rules.specs.State.{Entry, File, Files, Tree, hole, isAbsent, isStored, isUnmapped, live, stored, unmapped, virgin}
@@ -29,7 +29,7 @@ pub not-itself : (t : Tree) → TreeOk t → (s c : ℕ) → List·Memᴰ c (t .
 not-itself t ok s c m e = let z : t .level s ≡ t .level c = ap (t .level) e in omega (arith, ok .kid-lvl s c m)
 
 -- a set that is not below set d is not reached from it
-not-reached : {K : Type 0} (t : Tree) → TreeOk t → (files : Files K) (d n x : ℕ) → t .level x ≡ n → n < t .level d → dependsOn t files d n x ≡ false
+pub not-reached : {K : Type 0} (t : Tree) → TreeOk t → (files : Files K) (d n x : ℕ) → t .level x ≡ n → n < t .level d → dependsOn t files d n x ≡ false
 unfolding dependsOn
 not-reached t ok files d zero x e l = ne-eqb d x (λ q. let e′ : t .level d ≡ t .level x = ap (t .level) q in omega arith)
 not-reached t ok files d (suc n) x e l =
@@ -37,7 +37,7 @@ not-reached t ok files d (suc n) x e l =
 
 -- A CHILD'S TURN leaves a file that is not reached from it
 module _ (S : Storage) (t : Tree) (s d x : ℕ) (apart : d ≡ x → ⊥) (missed : (files : Files (S .Block)) → reaches t files d x ≡ false) where
-  give-leaves : (must : Bool) (p : ℕ) (w : Work S) → give S t must s p d w .files x ≡ w .files x
+  pub give-leaves : (must : Bool) (p : ℕ) (w : Work S) → give S t must s p d w .files x ≡ w .files x
   unfolding give supply mark copy
   give-leaves must p w = test? (needs (w .files) d p) (λ n. rw n (go (resolve t (w .files) s p))) (λ n. rw n)
     where
@@ -59,7 +59,7 @@ module _ (S : Storage) (t : Tree) (ok : TreeOk t) (s : ℕ) where
       (λ files. let m = ok .kid-lvl s d kd in
       rw (ok .kid-lvl s c kc, ok .kid-par s c kc, ne-eqb d c apart, not-reached t ok files d (t .level s) s refl (omega arith)) (and-false (dependent (files c))))
 
-  give-parent : (d : ℕ) → List·Memᴰ d (t .children s) → (must : Bool) (p : ℕ) (w : Work S) → give S t must s p d w .files s ≡ w .files s
+  pub give-parent : (d : ℕ) → List·Memᴰ d (t .children s) → (must : Bool) (p : ℕ) (w : Work S) → give S t must s p d w .files s ≡ w .files s
   unfolding reaches
   give-parent d kd =
       give-leaves S t s d s (λ q. not-itself t ok s d kd (sym q))

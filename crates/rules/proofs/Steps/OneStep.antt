@@ -8,7 +8,7 @@ use native.Mathlib.Omega.{arith}
 use lib.Dec.{lit<}
 use Rattle.base.specs.Logic.{pick, same?}
 use Rattle.base.specs.Update.{upd, upd-keeps, upd-other, upd-same}
-use Rattle.rules.proofs.Steps.Reached.{mark-map-same, mark-missed, mark-presence, mark-same, marked-by, reaches-up, unmapped-some}
+use Rattle.rules.proofs.Steps.Reached.{mark-missed, mark-presence, mark-same, marked-by, reaches-up, unmapped-some}
 use Rattle.rules.proofs.Steps.Walk.{walk-fill, walk-frame}
 use Rattle.rules.specs.Reading.{dependent, needs, reaches, resolve, shownEntry, shownSize, sizeByReading, walk}
 use Rattle.rules.specs.Rules.{markDown, putEntry}
@@ -228,7 +228,7 @@ module _ {K : Type 0} where
       presence = mark-presence t files c al;
       page = λ s p l a.
           walk-frame (t .parent) (λ (x : File K). shownEntry (x .map p)) hole files (markDown t files c) (Alive (markDown t files c))
-          (λ s _. ap shownEntry (mark-map-same t files c s p)) (λ s a n. mark-up s p l a (shown-none _ n)) (t .level s) s a;
+          (λ s a. ap (λ (x : File K). shownEntry (x .map p)) (mark-same t files c s a)) (λ s a n. mark-up s p l a (shown-none _ n)) (t .level s) s a;
       size = λ s a.
           walk-frame (t .parent) (λ (x : File K). shownSize (x .state) (x .size)) 0 files (markDown t files c) (Alive (markDown t files c))
           (λ s a. ap (λ (x : File K). shownSize (x .state) (x .size)) (mark-same t files c s a)) (λ s a n. mark-up s 0 (lit< tt) a (k .bare s 0 (lit< tt) (shownSize-none _ _ n))) (t .level s) s a;
@@ -236,8 +236,8 @@ module _ {K : Type 0} where
 
     pub mark-ok : FilesOk t (markDown t files c)
     mark-ok = record {
-      closed = λ s p l a u. mark-up s p l a (sym (mark-map-same t files c s p) ∙ u);
-      listed = λ s p l a u. k .listed s p l (mark-alive s a) (sym (mark-map-same t files c s p) ∙ u);
+      closed = λ s p l a u. mark-up s p l a (ap (λ (x : File K). x .map p) (sym (mark-same t files c s a)) ∙ u);
+      listed = λ s p l a u. k .listed s p l (mark-alive s a) (ap (λ (x : File K). x .map p) (sym (mark-same t files c s a)) ∙ u);
       bare = λ s p l v.
           let e : markDown t files c s ≡ files s = mark-same t files c s (ap live v) in
           ap (λ (x : File K). x .map p) e ∙ k .bare s p l (ap (λ (x : File K). x .state) (sym e) ∙ v);

@@ -7,12 +7,12 @@ use mathlib.Core.Path.{ap, refl, subst, sym, _∙_, _≡_}
 use Prim.Native.Nat.{_%_, _+_, _/_, max, ℕ}
 use lib.Dec.{eqb, ltb}
 use lib.ListN.{length}
-use Rattle.base.specs.Logic.{test?, same?}
+use Rattle.base.specs.Logic.{same?, test?}
 use Rattle.base.specs.Update.{upd, upd-other, upd-same}
 use Rattle.rules.proofs.Agreement.Agree.{from-once}
+use Rattle.rules.proofs.Agreement.Truncate.{apart}
 use Rattle.rules.proofs.Steps.OneStep.{putEntry-ent, putEntry-other, putEntry-page}
 use Rattle.rules.proofs.Steps.StepFour.{each-all, each-inv}
-use Rattle.rules.proofs.Agreement.Truncate.{apart}
 use Rattle.rules.proofs.Steps.WriterSteps.{NoDup, mem?}
 use Rattle.rules.specs.Reading.{needs, resolve, sizeByReading}
 use Rattle.rules.specs.Rules.{Giving, Work, change, copied, copy, deleteAs, deleteFile, dropPage, droppedPages, each, enter, enterAs, eraseFile, extra, extraPages, freeEntry, freeMap, from, give, giveAll, givePage, hand, handOver, handed, keptPages, mark, partPages, putEntry, reserve, reserveAs, resize, settle, supply, takeOwn, touched, truncateAs, truncateFile, withFiles, writeFile}
@@ -36,7 +36,7 @@ module _ (S : Storage) (t : Tree) (s : ℕ) where
   unfolding settle
   settle-pending cs w = each-inv (settle S t) (λ v. v .pending ≡ w .pending) cs (λ c v m i. i) w refl
 
-  give-one-pending : (must : Bool) (p c : ℕ) (w : Work S) → give S t must s p c w .pending ≡ w .pending
+  pub give-one-pending : (must : Bool) (p c : ℕ) (w : Work S) → give S t must s p c w .pending ≡ w .pending
   unfolding give supply copy mark
   give-one-pending must p c w = go (needs (w .files) c p) (resolve t (w .files) s p)
     where
@@ -146,7 +146,7 @@ module _ (S : Storage) (t : Tree) (s : ℕ) where
       (λ e. putEntry-page (v .files) s q hole s p e ∙ h)) w tt
 
   -- the memory is that of the first map's entries freed in turn
-  drops-memory : (ps : List ℕ) → NoDup ps → (w : Work S) → each (dropPage S t s) ps w .memory ≡ each (λ p. freeEntry S (w .files s .map p)) ps (w .memory)
+  pub drops-memory : (ps : List ℕ) → NoDup ps → (w : Work S) → each (dropPage S t s) ps w .memory ≡ each (λ p. freeEntry S (w .files s .map p)) ps (w .memory)
   unfolding each dropPage
   drops-memory [] d w = refl
   drops-memory (q ∷ qs) d w =

@@ -9,7 +9,7 @@ use borrow.Author.Tests.{eq-eqb, eqb-true}
 use Rattle.base.specs.Logic.{and-left, or-right, or-right-false, same?, test?}
 use Rattle.rules.proofs.Steps.States.{live-present, unmapped-is}
 use Rattle.rules.specs.Reading.{dependent, dependsOn, reaches, someUnmapped}
-use Rattle.rules.specs.Rules.{markDown, markFile}
+use Rattle.rules.specs.Rules.{markDown, markedFile}
 use Rattle.rules.specs.State.{Entry, File, Files, Tree, isAbsent, isUnmapped, live, marked, unmapped}
 
 module _ {K : Type 0} where
@@ -48,18 +48,12 @@ module _ {K : Type 0} where
     reached-live al x h = ⊎-elim (λ e. subst (λ y. live (files y .state) ≡ true) e al) (λ d. and-left (live (files x .state)) _ d) (reached-by (t .level x) x h)
 
     -- MARKED are those who are reached
-    pub marked-by : (x : ℕ) (b : Bool) → reaches t files c x ≡ b → markDown t files c x ≡ cond b (markFile (files x)) (files x)
+    pub marked-by : (x : ℕ) (b : Bool) → reaches t files c x ≡ b → markDown t files c x ≡ cond b markedFile (files x)
     unfolding markDown
-    marked-by x b h = rw h
-
-    -- no entry changes
-    pub mark-map-same : (x p : ℕ) → markDown t files c x .map p ≡ files x .map p
-    unfolding markFile
-    mark-map-same x p = test? (reaches t files c x) (λ e. ap (λ (y : File K). y .map p) (marked-by x true e)) (λ e. ap (λ (y : File K). y .map p) (marked-by x false e))
+    marked-by x b h = ap (λ v. cond v markedFile (files x)) h
 
     -- no file comes or goes
     pub mark-presence : live (files c .state) ≡ true → (x : ℕ) → isAbsent (markDown t files c x .state) ≡ isAbsent (files x .state)
-    unfolding markFile
     mark-presence al x =
         test? (reaches t files c x)
         (λ e. ap (λ (y : File K). isAbsent (y .state)) (marked-by x true e) ∙ sym (live-present (files x .state) (reached-live al x e)))
@@ -67,7 +61,6 @@ module _ {K : Type 0} where
 
     -- who is own or virgin afterwards was not reached, and is as before
     pub mark-missed : (x : ℕ) → live (markDown t files c x .state) ≡ true → reaches t files c x ≡ false
-    unfolding markFile
     mark-missed x a = test? (reaches t files c x) (λ e. let z : markDown t files c x .state ≡ marked = ap (λ (y : File K). y .state) (marked-by x true e) in cc) (λ e. e)
 
     pub mark-same : (x : ℕ) → live (markDown t files c x .state) ≡ true → markDown t files c x ≡ files x

@@ -5,6 +5,12 @@ use mathlib.Core.Path.{refl, sym, _≡_}
 use Rattle.rules.specs.State.{Entry, State, absent, hole, isAbsent, isMarked, isOwn, isStored, isUnmapped, isVirgin, live, marked, own, stored, unmapped, virgin}
 
 -- the state that passes its test
+pub marked-is : (l : State) → isMarked l ≡ true → l ≡ marked
+marked-is absent h = absurd (true≢false (sym h))
+marked-is own h = absurd (true≢false (sym h))
+marked-is virgin h = absurd (true≢false (sym h))
+marked-is marked h = refl
+
 pub absent-is : (l : State) → isAbsent l ≡ true → l ≡ absent
 absent-is absent h = refl
 absent-is own h = absurd (true≢false (sym h))

@@ -8,12 +8,12 @@ use native.Mathlib.Omega.{arith}
 use lib.Dec.{eqb}
 use borrow.Author.Tests.{ne-eqb}
 use Rattle.base.specs.Logic.{and-false, and-left, and-right, same?, test?}
-use Rattle.rules.proofs.Storages.Model.{model}
 use Rattle.rules.proofs.Steps.OneStep.{Alive, FilesOk, Keep, TreeOk, fill-keep, fill-ok, keep-refl, keep-trans, mark-keep, mark-ok, putEntry-ent, putEntry-other, putEntry-page, putEntry-state, resolve-shown}
 use Rattle.rules.proofs.Steps.Reached.{mark-same, marked-by, reaches-self}
 use Rattle.rules.proofs.Steps.States.{unmapped-is}
+use Rattle.rules.proofs.Storages.Model.{model}
 use Rattle.rules.specs.Reading.{dependent, dependsOn, needs, reaches, resolve, shownEntry}
-use Rattle.rules.specs.Rules.{Work, copied, copy, each, extra, give, giveAll, givePage, mark, markDown, markFile, putEntry, supply}
+use Rattle.rules.specs.Rules.{Work, copied, copy, each, extra, give, giveAll, givePage, mark, markDown, putEntry, supply}
 use Rattle.rules.specs.State.{Entry, File, Files, Tree, hole, isUnmapped, live, stored, unmapped, virgin}
 use Rattle.rules.specs.Storage.{PageData}
 
@@ -132,7 +132,6 @@ module _ {K : Type 0} where
     missed = low (t .level s) s refl (omega (arith, ok .kid-lvl s c kid))
 
     dead : (x : ℕ) → reaches t files c x ≡ true → live (markDown t files c x .state) ≡ false
-    unfolding markFile
     dead x e = ap (λ (x : File K). live (x .state)) (marked-by t files c x true e)
 
     mark-served : Alive files c → ChildServed t s files (markDown t files c)

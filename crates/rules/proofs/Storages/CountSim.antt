@@ -1,12 +1,14 @@
 -- The counting storage stands for the model: nothing is asked. Assumes nothing.
-use mathlib.Core.Path.{refl, _≡_}
+use mathlib.Core.Bool.{Bool, cond}
+use mathlib.Core.List.{List, _∷_, []}
+use mathlib.Core.Path.{ap, refl, _∙_, _≡_}
 use Prim.Native.Nat.{ℕ}
 use Rattle.rules.proofs.Blocks.GoodWork.{Good}
-use Rattle.rules.proofs.Storages.MapBlocks.{mapEntry}
+use Rattle.rules.proofs.Storages.MapBlocks.{mapEntry, mapFiles}
 use Rattle.rules.proofs.Storages.Model.{counting, model}
 use Rattle.rules.proofs.Storages.Sim.{Demands, Sim, Translation}
-use Rattle.rules.specs.Rules.{freeEntry}
-use Rattle.rules.specs.State.{Entry, Tree, hole, stored, unmapped}
+use Rattle.rules.specs.Rules.{each, freeEntry, freeMap, freeSets, from}
+use Rattle.rules.specs.State.{Entry, Files, Tree, hole, stored, unmapped}
 use Rattle.rules.specs.Storage.{PageData}
 
 -- a block's bytes are forgotten, the number of free blocks stays
@@ -22,6 +24,16 @@ free-kind unmapped m = refl
 free-kind hole m = refl
 free-kind (stored b) m = refl
 
+each-kinds : {A : Type 0} (f g : A → ℕ → ℕ) → ((x : A) (n : ℕ) → f x n ≡ g x n) → (xs : List A) (n : ℕ) → each f xs n ≡ each g xs n
+unfolding each
+each-kinds f g h [] n = refl
+each-kinds f g h (x ∷ xs) n = ap (each f xs) (h x n) ∙ each-kinds f g h xs (g x n)
+
+free-sets-kind : (t : Tree) (passes : ℕ → Bool) (files : Files PageData) (m : ℕ) → freeSets model t passes files m ≡ freeSets counting t passes (mapFiles (λ (b : PageData). tt) files) m
+unfolding freeSets freeMap
+free-sets-kind t passes files m =
+    each-kinds _ _ (λ x n. ap (λ y. cond (passes x) y n) (each-kinds _ _ (λ p k. free-kind (files x .map p) k) (from 0 64) n)) (from 0 8) m
+
 pub toCount : (t : Tree) (s : ℕ) → Sim model counting bytesForgotten noDemands t s
 toCount t s = record {
   free = λ w g. refl;
@@ -35,6 +47,8 @@ toCount t s = record {
   whole-cut = λ n x o. tt;
   good-settle = λ c w g. tt;
   good-mark = λ c p w g n k. tt;
+  mark-mem = λ c p w g n k. free-sets-kind t _ (w .files) (w .memory);
+  mark-old = λ passes files m b. refl;
   good-hole = λ c p w g n. tt;
   good-resize = λ n w g. tt;
   good-reserve = λ p w g o f. tt;

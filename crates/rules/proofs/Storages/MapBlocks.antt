@@ -5,7 +5,7 @@ use Prim.Native.Nat.{suc, zero, ℕ}
 use Rattle.base.specs.Logic.{pick}
 use Rattle.base.specs.Update.{upd, upd-map}
 use Rattle.rules.specs.Reading.{dependent, dependsOn, looks, looksUp, needs, reaches, resolve, shownEntry, shownSize, sizeByReading, someUnmapped, walk}
-use Rattle.rules.specs.Rules.{markDown, markFile, putEntry, settleAs, settleFile}
+use Rattle.rules.specs.Rules.{markDown, markedFile, putEntry, settleAs, settleFile}
 use Rattle.rules.specs.State.{Entry, File, Files, State, Tree, absent, hole, isStored, isUnmapped, marked, own, stored, unmapped, virgin}
 
 module _ {K L : Type 0} (f : K → L) where
@@ -102,10 +102,10 @@ module _ {K L : Type 0} (f : K → L) where
       go virgin = fun-ext (λ s. upd-map (λ _. mapFile) files c _ s ∙ ap (λ n. upd (mapFiles files) c (record { state = own; size = n; map = λ p. mapEntry (files c .map p) }) s) (sym (size-map t files c)))
 
   pub mark-map : (t : Tree) (files : Files K) (c : ℕ) → mapFiles (markDown t files c) ≡ markDown t (mapFiles files) c
-  unfolding markDown markFile
+  unfolding markDown
   mark-map t files c = fun-ext (λ s. rw (reaches-map t files c s) (go (reaches t files c s) (files s)))
     where
-      go : (b : Bool) (x : File K) → mapFile (cond b (markFile x) x) ≡ cond b (markFile (mapFile x)) (mapFile x)
+      go : (b : Bool) (x : File K) → mapFile (cond b markedFile x) ≡ cond b markedFile (mapFile x)
       go true x = refl
       go false x = refl
 

@@ -9,13 +9,13 @@ use borrow.Author.Tests.{eqb-false}
 use Rattle.base.specs.Count.{count}
 use Rattle.base.specs.Logic.{same?, test?}
 use Rattle.base.specs.Update.{upd, upd-keeps, upd-map}
-use Rattle.rules.proofs.Storages.MapBlocks.{files-ext, map-stored, mapEntry, mapEntry-agree, mapFile, mapFiles, mapFiles-agree, mark-map, needs-map, putEntry-map, reaches-map, resolve-map, settle-map}
 use Rattle.rules.proofs.Steps.OneStep.{putEntry-ent, putEntry-other, putEntry-page, putEntry-size, putEntry-state}
+use Rattle.rules.proofs.Steps.States.{stored-is}
+use Rattle.rules.proofs.Storages.MapBlocks.{files-ext, map-stored, mapEntry, mapEntry-agree, mapFile, mapFiles, mapFiles-agree, mark-map, needs-map, putEntry-map, reaches-map, resolve-map, settle-map}
 use Rattle.rules.specs.Reading.{needs, reaches, resolve}
-use Rattle.rules.specs.Rules.{Work, copy, dropPage, enter, enterAs, freeEntry, give, handOver, mark, markDown, pageOf, putEntry, reserve, reserveAs, resize, settle, settleAs, settleFile, supply, takeOwn, withFiles}
+use Rattle.rules.specs.Rules.{Work, copy, dropPage, enter, enterAs, freeEntry, freeSets, give, handOver, mark, markDown, pageOf, putEntry, reserve, reserveAs, resize, settle, settleAs, settleFile, supply, takeOwn, withFiles}
 use Rattle.rules.specs.State.{Entry, File, Files, State, Tree, absent, absentFile, hole, isStored, marked, own, stored, unmapped, virgin}
 use Rattle.rules.specs.Storage.{Storage}
-use Rattle.rules.proofs.Steps.States.{stored-is}
 
 -- how the blocks, the memory and the pages of one storage are seen in another
 pub record Translation (S S′ : Storage) : Type 0 where
@@ -44,6 +44,9 @@ pub record Sim (S S′ : Storage) (T : Translation S S′) (D : Demands S) (t : 
   -- files alone
   pub good-settle : (c : ℕ) (w : Work S) → D .Good w → D .Good (settle S t c w)
   pub good-mark : (c p : ℕ) (w : Work S) → D .Good w → needs (w .files) c p ≡ true → D .Kid c → D .Good (mark S t c w)
+  pub mark-mem : (c p : ℕ) (w : Work S) → D .Good w → needs (w .files) c p ≡ true → D .Kid c →
+      T .memory (freeSets S t (reaches t (w .files) c) (w .files) (w .memory)) ≡ freeSets S′ t (reaches t (w .files) c) (mapFiles (T .block (w .memory)) (w .files)) (T .memory (w .memory))
+  pub mark-old : (passes : ℕ → Bool) (files : Files (S .Block)) (m : S .Memory) (b : S .Block) → T .block (freeSets S t passes files m) b ≡ T .block m b
   pub good-hole : (c p : ℕ) (w : Work S) → D .Good w → needs (w .files) c p ≡ true → D .Good (withFiles S t w (putEntry (w .files) c p hole))
   pub good-resize : (n : ℕ) (w : Work S) → D .Good w → D .Good (resize S t s n w)
   -- a block is pending for a page of which none was
@@ -145,13 +148,16 @@ module _ {S S′ : Storage} {T : Translation S S′} {D : Demands S} {t : Tree} 
     unfolding mark
     rel-mark c p n k = record {
       good = M .good-mark c p w (r .good) n k;
-      memory = r .memory;
-      files = ap (λ x. markDown t x c) (r .files) ∙ sym (mark-map (T .block (w .memory)) t (w .files) c);
+      memory = (λ i. freeSets S′ t (same i) (r .files i) (r .memory i)) ∙ sym (M .mark-mem c p w (r .good) n k);
+      files = ap (λ x. markDown t x c) (r .files ∙ mapFiles-agree _ _ (w .files) (λ x q b e. sym (M .mark-old _ _ _ b))) ∙ sym (mark-map (T .block (mark S t c w .memory)) t (w .files) c);
       pending = r .pending;
       taken = r .taken;
       copies = r .copies;
       marks = cc (r .marks, ap (λ x. count 8 (reaches t x c)) (r .files), ap (count 8) (fun-ext (λ x. reaches-map (T .block (w .memory)) t (w .files) c x)));
     }
+      where
+        same : reaches t (v .files) c ≡ reaches t (w .files) c
+        same = ap (λ x. reaches t x c) (r .files) ∙ fun-ext (λ x. reaches-map (T .block (w .memory)) t (w .files) c x)
 
     rel-hole : (c p : ℕ) → needs (w .files) c p ≡ true → Rel T D (withFiles S t w (putEntry (w .files) c p hole)) (withFiles S′ t v (putEntry (v .files) c p hole))
     rel-hole c p n = record {

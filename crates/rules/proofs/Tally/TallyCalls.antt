@@ -1,7 +1,8 @@
 -- Every accepted call: the store's rules over `counting` and the tally give the same answer and leave a store and its tally. Assumes nothing.
 use mathlib.Core.Bool.{_&&_, Bool, cond, false, not, true, true≢false}
-use mathlib.Core.List.{List·Memᴰ, List·Memᴰ·cases-cons, [], _++_, _∷_, append-nil}
-use mathlib.Core.Path.{_∙_, _≡_, ap, fun-ext, refl, subst, sym}
+use mathlib.Core.List.{_++_, List·Memᴰ, List·Memᴰ·cases-cons, append-nil, _∷_, []}
+use mathlib.Core.Logic.{⊎-elim}
+use mathlib.Core.Path.{ap, fun-ext, refl, subst, sym, _∙_, _≡_}
 use Prim.Native.Nat.{_%_, _+_, _-_, _/_, _<_, max, suc, zero, ℕ, _≤_}
 use native.Mathlib.Nat.{add-zero}
 use native.Mathlib.Omega.{arith}
@@ -13,14 +14,14 @@ use Rattle.base.specs.Logic.{and-left, and-right, pick, test?}
 use Rattle.base.specs.Update.{upd, upd-self}
 use Rattle.rules.proofs.Storages.Model.{counting}
 use Rattle.rules.proofs.Tally.TallyChange.{change-leaves, changeLeaves, newKinds}
+use Rattle.rules.proofs.Tally.TallyFreed.{free-map}
 use Rattle.rules.proofs.Tally.TallyGroups.{extra-pages}
 use Rattle.rules.proofs.Tally.TallyLoops.{PagesOf, all-pages, byte-pages, count-pages, cut-pages, dropped-pages, kept-pages, no-pages, page-inv, pages-once, pages-passed, put-pages, sum-loop, sum-pages}
 use Rattle.rules.proofs.Tally.TallyNumbers.{Tallies, TallyOrderly, kept-need, same-numbers, tallies-is, tallies-of, tallyOf, write-need}
-use Rattle.rules.proofs.Whole.Accepted.{passed-write}
 use Rattle.rules.proofs.Tally.TallyReach.{NoVirginRoot, kind-resolve, looks-reading, no-virgin-root, size-reading}
 use Rattle.rules.proofs.Tally.TallySteps.{extra-all, give-all, settle-all, withTurn}
-use Rattle.rules.proofs.Tally.TallyWriter.{free-map}
 use Rattle.rules.proofs.Tree.SetsOk.{root-alone-tree}
+use Rattle.rules.proofs.Whole.Accepted.{passed-write}
 use Rattle.rules.specs.Calls.{Result, Store, accepted, begin, created, formatted, made, readCount, readLooks, readOf, removed, resultOf, step, treeIn, viewOf, worked}
 use Rattle.rules.specs.Numbers.{Call, create, delete, format, make, numberOf, read, refusal, remove, tellFree, tellSize, truncate, write}
 use Rattle.rules.specs.Plain.{Plain}
@@ -28,9 +29,8 @@ use Rattle.rules.specs.Reading.{looks, resolve, shownSize, sizeByReading
 use Rattle.rules.specs.Rules.{Giving, Work, change, copied, countIn, cutPages, deleteAs, deleteFile, droppedPages, each, eraseFile, extra, extraPages, freeMap, from, giveAll, handed, holes, keptPages, ownNeed, partPages, touched, truncateAs, truncateFile, withFiles, writeFile}
 use Rattle.rules.specs.Sets.{appendSet, childFile, childState, unlinkSet}
 use Rattle.rules.specs.State.{State, Tree, absent, absentFile, fileCount, hole, isStored, largestSize, live, marked, own, pageBytes, pageCount, setCount, stored, treeOf, unmapped, virgin}
-use Rattle.rules.specs.Tally.{Both, Kind, Tally, TallyFile, TallyFiles, TallyResult, Turn, bothAs, bothStep, cutKinds, eachChild, holdsByte, isExtra, kindAt, partPage, storedPages, tallyCall, tallyChild, tallyCut, tallyDelete, tallyExtra, tallyFormat, tallyGive, tallyGrow, tallyLeaves, tallyLooks, tallyRead, tallySettle, tallySize, tallyTold, tallyTruncate, tallyTruncateNeed, tallyTurns, tallyWrite, truncateTouches}
+use Rattle.rules.specs.Tally.{Both, Kind, Tally, TallyFile, TallyFiles, TallyResult, bothAs, bothStep, cutKinds, eachChild, holdsByte, isExtra, kindAt, partPage, storedPages, tallyCall, tallyChild, tallyCut, tallyDelete, tallyExtra, tallyFormat, tallyGive, tallyGrow, tallyLeaves, tallyLooks, tallyRead, tallySettle, tallySize, tallyTold, tallyTruncate, tallyTruncateNeed, tallyTurns, tallyWrite, truncateTouches, Turn}
 use Rattle.rules.specs.Trees.{addChild, takeAway}
-use mathlib.Core.Logic.{⊎-elim}
 
 -- a result of the store as one of the tally
 abbrev pub resultOfTally : Result counting → TallyResult

@@ -1,12 +1,13 @@
 -- A page that is handed over, on the tally: taking it over and the copies of the other children do not get in each other's way. So the turns leave the same
 -- whether the first child that needs the page takes it over before the others have their copies, as the tally says it, or after, as the store does it. Assumes nothing.
-use mathlib.Core.Bool.{_&&_, cond, false, true, _||_}
+use mathlib.Core.Bool.{_&&_, cond, false, true, true≢false, _||_}
 use mathlib.Core.List.{List, List·Memᴰ, List·Memᴰ·head, List·Memᴰ·tail, _∷_, []}
 use mathlib.Core.Path.{_≡_, ap, ap₂, refl, sym, _∙_}
 use Prim.Native.Nat.{_+_, _-_, _<_, suc, zero, ℕ, _≤_}
 use native.Mathlib.Omega.{arith}
 use lib.Dec.{eqb}
-use Rattle.base.specs.Count.{count}
+use Rattle.base.specs.Count.{count, sum}
+use Rattle.rules.proofs.Blocks.Sums.{sum-same}
 use Rattle.base.specs.Logic.{test?}
 use Rattle.base.specs.Update.{upd, upd-is, upd-other, upd-same, upd-swap}
 use Rattle.rules.proofs.Steps.Handing.{ProperTree, not-itself}
@@ -15,7 +16,7 @@ use Rattle.rules.proofs.Steps.States.{stored-is}
 use Rattle.rules.proofs.Steps.WriterSteps.{NoDup, resolve-here}
 use Rattle.rules.proofs.Tally.TallyReach.{any-same, kind-resolve, reached-below}
 use Rattle.rules.specs.State.{Tree, hole, isStored, setCount, stored, unmapped}
-use Rattle.rules.specs.Tally.{Kind, TallyFile, TallyFiles, Turn, childPage, childTurn, copyTurn, dependsAbove, eachChild, handTurns, kindAt, markedWith, neededCopy, reachedDown, takenOver, tallyKind, tallyMark, tallyNeeds}
+use Rattle.rules.specs.Tally.{Kind, TallyFile, TallyFiles, Turn, childPage, childTurn, copyTurn, dependsAbove, eachChild, handTurns, kindAt, markFrees, markedWith, neededCopy, reachedDown, storedPages, takenOver, tallyKind, tallyMark, tallyNeeds}
 
 module _ (t : Tree) (ok : TreeOk t) where
   -- who is marked with the file of set d is found from the files below d
@@ -55,6 +56,15 @@ module _ (t : Tree) (ok : TreeOk t) where
         upd-is (tallyMark t fs d) (tallyMark t (tallyKind t c p k fs) d) c _ (rw (put-marked fs c, not-marked fs d c apart not-under) (upd-same fs c _))
         (λ x n. rw (put-marked fs x, put-other c p k fs x n))
 
+    -- and as many blocks come free
+    put-frees : (fs : TallyFiles) → markFrees t (tallyKind t c p k fs) d ≡ markFrees t fs d
+    unfolding markFrees
+    put-frees fs =
+        sum-same setCount _ _
+        (λ x l. rw (put-marked fs x) (test? (markedWith t fs d x)
+        (λ e. rw e (ap storedPages (put-other c p k fs x (λ q. true≢false (sym e ∙ ap (markedWith t fs d) (sym q) ∙ not-marked fs d c apart not-under)))))
+        (λ e. rw e)))
+
     -- an entry of d's file may be put before or after
     put-both : (fs : TallyFiles) (j : Kind) → tallyKind t d p j (tallyKind t c p k fs) ≡ tallyKind t c p k (tallyKind t d p j fs)
     unfolding tallyKind
@@ -71,7 +81,7 @@ module _ (t : Tree) (ok : TreeOk t) where
         rw (put-own (x .files))
         (test? (tallyNeeds (x .files) d p)
         (λ n. rw n (test? (eqb (x .free) 0)
-        (λ z. rw z (λ i. record { files = put-mark (x .files) i; free = 0; copies = x .copies; marks = x .marks + count setCount (λ y. put-marked (x .files) y i) }))
+        (λ z. rw z (λ i. record { files = put-mark (x .files) i; free = put-frees (x .files) i; copies = x .copies; marks = x .marks + count setCount (λ y. put-marked (x .files) y i) }))
         (λ z. rw z (λ i. record { files = put-both (x .files) (stored tt) i; free = x .free - 1; copies = x .copies + 1; marks = x .marks }))))
         (λ n. rw n))
 

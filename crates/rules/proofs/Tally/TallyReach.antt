@@ -12,7 +12,7 @@ use Rattle.base.specs.Logic.{and-both, and-left, and-right, or-right, pick, sam
 use Rattle.rules.proofs.Steps.OneStep.{FilesOk, TreeOk}
 use Rattle.rules.proofs.Steps.Reached.{reaches-self}
 use Rattle.rules.specs.Reading.{dependent, dependsOn, looks, looksUp, reaches, resolve, shownEntry, shownSize, sizeByReading, someUnmapped, walk}
-use Rattle.rules.specs.Rules.{markDown, markFile}
+use Rattle.rules.specs.Rules.{markDown, markedFile}
 use Rattle.rules.specs.State.{Files, State, Tree, absent, hole, isUnmapped, isVirgin, live, marked, own, setCount, stored, unmapped, virgin}
 use Rattle.rules.specs.Tally.{Kind, TallyFile, TallyFiles, anyOf, anyUnmapped, dependsAbove, goneTo, kindAt, kindIn, kindOver, markedWith, reachedDown, sizeIn, tallyLooks, tallyMark, tallySize}
 
@@ -180,8 +180,8 @@ module _ (t : Tree) (ok : TreeOk t) (fs : TallyFiles) where
   module _ (shallow : (x : ℕ) → t .level x ≤ setCount) where
     -- the files after a marking, and the number of files marked
     pub mark-down : (c : ℕ) → tallyMark t fs c ≡ markDown t fs c
-    unfolding tallyMark markDown markFile
-    mark-down c = fun-ext (λ x. rw (marked-reaches c x (shallow x)))
+    unfolding tallyMark markDown
+    mark-down c = fun-ext (λ x. ap (λ v. cond v markedFile (fs x)) (marked-reaches c x (shallow x)))
 
     pub mark-count : (c : ℕ) → count setCount (markedWith t fs c) ≡ count setCount (reaches t fs c)
     mark-count c = count-same setCount (reaches t fs c) (markedWith t fs c) (λ x l. marked-reaches c x (shallow x))

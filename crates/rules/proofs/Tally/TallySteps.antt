@@ -1,28 +1,30 @@
 -- The steps of a changing call over `counting`, the storage without blocks and bytes, are those of the tally. Assumes nothing.
 use mathlib.Core.Bool.{_&&_, Bool, cond, false, not, true}
-use mathlib.Core.List.{List, List·Memᴰ, List·Memᴰ·head, List·Memᴰ·tail, [], _++_, _∷_}
-use mathlib.Core.Path.{ap, refl, sym, _∙_, _≡_}
+use mathlib.Core.List.{_++_, List, List·Memᴰ, List·Memᴰ·head, List·Memᴰ·tail, _∷_, []}
+use mathlib.Core.Path.{ap, fun-ext, refl, sym, _∙_, _≡_}
 use Prim.Native.Nat.{_+_, _-_, suc, ℕ, _≤_}
-use native.Mathlib.Nat.{zero-add}
+use native.Mathlib.Nat.{add-zero, zero-add}
 use native.Mathlib.Numerals.{add-one}
 use native.Mathlib.Omega.{arith}
 use lib.Dec.{eqb}
 use borrow.Author.Tests.{eqb-true}
+use Rattle.base.specs.Count.{sum}
 use Rattle.base.specs.Logic.{same?, test?}
 use Rattle.base.specs.Update.{upd, upd-keeps, upd-other, upd-same}
-use Rattle.rules.proofs.Storages.Model.{counting}
 use Rattle.rules.proofs.Steps.Handing.{ProperTree, some-self}
 use Rattle.rules.proofs.Steps.OneStep.{TreeOk}
 use Rattle.rules.proofs.Steps.States.{stored-is}
 use Rattle.rules.proofs.Steps.StepFour.{each-append, each-inv}
+use Rattle.rules.proofs.Storages.Model.{counting}
+use Rattle.rules.proofs.Tally.TallyFreed.{free-map}
 use Rattle.rules.proofs.Tally.TallyGroups.{PagesOfTwo, each-two}
 use Rattle.rules.proofs.Tally.TallyHanding.{hand-late, handLate}
-use Rattle.rules.proofs.Tally.TallyLoops.{PagesOf, each-child, each-page, each-part}
-use Rattle.rules.proofs.Tally.TallyReach.{NoVirginRoot, kind-resolve, mark-count, mark-down, size-reading}
-use Rattle.rules.specs.Reading.{needs, resolve, sizeByReading}
-use Rattle.rules.specs.Rules.{Giving, Work, copied, copy, countIn, each, extra, give, giveAll, givePage, hand, handOver, handed, mark, ownNeed, putEntry, reserve, reserveAs, settle, settleAs, settleFile, supply, takeOwn, withFiles}
+use Rattle.rules.proofs.Tally.TallyLoops.{PagesOf, each-child, each-page, each-part, sum-loop}
+use Rattle.rules.proofs.Tally.TallyReach.{NoVirginRoot, kind-resolve, mark-count, mark-down, marked-reaches, size-reading}
+use Rattle.rules.specs.Reading.{needs, reaches, resolve, sizeByReading}
+use Rattle.rules.specs.Rules.{Giving, Work, copied, copy, countIn, each, extra, freeMap, freeSets, give, giveAll, givePage, hand, handOver, handed, mark, ownNeed, putEntry, reserve, reserveAs, settle, settleAs, settleFile, supply, takeOwn, withFiles}
 use Rattle.rules.specs.State.{State, Tree, absent, hole, isStored, isVirgin, marked, own, setCount, stored, unmapped, virgin}
-use Rattle.rules.specs.Tally.{Kind, TallyFile, TallyFiles, Turn, childPage, childTurn, eachChild, extraTurn, neededCopy, pageTurns, takenOver, tallyExtra, tallyGive, tallyKind, tallyNeeds, tallySettle}
+use Rattle.rules.specs.Tally.{Kind, TallyFile, TallyFiles, childPage, childTurn, eachChild, extraTurn, markFrees, neededCopy, pageTurns, storedPages, takenOver, tallyExtra, tallyGive, tallyKind, tallyNeeds, tallySettle, Turn}
 
 -- what the tally's turns see of a Work, and a Work with that put in its place
 abbrev pub turnOf : Work counting → Turn
@@ -115,6 +117,14 @@ module _ (t : Tree) (ok : TreeOk t) where
 
 -- STEP 4
 module _ (t : Tree) (proper : ProperTree t) (shallow : (x : ℕ) → t .level x ≤ setCount) where
+  -- the blocks that marking frees
+  free-reached : (c : ℕ) (fs : TallyFiles) (m : ℕ) → freeSets counting t (reaches t fs c) fs m ≡ m + markFrees t fs c
+  unfolding freeSets markFrees
+  free-reached c fs m =
+      sum-loop (λ x. cond (reaches t fs c x) (storedPages (fs x)) 0) (λ x n. cond (reaches t fs c x) (freeMap counting (fs x .map) n) n)
+      (λ x n. test? (reaches t fs c x) (λ e. rw e (free-map (fs x) n)) (λ e. rw e (sym (add-zero n)))) setCount m
+      ∙ ap (λ g. m + sum setCount (λ x. cond (g x) (storedPages (fs x)) 0)) (fun-ext (λ x. sym (marked-reaches t (proper .ok) fs c x (shallow x))))
+
   supply-page : (e : Kind) (c p : ℕ) (w : Work counting) → supply counting t true e c p w ≡ withTurn w (childPage t e p c (turnOf w))
   unfolding supply childPage neededCopy mark copy putEntry tallyKind
   supply-page unmapped c p w = refl
@@ -122,7 +132,7 @@ module _ (t : Tree) (proper : ProperTree t) (shallow : (x : ℕ) → t .level x 
   supply-page (stored b) c p w =
       test? (eqb (w .memory) 0)
       (λ e. rw e (λ i. record {
-        memory = eqb-true (w .memory) 0 e i;
+        memory = (free-reached c (w .files) (w .memory) ∙ ap (λ n. n + markFrees t (w .files) c) (eqb-true (w .memory) 0 e) ∙ zero-add _) i;
         files = sym (mark-down t (proper .ok) (w .files) shallow c) i;
         pending = w .pending;
         taken = w .taken;

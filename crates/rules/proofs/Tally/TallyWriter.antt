@@ -1,6 +1,6 @@
 -- What all of step 4 keeps; and the writer's own file over `counting`: step 4 leaves its state as it is, turns at extra pages change no state and mark nothing, step 5 makes pages stored, pages dropped become holes and their blocks are free again. Assumes nothing.
-use mathlib.Core.Bool.{Bool, _&&_, cond, false}
-use mathlib.Core.List.{List, List·Memᴰ, List·Memᴰ·head, List·Memᴰ·tail, [], _∷_}
+use mathlib.Core.Bool.{_&&_, Bool, cond, false}
+use mathlib.Core.List.{List, List·Memᴰ, List·Memᴰ·head, List·Memᴰ·tail, _∷_, []}
 use mathlib.Core.Path.{ap, refl, subst, sym, _∙_, _≡_}
 use Prim.Native.Nat.{_+_, ℕ}
 use native.Mathlib.Nat.{add-zero}
@@ -8,16 +8,17 @@ use native.Mathlib.Omega.{arith}
 use lib.Dec.{eqb}
 use Rattle.base.specs.Logic.{and-right, test?}
 use Rattle.base.specs.Update.{upd, upd-keeps, upd-same, upd-self, upd-upd}
-use Rattle.rules.proofs.Storages.Model.{counting}
 use Rattle.rules.proofs.Steps.Handing.{ProperTree}
 use Rattle.rules.proofs.Steps.OneStep.{putEntry-page}
 use Rattle.rules.proofs.Steps.StepFour.{each-inv}
-use Rattle.rules.proofs.Tally.TallyLoops.{all-pages, count-pages, count-same-in, each-child, page-inv}
-use Rattle.rules.proofs.Tally.TallyHanding.{hand-late, handLate, turn-self}
 use Rattle.rules.proofs.Steps.WriterSteps.{NoDup}
-use Rattle.rules.specs.Rules.{Work, countIn, dropPage, each, enter, enterAs, freeEntry, freeMap, from, putEntry, withFiles}
+use Rattle.rules.proofs.Storages.Model.{counting}
+use Rattle.rules.proofs.Tally.TallyFreed.{free-one}
+use Rattle.rules.proofs.Tally.TallyHanding.{hand-late, handLate, turn-self}
+use Rattle.rules.proofs.Tally.TallyLoops.{count-same-in, each-child, page-inv}
+use Rattle.rules.specs.Rules.{Work, countIn, dropPage, each, enter, enterAs, putEntry, withFiles}
 use Rattle.rules.specs.State.{Tree, hole, isStored, pageCount, stored, unmapped}
-use Rattle.rules.specs.Tally.{Kind, TallyFile, TallyFiles, Turn, childPage, childTurn, eachChild, extraTurn, kindAt, neededCopy, pageTurns, storedPages, takenOver, tallyExtra, tallyGive, tallyKind, tallyNeeds}
+use Rattle.rules.specs.Tally.{Kind, TallyFile, TallyFiles, childPage, childTurn, eachChild, extraTurn, kindAt, neededCopy, pageTurns, takenOver, tallyExtra, tallyGive, tallyKind, tallyNeeds, Turn}
 
 -- WHAT EVERY TURN OF STEP 4 KEEPS, and every taking over, all of step 4 keeps
 module _ (t : Tree) (proper : ProperTree t) (s : ℕ) (I : Turn → Type 0)
@@ -108,13 +109,6 @@ released-again w a b fs gs =
     let e : w .memory + a + b ≡ w .memory + (a + b) = omega arith in
     λ i. record { memory = e i; files = gs; pending = w .pending; taken = w .taken; copies = w .copies; marks = w .marks }
 
--- "frees the file's blocks"
-free-one : (e : Kind) (m : ℕ) → freeEntry counting e m ≡ m + cond (isStored e) 1 0
-unfolding freeEntry
-free-one unmapped m = sym (add-zero m)
-free-one hole m = sym (add-zero m)
-free-one (stored b) m = refl
-
 module _ (t : Tree) (s : ℕ) where
   -- STEP 5: pending blocks enter the map
   module _ (lay : ℕ → Unit {0} → Unit {0}) where
@@ -149,12 +143,3 @@ pub put-all : (s : ℕ) (e : Kind) (ps : List ℕ) (fs : TallyFiles) → each (�
 unfolding each putEntry
 put-all s e [] fs = sym (upd-self fs s)
 put-all s e (p ∷ ps) fs = put-all s e ps (putEntry fs s p e) ∙ rw (upd-same fs s (record { state = fs s .state; size = fs s .size; map = upd (fs s .map) p e })) (upd-upd fs s _ _)
-
-free-list : (map : ℕ → Kind) (ps : List ℕ) (m : ℕ) → each (λ p. freeEntry counting (map p)) ps m ≡ m + countIn ps (λ p. isStored (map p))
-unfolding each countIn
-free-list map [] m = sym (add-zero m)
-free-list map (p ∷ ps) m = rw (free-one (map p) m) (free-list map ps _ ∙ omega arith)
-
-pub free-map : (x : TallyFile) (m : ℕ) → freeMap counting (x .map) m ≡ m + storedPages x
-unfolding freeMap storedPages
-free-map x m = free-list (x .map) (from 0 pageCount) m ∙ ap (λ n. m + n) (sym (count-pages all-pages (λ p. isStored (x .map p))))
