@@ -18,7 +18,7 @@ use Rattle.tables.proofs.FormedStore.{formed-store}
 use Rattle.tables.proofs.TermCalls.{current-passed, current-refused, current-told, current-unformed, currentIn, term-accepted, term-passed, term-refused, term-unformed, termIn}
 use Rattle.tables.proofs.Written.{turns-pack}
 use Rattle.tables.specs.Calls.{lookedAt, storeOf}
-use Rattle.tables.specs.Convert.{convertOn, oldUnpack, oldWellFormed}
+use Rattle.tables.specs.Convert.{cleared, convertOn, olderUnpack, olderWellFormed}
 use Rattle.tables.specs.Layout.{tableBytes}
 use Rattle.tables.specs.Packed.{pack, unpack, wellFormed}
 use Rattle.tables.specs.Terms.{currentOn, putTermIn, setTermOn, toldOrRefused}
@@ -86,16 +86,16 @@ module _ (x : Term) (day : ℕ) where
   from-end h l = rw (le-leb (x .firstDay) day h, le-ltb day (x .endDay) l)
 
 -- THE CONVERTER; b is whether the tables were converted
-module _ (r : declared.Answer) (old p second t′ : List ℕ) (b : Bool) (e : b ≡ (oldWellFormed old (length p) && eqb (length second) tableBytes))
-    (w : t′ ≡ cond b (pack (oldUnpack old)) second) where
+module _ (r : declared.Answer) (old p second t′ : List ℕ) (b : Bool) (e : b ≡ (olderWellFormed old (length p) && eqb (length second) tableBytes))
+    (w : t′ ≡ cond b (pack (cleared (olderUnpack old))) second) where
   pub convert-refused : not b ≡ true → answerMeant r ≡ refusal 1 → outcome r t′ p [] ≡ convertOn old p second
   unfolding convertOn
   convert-refused h a =
       let q = not-true b h in
-      (λ i. lookedAt (a i) ((w ∙ ap (λ c. cond c (pack (oldUnpack old)) second) q) i) p []) ∙ rw (← e, q)
+      (λ i. lookedAt (a i) ((w ∙ ap (λ c. cond c (pack (cleared (olderUnpack old))) second) q) i) p []) ∙ rw (← e, q)
 
   pub convert-done : not b ≡ false → answerMeant r ≡ refusal 0 → outcome r t′ p [] ≡ convertOn old p second
   unfolding convertOn
   convert-done h a =
       let q = not-false b h in
-      (λ i. lookedAt (a i) ((w ∙ ap (λ c. cond c (pack (oldUnpack old)) second) q) i) p []) ∙ rw (← e, q)
+      (λ i. lookedAt (a i) ((w ∙ ap (λ c. cond c (pack (cleared (olderUnpack old))) second) q) i) p []) ∙ rw (← e, q)

@@ -1,4 +1,4 @@
-// The converter as a call: tables of the older length into a second buffer. Old tables and pages are only read.
+// The converter as a call: older tables, of either length, into a second buffer. Older tables and pages are only read.
 ghost use mathlib.Core.List.{[]};
 ghost use mathlib.Core.Path.{_≡_};
 ghost use Rattle.tables.specs.Convert.{convertOn};

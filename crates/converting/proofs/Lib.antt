@@ -1,1 +1,2 @@
+pub mod ClearedFiles
 pub mod Fronts

@@ -36,8 +36,9 @@ module _ (t p : List ℕ) (formed : wellFormed t (length p) ≡ true) where
     sound = record {
       header = formed-header;
       named = formed-named f;
+      bits-past = store .bits-past;
       left-is = el;
-      room = omega (arith, count-le (unpack t .blocks) (λ b. not (unpack t .bits b)), formed-header .most);
+      room = omega (arith, em, count-le (unpack t .blocks) (λ b. not (unpack t .bits b)), formed-header .most);
       alive = omega (arith, count-le 8 (λ s. live (unpack t .files f s .state)));
       tree = store .sets-ok .tree;
     };

@@ -4,7 +4,6 @@ use mathlib.Core.List.{List, List·Memᴰ, List·Memᴰ·head, List·Memᴰ·tai
 use mathlib.Core.Path.{ap, refl, subst, sym, _∙_, _≡_}
 use Prim.Native.Nat.{_<_, suc, zero, ℕ, _≤_}
 use native.Mathlib.Omega.{arith}
-use lib.Dec.{eqb}
 use borrow.Author.Tests.{eq-eqb, le-ltb, ne-eqb}
 use Rattle.base.specs.Logic.{and-left, test?}
 use Rattle.copying.proofs.Chains.{children-are}
@@ -12,10 +11,11 @@ use Rattle.copying.proofs.Kept.{entered}
 use Rattle.copying.proofs.Steps.{step-as, step-none}
 use Rattle.copying.specs.Work.{FirstChild, Going, Ready, Rest, Step, giveAs, work}
 use Rattle.rules.proofs.Blocks.GoodWork.{not-stored}
-use Rattle.rules.proofs.Steps.OneStep.{TreeOk, putEntry-other}
+use Rattle.rules.proofs.Steps.Handing.{give-leaves, not-reached}
+use Rattle.rules.proofs.Steps.OneStep.{TreeOk}
 use Rattle.rules.proofs.Blocks.Tidy.{resolve-named}
 use Rattle.rules.specs.Reading.{needs, reaches, resolve, shownEntry, walk}
-use Rattle.rules.specs.Rules.{Giving, Work, copied, copy, each, extra, give, giveAll, givePage, hand, handed, mark, markDown, markFile, supply}
+use Rattle.rules.specs.Rules.{Giving, Work, copied, copy, each, extra, give, giveAll, givePage, hand, handed, mark, supply}
 use Rattle.rules.specs.State.{Entry, File, Files, SetRecord, Tree, chain, childrenOf, hole, isStored, live, stored, treeOf, unmapped}
 use Rattle.rules.specs.Storage.{freeBlocks, real}
 use Rattle.tables.specs.Calls.{pagesOf}
@@ -90,40 +90,30 @@ module _ {t p : List ℕ} {f : ℕ} {k : Counts} (must : Bool) (e : Entry ℕ) (
 
 -- ---- a turn does not change what the pages of set s resolve to
 
-module _ (tr : Tree) (must : Bool) (c : ℕ) where
-  mark-map : (files : Files ℕ) (x : ℕ) → markDown tr files c x .map ≡ files x .map
-  unfolding markDown markFile
-  mark-map files x = test? (reaches tr files c x) (λ e. rw e) (λ e. rw e)
+module _ (tr : Tree) (must : Bool) (c : ℕ) (ok : TreeOk tr) where
+  -- no set is another one of the same level
+  above : (x : ℕ) → tr .level x < tr .level c → c ≡ x → ⊥
+  above x l d = let z : tr .level c ≡ tr .level x = ap (tr .level) d in omega arith
 
-  supply-others : (e : Entry ℕ) (q : ℕ) (w : Work real) (x : ℕ) → (c ≡ x → ⊥) → supply real tr must e c q w .files x .map ≡ w .files x .map
-  unfolding supply mark copy
-  supply-others unmapped q w x n = refl
-  supply-others hole q w x n = ap (λ (y : File ℕ). y .map) (putEntry-other (w .files) c q hole x n)
-  supply-others (stored b) q w x n =
-      test? (eqb (real .free (w .memory)) 0)
-      (λ e. rw e (test? must (λ d. rw d (mark-map (w .files) x)) (λ d. rw d)))
-      (λ e. rw e (ap (λ (y : File ℕ). y .map) (putEntry-other (w .files) c q _ x n)))
+  -- no map of a set above c changes, whether c gets the page or is marked
+  give-above : (s q : ℕ) (w : Work real) (x : ℕ) → tr .level x < tr .level c → give real tr must s q c w .files x .map ≡ w .files x .map
+  unfolding reaches
+  give-above s q w x l = ap (λ (y : File ℕ). y .map) (give-leaves real tr s c x (above x l) (λ files. not-reached tr ok files c (tr .level x) x refl l) must q w)
 
-  -- no other file's map changes
-  give-others : (s q : ℕ) (w : Work real) (x : ℕ) → (c ≡ x → ⊥) → give real tr must s q c w .files x .map ≡ w .files x .map
-  unfolding give
-  give-others s q w x n = test? (needs (w .files) c q) (λ e. rw e (supply-others (resolve tr (w .files) s q) q w x n)) (λ e. rw e)
-
-  module _ (ok : TreeOk tr) (files files′ : Files ℕ) (same : (x : ℕ) → (c ≡ x → ⊥) → files′ x .map ≡ files x .map) (q : ℕ) where
-    -- a walk from a set that is not below c
+  module _ (files files′ : Files ℕ) (same : (x : ℕ) → tr .level x < tr .level c → files′ x .map ≡ files x .map) (q : ℕ) where
+    -- a walk from a set above c
     walk-same : (n x : ℕ) → tr .level x ≡ n → n < tr .level c
         → walk (tr .parent) (λ (y : File ℕ). shownEntry (y .map q)) hole n files′ x ≡ walk (tr .parent) (λ (y : File ℕ). shownEntry (y .map q)) hole n files x
     unfolding walk
-    walk-same zero x e l = rw (same x (λ d. let z : tr .level c ≡ tr .level x = ap (tr .level) d in omega arith))
-    walk-same (suc n) x e l =
-        rw (same x (λ d. let z : tr .level c ≡ tr .level x = ap (tr .level) d in omega arith), walk-same n (tr .parent x) (ok .lower x n e) (omega arith))
+    walk-same zero x e l = rw (same x (omega arith))
+    walk-same (suc n) x e l = rw (same x (omega arith), walk-same n (tr .parent x) (ok .lower x n e) (omega arith))
 
   -- LAW: a child's turn
-  pub give-shown : TreeOk tr → (s q : ℕ) → List·Memᴰ c (tr .children s) → (w : Work real) (x : ℕ) → resolve tr (give real tr must s q c w .files) s x ≡ resolve tr (w .files) s x
+  pub give-shown : (s q : ℕ) → List·Memᴰ c (tr .children s) → (w : Work real) (x : ℕ) → resolve tr (give real tr must s q c w .files) s x ≡ resolve tr (w .files) s x
   unfolding resolve
-  give-shown ok s q m w x =
+  give-shown s q m w x =
       let l = ok .kid-lvl s c m in
-      walk-same ok (w .files) (give real tr must s q c w .files) (λ y n. give-others s q w y n) x (tr .level s) s refl (omega arith)
+      walk-same (w .files) (give real tr must s q c w .files) (λ y n. give-above s q w y n) x (tr .level s) s refl (omega arith)
 
 -- LAW: turns for what page q of set s resolves to, of some of its children, are the rule's
 pub given-as : (tr : Tree) (must : Bool) → TreeOk tr → (s q : ℕ) (e : Entry ℕ) (cs : List ℕ) → ((x : ℕ) → List·Memᴰ x cs → List·Memᴰ x (tr .children s)) → (w : Work real) → resolve tr (w .files) s q ≡ e

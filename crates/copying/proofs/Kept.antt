@@ -17,6 +17,7 @@ use Rattle.rules.proofs.Steps.OneStep.{putEntry-state}
 use Rattle.rules.specs.Rules.{Work, copy, enterAs, putEntry, takeOwn}
 use Rattle.rules.specs.State.{Entry, File, Files, State, Tables, Tree, absentFile, live, stored, treeOf}
 use Rattle.rules.specs.Storage.{PageData, real, takeBlock}
+use Rattle.setchanges.specs.Changes.{withBits}
 use Rattle.tables.specs.Calls.{pagesOf}
 use Rattle.tables.specs.Packed.{unpack}
 use Rattle.tables.specs.Views.{PackedTables, Took, Turns, memoryOf, putBitIn, putEntryIn, putFiles, putHead, putHeadIn, putNextIn, took}
@@ -41,18 +42,24 @@ module _ (tb : Tables) (f : ℕ) (x : Files ℕ) where
   unfolding putFiles
   sets-files = refl
 
-  -- LAW: files whose maps name blocks of the store, and of which not too many are live
-  pub sound-files : {k k′ : Counts} → Sound tb f k → ((s p b : ℕ) → x s .map p ≡ stored b → b < tb .blocks) → k′ .left ≡ k .left → k′ .taken + k′ .copies + k′ .left ≤ 4096
-      → k′ .marks + count 8 (λ s. live (x s .state)) ≤ 8 → Sound (putFiles f x tb) f k′
+  -- LAW: other bits, and files whose maps name blocks of the store, and of which not too many are live
+  pub sound-bits : {k k′ : Counts} (bits : ℕ → Bool) → Sound tb f k → ((s p b : ℕ) → x s .map p ≡ stored b → b < tb .blocks) → ((b : ℕ) → tb .blocks ≤ b → bits b ≡ false)
+      → k′ .left ≡ count (tb .blocks) (λ b. not (bits b)) → k′ .taken + k′ .copies + k′ .left ≤ 4096 * (k′ .marks + 1) → k′ .marks + count 8 (λ s. live (x s .state)) ≤ 8
+      → Sound (putFiles f x (withBits bits tb)) f k′
   unfolding putFiles
-  sound-files {k′} so nm lf rm al = record {
+  sound-bits {k′} bits so nm ps lf rm al = record {
     header = record { at-least = so .header .at-least; most = so .header .most; next-in = so .header .next-in };
     named = subst (λ (y : Files ℕ). (s p b : ℕ) → y s .map p ≡ stored b → b < tb .blocks) (sym (upd-same (tb .files) f x)) nm;
-    left-is = lf ∙ so .left-is;
+    bits-past = ps;
+    left-is = lf;
     room = rm;
     alive = subst (λ (y : Files ℕ). k′ .marks + count 8 (λ s. live (y s .state)) ≤ 8) (sym (upd-same (tb .files) f x)) al;
     tree = so .tree;
   }
+
+  -- LAW: the bits and the counts stay
+  pub sound-files : {k : Counts} → Sound tb f k → ((s p b : ℕ) → x s .map p ≡ stored b → b < tb .blocks) → k .marks + count 8 (λ s. live (x s .state)) ≤ 8 → Sound (putFiles f x tb) f k
+  sound-files so nm al = sound-bits (tb .bits) so nm (so .bits-past) (so .left-is) (so .room) al
 
 -- what the new entry and every old one have, every entry has
 pub putEntry-all : (P : Entry ℕ → Type 0) (files : Files ℕ) (c p : ℕ) (e : Entry ℕ) → P e → ((s q : ℕ) → P (files s .map q)) → (s q : ℕ) → P (putEntry files c p e s .map q)
@@ -73,7 +80,7 @@ module _ (tb : Tables) (f : ℕ) {k : Counts} (so : Sound tb f k) where
   pub sound-entry : (c q : ℕ) (e : Entry ℕ) → ((b : ℕ) → e ≡ stored b → b < tb .blocks) → Sound (putFiles f (putEntry (tb .files f) c q e) tb) f k
   sound-entry c q e h =
       sound-files tb f (putEntry (tb .files f) c q e) so
-      (putEntry-all (λ y. (b : ℕ) → y ≡ stored b → b < tb .blocks) (tb .files f) c q e h (λ s p. so .named s p)) refl (so .room)
+      (putEntry-all (λ y. (b : ℕ) → y ≡ stored b → b < tb .blocks) (tb .files f) c q e h (λ s p. so .named s p))
       (subst (λ (g : ℕ → Bool). k .marks + count 8 g ≤ 8) (fun-ext (λ s. ap live (sym (putEntry-state (tb .files f) c q e s)))) (so .alive))
 
   -- LAW: a state that is live only where the old one was
@@ -83,7 +90,7 @@ module _ (tb : Tables) (f : ℕ) {k : Counts} (so : Sound tb f k) where
       let x = tb .files f in
       let v : File ℕ = record { state = l; size = n; map = x c .map } in
       sound-files tb f (upd x c v) so
-      (λ s p b e. so .named s p b (ap (λ (m : ℕ → Entry ℕ). m p) (sym (upd-keeps (λ (y : File ℕ). y .map) x c v refl s)) ∙ e)) refl (so .room)
+      (λ s p b e. so .named s p b (ap (λ (m : ℕ → Entry ℕ). m p) (sym (upd-keeps (λ (y : File ℕ). y .map) x c v refl s)) ∙ e))
       (let m = count-fewer 8 (λ s. live (x s .state)) (λ s. live (upd x c v s .state)) (λ s l. upd-live x c v s h) in omega (arith, so .alive))
 
   -- LAW: a block taken
@@ -93,9 +100,10 @@ module _ (tb : Tables) (f : ℕ) {k : Counts} (so : Sound tb f k) where
   sound-took {k′} b lt un lf tc mk = record {
     header = record { at-least = so .header .at-least; most = so .header .most; next-in = mod-lt (b + 1) (so .header .at-least) };
     named = so .named;
+    bits-past = λ i l. upd-other (tb .bits) b true i (λ e. omega (arith, lt, l, e)) ∙ so .bits-past i l;
     left-is = (let x = count-less (tb .blocks) (λ i. not (tb .bits i)) (λ i. not (upd (tb .bits) b true i)) b lt (ap not un)
         (ap not (upd-same (tb .bits) b true)) (λ i n. ap not (upd-other (tb .bits) b true i n)) in omega (arith, so .left-is));
-    room = omega (arith, so .room);
+    room = omega (arith, so .room, mk);
     alive = subst (λ m. m + count 8 (λ s. live (tb .files f s .state)) ≤ 8) (sym mk) (so .alive);
     tree = so .tree;
   }

@@ -76,7 +76,7 @@ settled-step {t} {f} {k} c re u =
     let tree = treeOf (tb .sets) in
     let x = settleFile tree c (tb .files f) in
     changed tb x refl (u .view) re (u .packed) refl
-    (sound-files tb f x so (λ s q b e. so .named s q b (sym (settle-ent tree c (tb .files f) s q) ∙ e)) refl (so .room)
+    (sound-files tb f x so (λ s q b e. so .named s q b (sym (settle-ent tree c (tb .files f) s q) ∙ e))
     (subst (λ (g : ℕ → Bool). k .marks + count 8 g ≤ 8) (fun-ext (λ s. sym (settle-live tree (tb .files f) c s))) (so .alive)))
     (settle real tree c) (λ h. refl)
 

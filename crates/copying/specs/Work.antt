@@ -41,12 +41,14 @@ pub record Rest : Type 0 where
 abbrev pub rest : Tables → ℕ → Rest
 rest tb f = record { blocks = tb .blocks; sets = tb .sets; others = upd (tb .files) f (λ s. absentFile) }
 
--- What a step needs of the state: header and blocks in range, the count of free blocks right, no count that can grow too large, and sets that are a tree.
+-- What a step needs of the state: header and blocks in range, no bit set from B on, the count of free blocks right, no count that can grow too large (each
+-- marking adds one mark or more and leaves 4,096 free blocks at most), and sets that are a tree.
 pub record Sound (tb : Tables) (f : ℕ) (k : Counts) : Type 0 where
   pub header : HeaderIn tb
   pub named : (s p b : ℕ) → tb .files f s .map p ≡ stored b → b < tb .blocks
+  pub bits-past : (b : ℕ) → tb .blocks ≤ b → tb .bits b ≡ false
   pub left-is : k .left ≡ count (tb .blocks) (λ b. not (tb .bits b))
-  pub room : k .taken + k .copies + k .left ≤ 4096
+  pub room : k .taken + k .copies + k .left ≤ 4096 * (k .marks + 1)
   pub alive : k .marks + count 8 (λ s. live (tb .files f s .state)) ≤ 8
   pub tree : TreeOk (treeOf (tb .sets))
 

@@ -22,6 +22,7 @@ use tables::entries::Block;
 use tables::entries::Entry;
 use tables::entries::Kept;
 use tables::entries::Page;
+use tables::header;
 use tables::sets;
 
 // The counts of a call, and the free blocks that are left.
@@ -65,7 +66,7 @@ enum How {
 }
 
 // A stored page for set c: copied; or "with none free, the child's file is marked", where it must be copied. An extra page "stays
-// unmapped".
+// unmapped". "A later copy in the same call may take these blocks": the free ones are counted again.
 fn give_block(
     t: &mut [u8],
     p: &mut [u8],
@@ -88,7 +89,7 @@ fn give_block(
             taken: k.taken,
             copies: k.copies,
             marks: k.marks + n,
-            left: k.left,
+            left: header::free_blocks(&*t),
         };
     }
     copy_to(t, p, f, c, page, b, k)

@@ -31,7 +31,7 @@ pub struct Reservation {
 
 // A block is taken.
 fn take_own(t: &mut [u8], k: Counts) -> OwnBlock
-    requires { ⌜ PackedTables (now t) × HeaderIn (unpack (now t)) × (0 < count (unpack (now t) .blocks) (λ b. not (unpack (now t) .bits b))) × (0 < k .left) × (k .taken ≤ 4096) ⌝ }
+    requires { ⌜ PackedTables (now t) × HeaderIn (unpack (now t)) × (0 < count (unpack (now t) .blocks) (λ b. not (unpack (now t) .bits b))) × (0 < k .left) × (k .taken ≤ 36864) ⌝ }
     ensures { λ r. ⌜ TakenOwn (now (t .entry)) (now (t .exit)) k (r .block .0) (r .counts) ⌝ }
 {
     let b = entries::take_block(t);

@@ -24,13 +24,13 @@ pub fn record_masks(m: u64) -> [u64; 128]
     [m; 128]
 }
 
-// Is the map at a byte all zero? The eight bytes v before its third entry are looked at first: those of an absent or a
-// virgin file are 0 or 128. What they are besides makes no difference.
+// Is the map at a byte all zero? The eight bytes v before its third entry are looked at first: those of an absent, a virgin
+// or a marked file are 0, 128 or 192. What they are besides makes no difference.
 fn is_blank(t: &[u8], at: usize, v: u64) -> bool
     requires { ⌜ at + 128 ≤ length (now t) ⌝ }
     ensures { λ r. ⌜ (r ≡ true → zeroBytes (now (t .entry)) at 128 ≡ true) ⌝ }
 {
-    if v | 128 != 128 {
+    if v | 192 != 192 {
         return false;
     }
     words::all_zero(t, at, 128)

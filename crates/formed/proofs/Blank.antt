@@ -1,5 +1,5 @@
 -- Sets from which on the file records are zero: they pass every rule that concerns one file. Assumes nothing.
-use mathlib.Core.Bool.{false, true}
+use mathlib.Core.Bool.{Bool, false, true}
 use mathlib.Core.List.{List, _++_}
 use mathlib.Core.Path.{ap, refl, sym, _∙_, _≡_}
 use Prim.Native.Nat.{_*_, _+_, _-_, _<_, suc, zero, ℕ, _≤_}
@@ -46,9 +46,9 @@ module _ (front files : List ℕ) (len : length front ≡ filesAt) (n : ℕ) (b 
       mask-all isUnmapped (unpack t .files f s .map)
       ∙ all-of 64 (λ p. isUnmapped (unpack t .files f s .map p)) (λ p l. ap (λ (x : File ℕ). isUnmapped (x .map p)) absent-here)
 
-  pub blank-alone : fileAlone t f s ≡ true
-  blank-alone =
-      sym (alone-zero t f s (headWord t f s) (pageMask isUnmapped (unpack t .files f s .map)) lf ls refl refl (head-zero t f s lf ls zeros)) ∙ every-page
+  pub blank-alone : (older : Bool) → fileAlone t older f s ≡ true
+  blank-alone older =
+      sym (alone-zero t f s (headWord t f s) (pageMask isUnmapped (unpack t .files f s .map)) lf ls refl refl older (head-zero t f s lf ls zeros)) ∙ every-page
 
   pub blank-end : endOf (unpack t .files f s .state) (unpack t .files f s .size) ≡ 64
   unfolding endOf

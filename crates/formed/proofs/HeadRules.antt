@@ -14,7 +14,7 @@ use Rattle.base.specs.Logic.{and-false, and-true, same?, test?}
 use Rattle.entrycheck.proofs.Lists.{put-more}
 use Rattle.entrycheck.specs.Records.{AllAre, BlankFrom}
 use Rattle.masks.specs.Pages.{pageMask}
-use Rattle.formed.proofs.AloneRules.{alone-head, head-virgin, head-zero, size-is, state-is}
+use Rattle.formed.proofs.AloneRules.{alone-head, head-virgin, head-zero, older-alone, size-is, state-is}
 use Rattle.formed.proofs.Blank.{blank-alone, blank-dead, blank-end}
 use Rattle.formed.proofs.FileHead.{first-byte}
 use Rattle.formed.proofs.LinkedRules.{live-used}
@@ -41,55 +41,55 @@ module _ (s digit u : ℕ) where
     virgin-set e = rw (ne-eqb digit 0 h, eq-eqb u 18446744073709551615 e)
 
 -- ---- one head, by the eight bytes v from its first on
-module _ (files : List ℕ) (at v u s digit : ℕ) (e : v ≡ lowWord 7 files at) (ends : List ℕ) (lives : ℕ) where
+module _ (older : Bool) (files : List ℕ) (at v u s digit : ℕ) (e : v ≡ lowWord 7 files at) (ends : List ℕ) (lives : ℕ) where
   abbrev w : ℕ
   w = getWord 3 files at
 
   -- LAW: an absent file
-  pub bytes-none : v ≡ 0 → getD ends s 0 ≡ 64 → HeadPassed w u s digit ends ends lives lives (eqb u 18446744073709551615)
+  pub bytes-none : v ≡ 0 → getD ends s 0 ≡ 64 → HeadPassed older w u s digit ends ends lives lives (eqb u 18446744073709551615)
   unfolding endOf
   bytes-none z n =
       let q : w ≡ 0 = sym (first-byte files at v e (λ h. absurd (omega arith))) ∙ ap (λ x. x * 16777216) z in
       record {
-        decided = head-zero w u (not (eqb digit 0)) (eqb s 0) q;
+        decided = head-zero older w u (not (eqb digit 0)) (eqb s 0) q;
         ends-are = sym (set-getD ends s 0) ∙ ap (set ends s) (n ∙ ap (λ x. endOf (stateOf (x / 1073741824)) (readSize x)) (sym q));
         lives-are = sym (ap (λ x. bitOr lives (cond (live (stateOf (x / 1073741824))) digit 0)) q ∙ or-zero-r lives);
       }
 
   -- LAW: a virgin one of size 0
   pub bytes-virgin : v ≡ 128 → getD ends s 0 ≡ 64 → (lives′ : ℕ) (r : Bool)
-      → (r ≡ (not (eqb digit 0) && (eqb u 18446744073709551615 && not (eqb s 0)))) × (lives′ ≡ bitOr lives digit) → HeadPassed w u s digit ends ends lives lives′ r
+      → (r ≡ (not (eqb digit 0) && (eqb u 18446744073709551615 && not (eqb s 0)))) × (lives′ ≡ bitOr lives digit) → HeadPassed older w u s digit ends ends lives lives′ r
   unfolding endOf
   bytes-virgin z n lives′ r k =
       let q : w ≡ 2147483648 = sym (first-byte files at v e (λ h. z)) ∙ ap (λ x. x * 16777216) z in
       record {
-        decided = k .0 ∙ sym (ap (λ x. headFormed x u (not (eqb digit 0)) (eqb s 0)) q ∙ head-virgin u (not (eqb digit 0)) (eqb s 0));
+        decided = k .0 ∙ sym (ap (λ x. headFormed older x u (not (eqb digit 0)) (eqb s 0)) q ∙ head-virgin older u (not (eqb digit 0)) (eqb s 0));
         ends-are = sym (set-getD ends s 0) ∙ ap (set ends s) (n ∙ ap (λ x. endOf (stateOf (x / 1073741824)) (readSize x)) (sym q));
         lives-are = k .1 ∙ ap (λ x. bitOr lives (cond (live (stateOf (x / 1073741824))) digit 0)) (sym q);
       }
 
   -- LAW: any head, x being its word as the code has it
   pub bytes-any : (x : ℕ) → x ≡ w → (end y : ℕ) (r : Bool) → end ≡ endOf (stateOf (x / 1073741824)) (readSize x)
-      → y ≡ cond (live (stateOf (x / 1073741824))) digit 0 → r ≡ headFormed x u (not (eqb digit 0)) (eqb s 0)
-      → HeadPassed w u s digit ends (set ends s end) lives (bitOr lives y) r
+      → y ≡ cond (live (stateOf (x / 1073741824))) digit 0 → r ≡ headFormed older x u (not (eqb digit 0)) (eqb s 0)
+      → HeadPassed older w u s digit ends (set ends s end) lives (bitOr lives y) r
   bytes-any x q end y r he hy hr = record {
-    decided = hr ∙ ap (λ z. headFormed z u (not (eqb digit 0)) (eqb s 0)) q;
+    decided = hr ∙ ap (λ z. headFormed older z u (not (eqb digit 0)) (eqb s 0)) q;
     ends-are = ap (set ends s) (he ∙ ap (λ z. endOf (stateOf (z / 1073741824)) (readSize z)) q);
     lives-are = ap (bitOr lives) (hy ∙ ap (λ z. cond (live (stateOf (z / 1073741824))) digit 0) q);
   }
 
 -- ---- the heads of the files of number f in the sets before set s
-pub record HeadsTo (t : List ℕ) (f : ℕ) (ends : List ℕ) (lives s : ℕ) : Type 0 where
-  pub alone : (x : ℕ) → x < s → fileAlone t f x ≡ true
+pub record HeadsTo (older : Bool) (t : List ℕ) (f : ℕ) (ends : List ℕ) (lives s : ℕ) : Type 0 where
+  pub alone : (x : ℕ) → x < s → fileAlone t older f x ≡ true
   pub ends-are : EndsTo (unpack t .files f) s ends
   pub lives-are : LivesTo (unpack t .sets) (unpack t .files f) s lives
   -- those of the other sets are as they were
   pub rest-ends : (x : ℕ) → s ≤ x → x < 8 → getD ends x 0 ≡ 64
   pub rest-lives : (x : ℕ) → s ≤ x → x < 8 → isOne (bit lives (placeOf (unpack t .sets) x)) ≡ false
 
-module _ (t : List ℕ) (f : ℕ) where
+module _ (older : Bool) (t : List ℕ) (f : ℕ) where
   -- LAW: no set yet
-  pub heads-start : (ends : List ℕ) (lives : ℕ) → AllAre setCount ends 64 → lives ≡ 0 → HeadsTo t f ends lives 0
+  pub heads-start : (ends : List ℕ) (lives : ℕ) → AllAre setCount ends 64 → lives ≡ 0 → HeadsTo older t f ends lives 0
   heads-start ends lives c e = record {
     alone = λ x l. absurd (omega arith);
     ends-are = record { len = c .0; ends-are = λ x l. absurd (omega arith) };
@@ -101,11 +101,11 @@ module _ (t : List ℕ) (f : ℕ) where
       none : (j : ℕ) → isOne (bit lives j) ≡ false
       none j = ap isOne (ap (λ x. bit x j) e ∙ bit-none j)
 
-  module _ (ends : List ℕ) (lives s : ℕ) (k : HeadsTo t f ends lives s) (lf : f < 16) (ls : s < 8) (w u digit : ℕ) (ew : w ≡ headWord t f s)
+  module _ (ends : List ℕ) (lives s : ℕ) (k : HeadsTo older t f ends lives s) (lf : f < 16) (ls : s < 8) (w u digit : ℕ) (ew : w ≡ headWord t f s)
       (eu : u ≡ pageMask isUnmapped (unpack t .files f s .map)) (d : digit ≡ placeDigit (unpack t .sets s) s)
-      (ends′ : List ℕ) (lives′ : ℕ) (ok : Bool) (x : HeadPassed w u s digit ends ends′ lives lives′ ok) where
-    decides : ok ≡ fileAlone t f s
-    decides = alone-head t f s w u lf ls ew eu (not (eqb digit 0)) ok (digit-used (unpack t .sets s) s digit d) (x .decided)
+      (ends′ : List ℕ) (lives′ : ℕ) (ok : Bool) (x : HeadPassed older w u s digit ends ends′ lives lives′ ok) where
+    decides : ok ≡ fileAlone t older f s
+    decides = alone-head t f s w u lf ls ew eu older (not (eqb digit 0)) ok (digit-used (unpack t .sets s) s digit d) (x .decided)
 
     ends-is : ends′ ≡ set ends s (endOf (unpack t .files f s .state) (unpack t .files f s .size))
     ends-is = x .ends-are ∙ ap (set ends s) (ap₂ endOf (state-is t f s w u lf ls ew eu) (size-is t f s w u lf ls ew eu))
@@ -114,14 +114,14 @@ module _ (t : List ℕ) (f : ℕ) where
     lives-is = x .lives-are ∙ ap (λ (l : State). bitOr lives (cond (live l) digit 0)) (state-is t f s w u lf ls ew eu)
 
     -- LAW: a head that passes
-    pub heads-next : not ok ≡ false → HeadsTo t f ends′ lives′ (s + 1)
+    pub heads-next : not ok ≡ false → HeadsTo older t f ends′ lives′ (s + 1)
     heads-next h =
         let a = sym decides ∙ not-false ok h in
         let g = ends-is in
         let c = lives-is in
-        let used = live-used t f s a in
+        let used = live-used t f s (older-alone t older f s a) in
         record {
-          alone = λ y l. same? y s (λ q. ap (fileAlone t f) q ∙ a) (λ q. k .alone y (omega arith));
+          alone = λ y l. same? y s (λ q. ap (fileAlone t older f) q ∙ a) (λ q. k .alone y (omega arith));
           ends-are = record {
             len = ap length g ∙ length-set ends s _ ∙ k .ends-are .len;
             ends-are = λ y l. ap (λ z. getD z y 0) g
@@ -133,20 +133,20 @@ module _ (t : List ℕ) (f : ℕ) where
         }
 
     -- LAW: a head that does not
-    pub heads-refused : not ok ≡ true → HeadsPassed t f ends′ lives′ false
+    pub heads-refused : not ok ≡ true → HeadsPassed older t f ends′ lives′ false
     heads-refused h = record {
-      decided = sym (all-not 8 (fileAlone t f) s ls (sym decides ∙ not-true ok h));
+      decided = sym (all-not 8 (fileAlone t older f) s ls (sym decides ∙ not-true ok h));
       ends-are = λ q. absurd (true≢false (sym q));
       lives-are = λ q. absurd (true≢false (sym q));
     }
 
 -- LAW: the sets before set n, and the others are blank
-module _ (front files : List ℕ) (len : length front ≡ filesAt) (f : ℕ) (ends : List ℕ) (lives s : ℕ) (k : HeadsTo (front ++ files) f ends lives s) where
-  pub heads-done : (n : ℕ) → BlankFrom files n → f < 16 → s ≡ n → HeadsPassed (front ++ files) f ends lives true
+module _ (older : Bool) (front files : List ℕ) (len : length front ≡ filesAt) (f : ℕ) (ends : List ℕ) (lives s : ℕ) (k : HeadsTo older (front ++ files) f ends lives s) where
+  pub heads-done : (n : ℕ) → BlankFrom files n → f < 16 → s ≡ n → HeadsPassed older (front ++ files) f ends lives true
   heads-done n b lf e = record {
-    decided = sym (all-of 8 (fileAlone (front ++ files) f) (λ x l. test? (ltb x s)
+    decided = sym (all-of 8 (fileAlone (front ++ files) older f) (λ x l. test? (ltb x s)
         (λ q. k .alone x (ltb-true x s q))
-        (λ q. blank-alone front files len n b f x lf (past x q) l)));
+        (λ q. blank-alone front files len n b f x lf (past x q) l older)));
     ends-are = λ h. record {
       len = k .ends-are .len;
       ends-are = λ x l. test? (ltb x s)
@@ -165,17 +165,17 @@ module _ (front files : List ℕ) (len : length front ≡ filesAt) (f : ℕ) (en
       past x q = let m = ltb-false x s q in omega arith
 
 -- ---- all rules on the files of number f
-module _ (t : List ℕ) (f : ℕ) (ends : List ℕ) (lives : ℕ) (ok : Bool) (k : HeadsPassed t f ends lives ok) where
+module _ (older : Bool) (t : List ℕ) (f : ℕ) (ends : List ℕ) (lives : ℕ) (ok : Bool) (k : HeadsPassed older t f ends lives ok) where
   -- LAW: a head does not pass
-  pub number-refused : not ok ≡ true → false ≡ numberFormed t f
+  pub number-refused : not ok ≡ true → false ≡ numberFormed t older f
   unfolding numberFormed
   number-refused h = sym (ap (λ b. all 8 (fileLinked t f) && b) (sym (k .decided) ∙ not-true ok h) ∙ and-false (all 8 (fileLinked t f)))
 
   -- LAW: all pass, and the rules that concern several sets decide
-  pub number-decided : (r : Bool) → not ok ≡ false → r ≡ all 8 (fileLinked t f) → r ≡ numberFormed t f
+  pub number-decided : (r : Bool) → not ok ≡ false → r ≡ all 8 (fileLinked t f) → r ≡ numberFormed t older f
   unfolding numberFormed
   number-decided r h e = e ∙ sym (ap (λ b. all 8 (fileLinked t f) && b) (sym (k .decided) ∙ not-false ok h) ∙ and-true (all 8 (fileLinked t f)))
 
   -- LAW: then each file passes by itself
-  pub all-alone : not ok ≡ false → (s : ℕ) → s < 8 → fileAlone t f s ≡ true
-  all-alone h s ls = all-at 8 (fileAlone t f) (sym (k .decided) ∙ not-false ok h) s ls
+  pub all-alone : not ok ≡ false → (s : ℕ) → s < 8 → fileAlone t true f s ≡ true
+  all-alone h s ls = older-alone t older f s (all-at 8 (fileAlone t older f) (sym (k .decided) ∙ not-false ok h) s ls)

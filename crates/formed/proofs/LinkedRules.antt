@@ -41,16 +41,16 @@ own-not own h = h
 own-not virgin h = refl
 own-not marked h = refl
 
-module _ (t : List ℕ) (f s : ℕ) (h : fileAlone t f s ≡ true) (lv : live (unpack t .files f s .state) ≡ true) where
+module _ (t : List ℕ) (f s : ℕ) (h : fileAlone t true f s ≡ true) (lv : live (unpack t .files f s .state) ≡ true) where
   abbrev file : File ℕ
   file = unpack t .files f s
 
   parts : (eqb (getField headWidths (headWord t f s) 2) 0 ≡ true) × ((not (isAbsent (file .state)) || zeroFile file) ≡ true)
       × ((unpack t .sets s .used || isAbsent (file .state)) ≡ true) × (sizeFormed file ≡ true)
-      × ((virginFormed file && (not (eqb s 0) || rootFileFormed file)) ≡ true)
+      × ((virginFormed file && true && (not (eqb s 0) || rootFileFormed file)) ≡ true)
   unfolding fileAlone
   parts = and-5 (eqb (getField headWidths (headWord t f s) 2) 0) (not (isAbsent (file .state)) || zeroFile file) (unpack t .sets s .used || isAbsent (file .state))
-      (sizeFormed file) (virginFormed file && (not (eqb s 0) || rootFileFormed file)) h
+      (sizeFormed file) (virginFormed file && true && (not (eqb s 0) || rootFileFormed file)) h
 
   -- LAW: its set is used
   pub live-used : unpack t .sets s .used ≡ true
@@ -60,7 +60,7 @@ module _ (t : List ℕ) (f s : ℕ) (h : fileAlone t f s ≡ true) (lv : live (u
   -- LAW: in set 0, no page is unmapped
   root-mapped : s ≡ 0 → pageMask isUnmapped (file .map) ≡ 0
   root-mapped e =
-      let r = not-then (eqb s 0) (rootFileFormed file) (and-right (virginFormed file) (not (eqb s 0) || rootFileFormed file) (parts .4)) (eq-eqb s 0 e) in
+      let r = not-then (eqb s 0) (rootFileFormed file) (and-right (virginFormed file && true) (not (eqb s 0) || rootFileFormed file) (parts .4)) (eq-eqb s 0 e) in
       let q = or-then (isAbsent (file .state)) (not (isVirgin (file .state)) && not (isMarked (file .state)) && not (someUnmapped 64 (file .map))) r (live-present (file .state) lv) in
       let n = and-right (not (isVirgin (file .state)) && not (isMarked (file .state))) (not (someUnmapped 64 (file .map))) q in
       eqb-true (pageMask isUnmapped (file .map)) 0 (not-false (eqb (pageMask isUnmapped (file .map)) 0) (mask-some (file .map) ∙ not-true (someUnmapped 64 (file .map)) n))

@@ -1,4 +1,4 @@
--- The rules of well formed tables that concern file records, file by file. Document 01, "Packed tables".
+-- The rules of well formed tables that concern file records, file by file. Document 01, "Packed tables"; document 02, Ask 10.
 use mathlib.Core.Bool.{_&&_, Bool, cond, not, true, _||_}
 use mathlib.Core.List.{List}
 use mathlib.Core.Path.{_≡_}
@@ -17,20 +17,23 @@ use Rattle.rules.specs.WellFormed.{aboveFormed, pastFormed, rootFileFormed, siz
 use Rattle.tables.specs.Layout.{headWidths, headWord, readSize, stateOf}
 use Rattle.tables.specs.Packed.{unpack}
 
--- "A virgin file has size 0 and only unmapped entries. Set 0 has no virgin or marked file and no unmapped entry outside absent files": of a file that is
--- not absent, by its state and size, whether all its entries are unmapped, whether some are, and whether it is one of set 0
-unfoldable pub stateFormed : State → ℕ → Bool → Bool → Bool → Bool
-stateFormed state size every any root =
-    (not (isVirgin state) || (eqb size 0 && every)) && (not root || (isAbsent state || (not (isVirgin state) && not (isMarked state) && not any)))
+-- "A virgin file has size 0 and only unmapped entries. Set 0 has no virgin or marked file and no unmapped entry outside absent files", and a marked one has size 0 and
+-- only unmapped entries, in tables that are not older: of a file that is not absent, by its state and size, whether all its entries are unmapped, whether some are, and
+-- whether it is one of set 0
+unfoldable pub stateFormed : Bool → State → ℕ → Bool → Bool → Bool → Bool
+stateFormed older state size every any root =
+    (not (isVirgin state) || (eqb size 0 && every)) && (older || (not (isMarked state) || (eqb size 0 && every)))
+    && (not root || (isAbsent state || (not (isVirgin state) && not (isMarked state) && not any)))
 
 -- the rules on one file that concern no other: besides, by the zero field of its head, and whether its set is used
-unfoldable pub aloneFormed : ℕ → State → ℕ → Bool → Bool → Bool → Bool → Bool
-aloneFormed zeros state size every any used root =
-    eqb zeros 0 && (not (isAbsent state) || (eqb size 0 && every)) && (used || isAbsent state) && leb size largestSize && stateFormed state size every any root
+unfoldable pub aloneFormed : Bool → ℕ → State → ℕ → Bool → Bool → Bool → Bool → Bool
+aloneFormed older zeros state size every any used root =
+    eqb zeros 0 && (not (isAbsent state) || (eqb size 0 && every)) && (used || isAbsent state) && leb size largestSize && stateFormed older state size every any root
 
 -- the same by the word w of its head and the mask u of its unmapped pages
-unfoldable pub headFormed : ℕ → ℕ → Bool → Bool → Bool
-headFormed w u used root = aloneFormed (getField headWidths w 2) (stateOf (w / 1073741824)) (readSize w) (eqb u 18446744073709551615) (not (eqb u 0)) used root
+unfoldable pub headFormed : Bool → ℕ → ℕ → Bool → Bool → Bool
+headFormed older w u used root =
+    aloneFormed older (getField headWidths w 2) (stateOf (w / 1073741824)) (readSize w) (eqb u 18446744073709551615) (not (eqb u 0)) used root
 
 -- the head whose first byte is the least significant of v
 unfoldable pub turned : ℕ → ℕ
@@ -38,19 +41,19 @@ turned v = v % 256 * 16777216 + v / 256 % 256 * 65536 + v / 65536 % 256 * 256 + 
 
 module _ (t : List ℕ) where
   -- the rules on file f of set s that concern no other file
-  unfoldable pub fileAlone : ℕ → ℕ → Bool
-  fileAlone f s =
+  unfoldable pub fileAlone : Bool → ℕ → ℕ → Bool
+  fileAlone older f s =
       let x : File ℕ = unpack t .files f s in
       eqb (getField headWidths (headWord t f s) 2) 0 && (not (isAbsent (x .state)) || zeroFile x) && (unpack t .sets s .used || isAbsent (x .state))
-      && sizeFormed x && (virginFormed x && (not (eqb s 0) || rootFileFormed x))
+      && sizeFormed x && (virginFormed x && (older || (not (isMarked (x .state)) || zeroFile x)) && (not (eqb s 0) || rootFileFormed x))
 
   -- those that concern the files of the sets above it too
   unfoldable pub fileLinked : ℕ → ℕ → Bool
   fileLinked f s = aboveFormed (unpack t) f s && pastFormed (unpack t) f s
 
   -- all rules on the files of number f
-  unfoldable pub numberFormed : ℕ → Bool
-  numberFormed f = all setCount (fileLinked f) && all setCount (fileAlone f)
+  unfoldable pub numberFormed : Bool → ℕ → Bool
+  numberFormed older f = all setCount (fileLinked f) && all setCount (fileAlone older f)
 
 -- the first page wholly past the size of an own file; 64 of any other
 unfoldable pub endOf : State → ℕ → ℕ
@@ -108,7 +111,7 @@ pub record Numbered (t : List ℕ) (f : ℕ) (digits parents stored unmapped end
   pub masks : MasksAre t stored unmapped
   pub ends-are : EndsTo (unpack t .files f) setCount ends
   pub lives-are : LivesTo (unpack t .sets) (unpack t .files f) setCount lives
-  pub alone : (s : ℕ) → s < setCount → fileAlone t f s ≡ true
+  pub alone : (s : ℕ) → s < setCount → fileAlone t true f s ≡ true
 
 -- the pages of file f that resolve to stored in set s
 abbrev pub resolvedMask : List ℕ → ℕ → ℕ → ℕ

@@ -24,13 +24,13 @@ pub record UsedTo (sets : ℕ → SetRecord) (n : ℕ) : Type 0 where
 
 -- the head w of a file of set s, which has the digit given and the unmapped pages u, has been looked at: the rules that concern no other file decide; the file's
 -- end is kept, and whether it is own or virgin
-pub record HeadPassed (w u s digit : ℕ) (ends ends′ : List ℕ) (lives lives′ : ℕ) (ok : Bool) : Type 0 where
-  pub decided : ok ≡ headFormed w u (not (eqb digit 0)) (eqb s 0)
+pub record HeadPassed (older : Bool) (w u s digit : ℕ) (ends ends′ : List ℕ) (lives lives′ : ℕ) (ok : Bool) : Type 0 where
+  pub decided : ok ≡ headFormed older w u (not (eqb digit 0)) (eqb s 0)
   pub ends-are : ends′ ≡ set ends s (endOf (stateOf (w / 1073741824)) (readSize w))
   pub lives-are : lives′ ≡ bitOr lives (cond (live (stateOf (w / 1073741824))) digit 0)
 
 -- the heads of the files of number f have been looked at
-pub record HeadsPassed (t : List ℕ) (f : ℕ) (ends : List ℕ) (lives : ℕ) (ok : Bool) : Type 0 where
-  pub decided : ok ≡ all setCount (fileAlone t f)
+pub record HeadsPassed (older : Bool) (t : List ℕ) (f : ℕ) (ends : List ℕ) (lives : ℕ) (ok : Bool) : Type 0 where
+  pub decided : ok ≡ all setCount (fileAlone t older f)
   pub ends-are : ok ≡ true → EndsTo (unpack t .files f) setCount ends
   pub lives-are : ok ≡ true → LivesTo (unpack t .sets) (unpack t .files f) setCount lives

@@ -16,29 +16,32 @@ fn zero_file(n: u32, u: u64) -> bool
     u == 0xFFFF_FFFF_FFFF_FFFF
 }
 
-// A file that is not absent, of state k and size n.
-fn state_formed(k: u32, n: u32, u: u64, root: bool) -> bool
+// A file that is not absent, of state k and size n. A marked file of older tables may keep its record.
+fn state_formed(k: u32, n: u32, u: u64, root: bool, older: bool) -> bool
     requires { ⌜ (0 < k) × (k < 4) ⌝ }
-    ensures { λ r. ⌜ r ≡ stateFormed (stateOf k) n (eqb u 18446744073709551615) (not (eqb u 0)) root ⌝ }
+    ensures { λ r. ⌜ r ≡ stateFormed older (stateOf k) n (eqb u 18446744073709551615) (not (eqb u 0)) root ⌝ }
 {
-    if k == 2 {
-        if root {
-            return false;
+    if k == 1 {
+        if !root {
+            return true;
         }
-        return zero_file(n, u);
+        return u == 0;
     }
-    if !root {
-        return true;
-    }
-    if k == 3 {
+    if root {
         return false;
     }
-    u == 0
+    if k == 2 {
+        return zero_file(n, u);
+    }
+    if older {
+        return true;
+    }
+    zero_file(n, u)
 }
 
 // A file by the word w of its head and the mask u of its unmapped pages.
-pub fn head_formed(w: u32, u: u64, used: bool, root: bool) -> bool
-    ensures { λ r. ⌜ r ≡ headFormed w u used root ⌝ }
+pub fn head_formed(w: u32, u: u64, used: bool, root: bool, older: bool) -> bool
+    ensures { λ r. ⌜ r ≡ headFormed older w u used root ⌝ }
 {
     if w % 16384 != 0 {
         return false;
@@ -54,5 +57,5 @@ pub fn head_formed(w: u32, u: u64, used: bool, root: bool) -> bool
     if n > 32768 {
         return false;
     }
-    state_formed(k, n, u, root)
+    state_formed(k, n, u, root, older)
 }

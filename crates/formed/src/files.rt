@@ -1,5 +1,5 @@
 // The rules on file records, by the heads of the records and the masks of their pages: the file numbers outside, the sets
-// inside. Those from set n on are zero, and their sets unused.
+// inside. Those from set n on are zero, and their sets unused. In older tables a marked file may keep its record.
 ghost use mathlib.Core.List.{_++_};
 ghost use mathlib.Core.Path.{_≡_};
 ghost use Prim.Native.Nat.{ℕ, _*_, _+_, _<_};
@@ -28,12 +28,22 @@ fn pass_heads(
     digits: &[u64; 8],
     f: usize,
     n: usize,
+    older: bool,
 ) -> bool
     requires { ⌜ (length (now front) ≡ filesAt) × (length (now files) ≡ allFilesBytes) × ((s : ℕ) → s < 8 → getD (now unmapped) (s * 16 + f) 0 ≡ pageMask isUnmapped (unpack (now front ++ now files) .files f s .map)) × AllAre setCount (now ends) 64 × (now lives ≡ 0) × DigitsAre (unpack (now front ++ now files) .sets) (now digits) × (f < 16) × BlankFrom (now files) n ⌝ }
-    ensures { λ r. ⌜ HeadsPassed (now (front .entry) ++ now (files .entry)) f (now (ends .exit)) (now (lives .exit)) r ⌝ }
+    ensures { λ r. ⌜ HeadsPassed older (now (front .entry) ++ now (files .entry)) f (now (ends .exit)) (now (lives .exit)) r ⌝ }
 {
     for s in 0..n {
-        if !pass_head(files, ends, lives, f, s, digits[s], unmapped[s * 16 + f]) {
+        if !pass_head(
+            files,
+            ends,
+            lives,
+            f,
+            s,
+            digits[s],
+            unmapped[s * 16 + f],
+            older,
+        ) {
             return false;
         }
     }
@@ -50,13 +60,24 @@ fn number_formed(
     parents: &[usize; 8],
     f: usize,
     n: usize,
+    older: bool,
 ) -> bool
     requires { ⌜ (length (now front) ≡ filesAt) × (length (now files) ≡ allFilesBytes) × Falling (unpack (now front ++ now files) .sets) × MasksAre (now front ++ now files) (now stored) (now unmapped) × Places (unpack (now front ++ now files) .sets) (now digits) (now parents) × (f < 16) × BlankFrom (now files) n ⌝ }
-    ensures { λ r. ⌜ r ≡ numberFormed (now (front .entry) ++ now (files .entry)) f ⌝ }
+    ensures { λ r. ⌜ r ≡ numberFormed (now (front .entry) ++ now (files .entry)) older f ⌝ }
 {
     let mut ends = numbers_of(64);
     let mut lives: u64 = 0;
-    if !pass_heads(front, files, unmapped, &mut ends, &mut lives, digits, f, n) {
+    if !pass_heads(
+        front,
+        files,
+        unmapped,
+        &mut ends,
+        &mut lives,
+        digits,
+        f,
+        n,
+        older,
+    ) {
         return false;
     }
     files_linked(
@@ -79,15 +100,26 @@ pub fn records_formed(
     stored: &[u64; 128],
     unmapped: &[u64; 128],
     n: usize,
+    older: bool,
 ) -> bool
     requires { ⌜ (length (now front) ≡ filesAt) × (length (now files) ≡ allFilesBytes) × Falling (unpack (now front) .sets) × MasksAre (now front ++ now files) (now stored) (now unmapped) × BlankFrom (now files) n × UnusedFrom (unpack (now front) .sets) n ⌝ }
-    ensures { λ r. ⌜ r ≡ fileRecordsFormed (now (front .entry) ++ now (files .entry)) ⌝ }
+    ensures { λ r. ⌜ r ≡ fileRecordsFormed older (now (front .entry) ++ now (files .entry)) ⌝ }
 {
     let mut digits = masks_of(0);
     let mut parents = numbers_of(8);
     put_places(front, &mut digits, &mut parents, n);
     for f in 0..16 {
-        if !number_formed(front, files, stored, unmapped, &digits, &parents, f, n) {
+        if !number_formed(
+            front,
+            files,
+            stored,
+            unmapped,
+            &digits,
+            &parents,
+            f,
+            n,
+            older,
+        ) {
             return false;
         }
     }

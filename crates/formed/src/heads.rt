@@ -62,7 +62,7 @@ fn pass_virgin(lives: &mut u64, s: usize, digit: u64, u: u64) -> bool
 
 // The head of file f of set s, which has the digit given and the unmapped pages u. The file's end is kept, and whether it
 // is own or virgin; `ends` has 64 already, the end of an absent file and of a virgin one of size 0. The head is read with
-// the first two entries, the first byte the least significant.
+// the first two entries, the first byte the least significant. In older tables a marked file may keep its record.
 pub fn pass_head(
     files: &[u8],
     ends: &mut [usize; 8],
@@ -71,9 +71,10 @@ pub fn pass_head(
     s: usize,
     digit: u64,
     u: u64,
+    older: bool,
 ) -> bool
     requires { ⌜ (length (now files) ≡ allFilesBytes) × (getD (now ends) s 0 ≡ 64) × (f < 16) × (s < 8) ⌝ }
-    ensures { λ r. ⌜ HeadPassed (getWord 3 (now (files .entry)) ((s * 16 + f) * fileBytes)) u s digit (now (ends .entry)) (now (ends .exit)) (now (lives .entry)) (now (lives .exit)) r ⌝ }
+    ensures { λ r. ⌜ HeadPassed older (getWord 3 (now (files .entry)) ((s * 16 + f) * fileBytes)) u s digit (now (ends .entry)) (now (ends .exit)) (now (lives .entry)) (now (lives .exit)) r ⌝ }
 {
     let v = words::low64(files, (s * 16 + f) * FILE_BYTES);
     if v == 0 {
@@ -85,5 +86,5 @@ pub fn pass_head(
     let w = head_of(v);
     ends[s] = end_of(w);
     *lives = *lives | live_digit(w, digit);
-    head_formed(w, u, digit != 0, s == 0)
+    head_formed(w, u, digit != 0, s == 0, older)
 }

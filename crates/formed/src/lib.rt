@@ -2,13 +2,13 @@
 // entries and the bitmap, and by nothing else; then come the length of the pages buffer, the zero fields, the set records
 // with their chains, and the heads of the file records. The tables are looked at as two slices: front, the header, the bitmap
 // and the set records; and files, the file records.
-ghost use mathlib.Core.Bool.{false};
+ghost use mathlib.Core.Bool.{cond, false};
 ghost use mathlib.Core.List.{_++_};
 ghost use mathlib.Core.Path.{_≡_};
 ghost use Prim.Native.Nat.{_≤_};
 ghost use lib.ListN.{length};
 ghost use Rattle.tables.specs.Layout.{allFilesBytes, filesAt};
-ghost use Rattle.tables.specs.Packed.{blockRules, unpack, wellFormed};
+ghost use Rattle.tables.specs.Packed.{blockRules, termedWellFormed, unpack, wellFormed};
 ghost use Rattle.entrycheck.specs.Records.{AllAre, BlankFrom};
 ghost use Rattle.entrycheck.specs.Seeing.{recordCount};
 ghost use Rattle.formed.specs.First.{FirstPassed};
@@ -86,11 +86,11 @@ pub fn blocks_formed(t: &[u8]) -> bool
     first.ok
 }
 
-// "Well formed means all of": tables of right length in two parts, with a pages buffer of n bytes. The bitmap and the
-// entries go before the set chains.
-pub fn parts_formed(front: &[u8], files: &[u8], n: usize) -> bool
+// "Well formed means all of": tables of right length in two parts, with a pages buffer of n bytes. Older tables are held
+// to the rules before Ask 10. The bitmap and the entries go before the set chains.
+pub fn parts_formed(front: &[u8], files: &[u8], n: usize, older: bool) -> bool
     requires { ⌜ (length (now front) ≡ filesAt) × (length (now files) ≡ allFilesBytes) ⌝ }
-    ensures { λ r. ⌜ r ≡ wellFormed (now (front .entry) ++ now (files .entry)) n ⌝ }
+    ensures { λ r. ⌜ r ≡ cond older (termedWellFormed (now (front .entry) ++ now (files .entry)) n) (wellFormed (now (front .entry) ++ now (files .entry)) n) ⌝ }
 {
     let mut stored = record_masks(0);
     let mut unmapped = record_masks(0xFFFF_FFFF_FFFF_FFFF);
@@ -107,7 +107,7 @@ pub fn parts_formed(front: &[u8], files: &[u8], n: usize) -> bool
     if !sets_formed(front) {
         return false;
     }
-    records_formed(front, files, &stored, &unmapped, first.blank)
+    records_formed(front, files, &stored, &unmapped, first.blank, older)
 }
 
 // The same of tables t as they stand.
@@ -117,5 +117,5 @@ pub fn well_formed(t: &[u8], n: usize) -> bool
     if t.len() != TABLE_BYTES {
         return false;
     }
-    parts_formed(&t[0..FILES_AT], &t[FILES_AT..], n)
+    parts_formed(&t[0..FILES_AT], &t[FILES_AT..], n, false)
 }

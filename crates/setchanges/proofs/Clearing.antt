@@ -15,8 +15,8 @@ use Rattle.rules.specs.Rules.{each, freeMap, from}
 use Rattle.rules.specs.State.{Files, Tables, absentFile, fileCount}
 use Rattle.rules.specs.Storage.{Memory, PageData, real}
 use Rattle.setchanges.proofs.ChildFiles.{past-last}
-use Rattle.setchanges.proofs.Freeing.{each-through, free-map-bits, freedBits, memoryWith}
-use Rattle.setchanges.specs.Changes.{erasedIn, BlocksIn, clearedIn, freedIn, noPages, withBits}
+use Rattle.setchanges.proofs.Freeing.{each-through, free-map-bits, freed-by-bits, freedBits, memoryWith}
+use Rattle.setchanges.specs.Changes.{BlocksIn, clearedIn, erasedIn, freedIn, noPages}
 use Rattle.tables.proofs.Operations.{turns-as, turns-more, turns-start, turns-then}
 use Rattle.tables.specs.Packed.{unpack}
 use Rattle.tables.specs.Views.{PackedTables, Turns, memoryOf, putFiles}
@@ -30,11 +30,6 @@ clearedTo c n tb = record {
   sets = tb .sets;
   files = λ f. cond (ltb f n) (upd (tb .files f) c absentFile) (tb .files f);
 }
-
--- freeing the blocks of one file, by the bits
-freed-by-bits : (f s : ℕ) (tb : Tables) → freedIn f s tb ≡ withBits (freedBits (tb .files f s .map) (tb .bits)) tb
-unfolding freedIn
-freed-by-bits f s tb = ap (λ (m : Memory). withBits (m .bits) tb) (free-map-bits (tb .files f s .map) (memoryOf tb noPages) (tb .bits))
 
 -- tables by their bits and their files
 bits-files : (tb : Tables) (b b′ : ℕ → Bool) (x x′ : ℕ → Files ℕ) → b ≡ b′ → x ≡ x′ →

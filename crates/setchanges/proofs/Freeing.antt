@@ -6,8 +6,10 @@ use Prim.Native.Nat.{_+_, _<_, suc, zero, ℕ}
 use native.Mathlib.Nat.{zero-add}
 use native.Mathlib.Numerals.{add-one}
 use lib.Pow.{low}
-use Rattle.base.specs.Update.{upd}
+use Rattle.base.specs.Logic.{same?}
+use Rattle.base.specs.Update.{upd, upd-other, upd-same}
 use Rattle.packing.specs.Zeros.{zero-at, zeroBytes}
+use Rattle.rules.proofs.Steps.StepFour.{each-inv}
 use Rattle.rules.proofs.Tally.TallyLoops.{from-last, from-none}
 use Rattle.rules.specs.Rules.{each, freeEntry, freeMap, from}
 use Rattle.rules.specs.State.{Entry, Files, Tables, hole, largestBlocks, pageCount, stored, unmapped}
@@ -53,6 +55,21 @@ pub free-map-bits : (map : ℕ → Entry ℕ) (m : Memory) (bits : ℕ → Bool)
 unfolding freeMap freedBits
 free-map-bits map m bits = each-through (memoryWith m) (λ p. freeBit (map p)) (λ p. freeEntry real (map p)) (λ p. free-bit m (map p)) (from 0 pageCount) bits
 
+-- LAW: freeing the blocks of one file, by the bits
+pub freed-by-bits : (f s : ℕ) (tb : Tables) → freedIn f s tb ≡ withBits (freedBits (tb .files f s .map) (tb .bits)) tb
+unfolding freedIn
+freed-by-bits f s tb = ap (λ (m : Memory). withBits (m .bits) tb) (free-map-bits (tb .files f s .map) (memoryOf tb noPages) (tb .bits))
+
+-- LAW: a bit that is 0 stays 0
+pub freed-clear : (map : ℕ → Entry ℕ) (b : ℕ) (bits : ℕ → Bool) → bits b ≡ false → freedBits map bits b ≡ false
+unfolding freedBits
+freed-clear map b bits z = each-inv (λ p. freeBit (map p)) (λ x. x b ≡ false) (from 0 pageCount) (λ p x m i. one (map p) x i) bits z
+  where
+    one : (e : Entry ℕ) (x : ℕ → Bool) → x b ≡ false → freeBit e x b ≡ false
+    one unmapped x i = i
+    one hole x i = i
+    one (stored d) x i = same? d b (λ q. ap (upd x d false) (sym q) ∙ upd-same x d false) (λ q. upd-other x d false b q ∙ i)
+
 -- LAW: the memory of the tables after freeing, whatever the pages
 pub freed-memory : (f s : ℕ) (tb : Tables) (pages : ℕ → PageData) → freeMap real (tb .files f s .map) (memoryOf tb pages) ≡ memoryOf (freedIn f s tb) pages
 unfolding freedIn
@@ -91,8 +108,8 @@ freed-more f s n tb =
     entry-freed f s (freedTo f s n tb) e ∙ ap (λ (b : ℕ → Bool). withBits b tb) (ap (λ x. one x (each one (from 0 n) (tb .bits))) (sym (zero-add n)) ∙ sym (from-last one n 0 (tb .bits)))
 
 freed-all : (f s : ℕ) (tb : Tables) → freedTo f s pageCount tb ≡ freedIn f s tb
-unfolding freedTo freedIn freedBits
-freed-all f s tb = ap (λ (m : Memory). withBits (m .bits) tb) (sym (free-map-bits (tb .files f s .map) (memoryOf tb noPages) (tb .bits)))
+unfolding freedTo freedBits
+freed-all f s tb = sym (freed-by-bits f s tb)
 
 -- an entry whose block, if any, is one of the bitmap
 block-in : (e : Entry ℕ) → ((b : ℕ) → e ≡ stored b → b < largestBlocks) → blockIn e

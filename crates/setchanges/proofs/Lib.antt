@@ -2,6 +2,7 @@ pub mod Turning
 pub mod ZeroWords
 pub mod Holes
 pub mod Freeing
+pub mod Marking
 pub mod BlankTables
 pub mod Linking
 pub mod ChildFiles

@@ -6,7 +6,7 @@ use lib.Dec.{eqb, ltb}
 use borrow.Author.Tests.{le-ltb, lt-ltb}
 use Rattle.base.specs.Update.{upd}
 use Rattle.rules.specs.Calls.{newFile}
-use Rattle.rules.specs.Rules.{each, freeMap, from, holes}
+use Rattle.rules.specs.Rules.{each, freeMap, from, holes, markedFile}
 use Rattle.rules.specs.Sets.{appendSet, childFile, unlinkSet, withFirstChild, withNextSibling}
 use Rattle.rules.specs.State.{Entry, SetRecord, Tables, absentFile, fileCount, hole, largestBlocks, noSet, setCount, stored, unmapped}
 use Rattle.rules.specs.Storage.{PageData, real}
@@ -37,6 +37,10 @@ freedEntryIn (stored b) tb = putBitIn b false tb
 -- the blocks of file f of set s are free again
 unfoldable pub freedIn : ℕ → ℕ → Tables → Tables
 freedIn f s tb = withBits (freeMap real (tb .files f s .map) (memoryOf tb noPages) .bits) tb
+
+-- MARK: the blocks of file f of set s are free again, its size is 0 and its pages are all unmapped
+unfoldable pub markedIn : ℕ → ℕ → Tables → Tables
+markedIn f s tb = putFiles f (upd (tb .files f) s markedFile) (freedIn f s tb)
 
 -- the map of file f of set s is all holes
 unfoldable pub holesIn : ℕ → ℕ → Tables → Tables

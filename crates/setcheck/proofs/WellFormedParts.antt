@@ -12,24 +12,24 @@ use Rattle.packing.specs.Fields.{getField}
 use Rattle.rules.proofs.Tree.SetsFormed.{sets-formed}
 use Rattle.rules.proofs.Tree.SetsOk.{SetsOk}
 use Rattle.rules.specs.State.{isAbsent}
-use Rattle.rules.specs.WellFormed.{allFiles, allSets, bitsFormed, filesFormed, headerFormed, pagesFit, termFormed, termsFormed, treeFormed, zeroFile, zeroSet, zerosFormed}
+use Rattle.rules.specs.WellFormed.{allFiles, allSets, bitsFormed, filesFormed, headerFormed, marksFormed, olderSetsFormed, pagesFit, termFormed, termsFormed, treeFormed, zeroFile, zeroSet, zerosFormed}
 use Rattle.setcheck.specs.Records.{fileRecordsFormed, headerZero, recordFormed, recordsAlone, setRecordsFormed, setZero}
 use Rattle.tables.proofs.ReadParts.{set-default}
 use Rattle.tables.specs.Layout.{headWidths, headWord, tableBytes}
-use Rattle.tables.specs.Packed.{blockRules, fieldsFormed, kindsFormed, setRules, unpack, wellFormed}
+use Rattle.tables.specs.Packed.{blockRules, fieldsFormed, kindsFormed, olderSetRules, setRules, termedWellFormed, unpack, wellFormed}
 
 -- the parts of `setRules` in another order
-by-record : (a b c d e f g i h : Bool) → (a && b && c && (d && e && f && g && i && h)) ≡ (a && (b && (d && i) && g) && (c && e && f && h))
-by-record false b c d e f g i h = refl
-by-record true false c d e f g i h = refl
-by-record true true false d e f g i h = sym (and-false (d && i && g))
-by-record true true true false e f g i h = refl
-by-record true true true true false f g i h = sym (and-false (i && g))
-by-record true true true true true false g i h = sym (and-false (i && g))
-by-record true true true true true true false false h = refl
-by-record true true true true true true false true h = refl
-by-record true true true true true true true false h = refl
-by-record true true true true true true true true h = refl
+by-record : (a b c d e f g i h m : Bool) → (a && b && c && (d && e && f && g && i && h && m)) ≡ (a && (b && (d && i) && g) && (c && e && f && h && m))
+by-record false b c d e f g i h m = refl
+by-record true false c d e f g i h m = refl
+by-record true true false d e f g i h m = sym (and-false (d && i && g))
+by-record true true true false e f g i h m = refl
+by-record true true true true false f g i h m = sym (and-false (i && g))
+by-record true true true true true false g i h m = sym (and-false (i && g))
+by-record true true true true true true false false h m = refl
+by-record true true true true true true false true h m = refl
+by-record true true true true true true true false h m = refl
+by-record true true true true true true true true h m = refl
 
 in-pairs : (a b c d : Bool) → ((a && b) && (c && d)) ≡ ((a && c) && (b && d))
 in-pairs false b c d = refl
@@ -65,10 +65,18 @@ module _ (t : List ℕ) where
       ap (λ x. allSets (setZero t) && x)
       (sym (both-rules 8 (λ s. unpack t .sets s .used) (λ s. zeroSet (unpack t .sets s)) (λ s. termFormed (unpack t .sets s .term))))
 
-  -- LAW: the rules on zero fields, sets and files are those on the header's zero field, on set records and on file records
-  set-rules-parts : setRules t ≡ (headerZero t && setRecordsFormed t && fileRecordsFormed t)
-  unfolding setRules fieldsFormed zerosFormed setRecordsFormed fileRecordsFormed
-  set-rules-parts =
+  -- those on file records, where m is the rule on marked files
+  abbrev filesWith : Bool → Bool
+  filesWith m =
+      allFiles (λ f s. eqb (getField headWidths (headWord t f s) 2) 0)
+      && allFiles (λ f s. not (isAbsent (unpack t .files f s .state)) || zeroFile (unpack t .files f s))
+      && allFiles (λ f s. unpack t .sets s .used || isAbsent (unpack t .files f s .state))
+      && filesFormed (unpack t)
+      && m
+
+  parts-with : (m : Bool) → (fieldsFormed t && (olderSetsFormed (unpack t) && m)) ≡ (headerZero t && setRecordsFormed t && filesWith m)
+  unfolding fieldsFormed zerosFormed setRecordsFormed
+  parts-with m =
       by-record (headerZero t) (allSets (setZero t)) (allFiles (λ f s. eqb (getField headWidths (headWord t f s) 2) 0))
       (allSets (λ s. unpack t .sets s .used || zeroSet (unpack t .sets s)))
       (allFiles (λ f s. not (isAbsent (unpack t .files f s .state)) || zeroFile (unpack t .files f s)))
@@ -76,17 +84,27 @@ module _ (t : List ℕ) where
       (treeFormed (unpack t))
       (termsFormed (unpack t))
       (filesFormed (unpack t))
-      ∙ ap (λ x. headerZero t && (x && treeFormed (unpack t)) && fileRecordsFormed t) (sym alone-say)
+      m
+      ∙ ap (λ x. headerZero t && (x && treeFormed (unpack t)) && filesWith m) (sym alone-say)
+
+  -- LAW: the rules on zero fields, sets and files are those on the header's zero field, on set records and on file records
+  set-rules-parts : (older : Bool) → cond older (olderSetRules t) (setRules t) ≡ (headerZero t && setRecordsFormed t && fileRecordsFormed older t)
+  unfolding setRules olderSetRules fileRecordsFormed
+  set-rules-parts false = parts-with (marksFormed (unpack t))
+  set-rules-parts true = ap (λ b. fieldsFormed t && b) (sym (and-true (olderSetsFormed (unpack t)))) ∙ parts-with true
 
   -- LAW: the first part of the check is the length, the header, and then the entries and the bits
   pub block-rules-parts : blockRules t ≡ (eqb (length t) tableBytes && headerFormed (unpack t) && (kindsFormed t && bitsFormed (unpack t)))
   unfolding blockRules
   block-rules-parts = header-first (eqb (length t) tableBytes) (kindsFormed t) (headerFormed (unpack t)) (bitsFormed (unpack t))
 
-  -- LAW: well formed is the first part, the pages buffer's length, and then what concerns the header's zero field, set records and file records
-  pub well-formed-parts : (n : ℕ) → wellFormed t n ≡ (blockRules t && pagesFit (unpack t) n && (headerZero t && setRecordsFormed t && fileRecordsFormed t))
-  unfolding wellFormed
-  well-formed-parts n = ap (λ b. blockRules t && pagesFit (unpack t) n && b) set-rules-parts
+  -- LAW: well formed, by the rules of today or of older tables, is the first part, the pages buffer's length, and then what concerns the header's zero field, set
+  -- records and file records
+  pub well-formed-parts : (older : Bool) (n : ℕ)
+      → cond older (termedWellFormed t n) (wellFormed t n) ≡ (blockRules t && pagesFit (unpack t) n && (headerZero t && setRecordsFormed t && fileRecordsFormed older t))
+  unfolding wellFormed termedWellFormed
+  well-formed-parts false n = ap (λ b. blockRules t && pagesFit (unpack t) n && b) (set-rules-parts false)
+  well-formed-parts true n = ap (λ b. blockRules t && pagesFit (unpack t) n && b) (set-rules-parts true)
 
   -- set records that pass
   module _ (h : setRecordsFormed t ≡ true) where

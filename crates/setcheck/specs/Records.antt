@@ -1,12 +1,12 @@
 -- The rules of well formed tables that concern the header and the set records, set by set and together, and those that remain for
--- the file records. Document 01, "Packed tables"; document 02, Ask 8.
+-- the file records. Document 01, "Packed tables"; document 02, Asks 8 and 10.
 use mathlib.Core.Bool.{_&&_, Bool, cond, not, _||_}
 use mathlib.Core.List.{List}
 use Prim.Native.Nat.{ℕ}
 use lib.Dec.{eqb}
 use Rattle.packing.specs.Fields.{getField}
 use Rattle.rules.specs.State.{Tables, isAbsent}
-use Rattle.rules.specs.WellFormed.{allFiles, allSets, chainFormed, filesFormed, placeFormed, termFormed, treeFormed, zeroFile, zeroSet}
+use Rattle.rules.specs.WellFormed.{allFiles, allSets, chainFormed, filesFormed, marksFormed, placeFormed, termFormed, treeFormed, zeroFile, zeroSet}
 use Rattle.tables.specs.Layout.{headWidths, headWord, headerWidths, headerWord, setWidths, setWord}
 use Rattle.tables.specs.Packed.{unpack}
 
@@ -33,10 +33,11 @@ recordsAlone t = allSets (setZero t) && allSets (recordFormed (unpack t))
 unfoldable pub setRecordsFormed : List ℕ → Bool
 setRecordsFormed t = recordsAlone t && treeFormed (unpack t)
 
--- what `setRules` says besides of the file records
-unfoldable pub fileRecordsFormed : List ℕ → Bool
-fileRecordsFormed t =
+-- what `setRules` says besides of the file records; of older tables `olderSetRules`, which has no rule on marked files
+unfoldable pub fileRecordsFormed : Bool → List ℕ → Bool
+fileRecordsFormed older t =
     allFiles (λ f s. eqb (getField headWidths (headWord t f s) 2) 0)
     && allFiles (λ f s. not (isAbsent (unpack t .files f s .state)) || zeroFile (unpack t .files f s))
     && allFiles (λ f s. unpack t .sets s .used || isAbsent (unpack t .files f s .state))
     && filesFormed (unpack t)
+    && (older || marksFormed (unpack t))

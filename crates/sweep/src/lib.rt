@@ -203,7 +203,7 @@ pub extern "C" fn sweep_current(tables: &[u8], pages: &[u8], set: u32, day: u32)
     calls::terms::current(tables, pages, set, day)
 }
 
-// Tables of the older length, converted into a second buffer; old tables and pages are only read.
+// Older tables, of either length, converted into a second buffer, marked files cleared; older tables and pages are only read.
 #[no_mangle]
 pub extern "C" fn sweep_convert(old: &[u8], pages: &[u8], tables: &mut [u8]) -> Answer
     ensures { λ r. ⌜ outcome r (now (tables .exit)) (now (pages .entry)) [] ≡ convertOn (now (old .entry)) (now (pages .entry)) (now (tables .entry)) ⌝ }

@@ -9,7 +9,7 @@ returns : tie.Need-returns
 returns c =
     let k = c .before .before in
     let g = k .before .before .before .before .before .before .before in
-    whole-blocks (g .args .front .now) (g .args .files .now) (g .pre .0) _ _ (k .first-part .ensures .decided) (c .if1 .taken)
+    whole-blocks (g .args .older) (g .args .front .now) (g .args .files .now) (g .pre .0) _ _ (k .first-part .ensures .decided) (c .if1 .taken)
 
 returns-2 : tie.Need-returns-2
 returns-2 c =
@@ -17,7 +17,7 @@ returns-2 c =
     let i = p .before in
     let k = i .before .before in
     let g = k .before .before .before .before .before .before .before in
-    whole-pages (g .args .front .now) (g .args .files .now) (g .pre .0) _ _ (k .first-part .ensures .decided) (i .if1 .left) _ (p .pages-fit .ensures) (c .if2 .taken)
+    whole-pages (g .args .older) (g .args .front .now) (g .args .files .now) (g .pre .0) _ _ (k .first-part .ensures .decided) (i .if1 .left) _ (p .pages-fit .ensures) (c .if2 .taken)
 
 returns-3 : tie.Need-returns-3
 returns-3 c =
@@ -26,7 +26,7 @@ returns-3 c =
     let i = p .before in
     let k = i .before .before in
     let g = k .before .before .before .before .before .before .before in
-    whole-zero (g .args .front .now) (g .args .files .now) (g .pre .0) _ _ (k .first-part .ensures .decided) (i .if1 .left) _ (p .pages-fit .ensures) (z .before .if2 .left) _ (z .header-zero .ensures)
+    whole-zero (g .args .older) (g .args .front .now) (g .args .files .now) (g .pre .0) _ _ (k .first-part .ensures .decided) (i .if1 .left) _ (p .pages-fit .ensures) (z .before .if2 .left) _ (z .header-zero .ensures)
     (c .if3 .taken)
 
 returns-4 : tie.Need-returns-4
@@ -37,7 +37,7 @@ returns-4 c =
     let i = p .before in
     let k = i .before .before in
     let g = k .before .before .before .before .before .before .before in
-    whole-sets (g .args .front .now) (g .args .files .now) (g .pre .0) _ _ (k .first-part .ensures .decided) (i .if1 .left) _ (p .pages-fit .ensures) (z .before .if2 .left) _ (z .header-zero .ensures)
+    whole-sets (g .args .older) (g .args .front .now) (g .args .files .now) (g .pre .0) _ _ (k .first-part .ensures .decided) (i .if1 .left) _ (p .pages-fit .ensures) (z .before .if2 .left) _ (z .header-zero .ensures)
     (s .before .if3 .left) _ (s .sets-formed .ensures) (c .if4 .taken)
 
 records-formed-requires : tie.Need-records-formed-requires
@@ -59,7 +59,7 @@ returns-5 c =
     let i = p .before in
     let k = i .before .before in
     let g = k .before .before .before .before .before .before .before in
-    whole-files (g .args .front .now) (g .args .files .now) (g .pre .0) _ _ (k .first-part .ensures .decided) (i .if1 .left) _ (p .pages-fit .ensures) (z .before .if2 .left) _ (z .header-zero .ensures)
+    whole-files (g .args .older) (g .args .front .now) (g .args .files .now) (g .pre .0) _ _ (k .first-part .ensures .decided) (i .if1 .left) _ (p .pages-fit .ensures) (z .before .if2 .left) _ (z .header-zero .ensures)
     (s .before .if3 .left) _ (s .sets-formed .ensures) _ (e .if4 .left) (c .records-formed .ensures)
 
 pub parts-formed-spec : {M : Type 1} → statement M

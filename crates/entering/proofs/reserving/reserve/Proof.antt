@@ -15,7 +15,7 @@ take-own-requires c κs =
     let s = e .before .before .before in
     let a = s .args in
     let h = s .pre .5 (ap isStored (sym (e .entry-at .ensures) ∙ ap entryMeant (c .before .enum-told .given .1))) in
-    (s .pre .0, s .pre .1 .header, some-free (a .t .now) (s .pre .1) h, h, omega (arith, s .pre .1 .room))
+    (s .pre .0, s .pre .1 .header, some-free (a .t .now) (s .pre .1) h, h, omega (arith, s .pre .1 .room, s .pre .1 .alive))
 
 take-own-requires-2 : tie.Need-take-own-requires-2
 unfolding entryMeant
@@ -24,7 +24,7 @@ take-own-requires-2 c κs =
     let s = e .before .before .before in
     let a = s .args in
     let h = s .pre .5 (ap isStored (sym (e .entry-at .ensures) ∙ ap entryMeant (c .before .enum-told2 .given .1))) in
-    (s .pre .0, s .pre .1 .header, some-free (a .t .now) (s .pre .1) h, h, omega (arith, s .pre .1 .room))
+    (s .pre .0, s .pre .1 .header, some-free (a .t .now) (s .pre .1) h, h, omega (arith, s .pre .1 .room, s .pre .1 .alive))
 
 returns : tie.Need-returns
 unfolding entryMeant

@@ -13,7 +13,7 @@ pass-heads-requires c κs =
     (p .0, p .1, λ s l. p .3 .unmapped-at _ s (p .5) l, n .numbers-of .ensures, refl, p .4 .digits-are, p .5, p .6)
 
 returns : tie.Need-returns
-returns c = number-refused _ _ _ _ _ (c .before .pass-heads .ensures) (c .if1 .taken)
+returns c = number-refused _ _ _ _ _ _ (c .before .pass-heads .ensures) (c .if1 .taken)
 
 files-linked-requires : tie.Need-files-linked-requires
 files-linked-requires c κs =
@@ -28,13 +28,13 @@ files-linked-requires c κs =
       masks = p .3;
       ends-are = k .ensures .ends-are o;
       lives-are = k .ensures .lives-are o;
-      alone = all-alone _ _ _ _ _ (k .ensures) (i .if1 .left);
+      alone = all-alone _ _ _ _ _ _ (k .ensures) (i .if1 .left);
     }
 
 returns-2 : tie.Need-returns-2
 returns-2 c =
     let i = c .before .before in
-    number-decided _ _ _ _ _ (i .before .pass-heads .ensures) _ (i .if1 .left) (c .files-linked .ensures)
+    number-decided _ _ _ _ _ _ (i .before .pass-heads .ensures) _ (i .if1 .left) (c .files-linked .ensures)
 
 pub number-formed-spec : {M : Type 1} → statement M
 number-formed-spec = tie.close (tie.spec (λ c κs. search needs) pass-heads-requires returns files-linked-requires returns-2)

@@ -13,10 +13,10 @@ use Rattle.formed.proofs.files.records_formed.Statement.{statement}
 use Rattle.formed.proofs.files.records_formed.Tie as tie
 
 abbrev Inv-loop : tie.InvT-loop
-Inv-loop front files stored unmapped n digits parents f₀ f = (f ≤ 16) × (all f (numberFormed (front ++ files)) ≡ true)
+Inv-loop front files stored unmapped n older digits parents f₀ f = (f ≤ 16) × (all f (numberFormed (front ++ files) older) ≡ true)
 
 abbrev μ-loop : tie.MeasureT-loop
-μ-loop front files stored unmapped n digits parents f₀ f = 16 - f
+μ-loop front files stored unmapped n older digits parents f₀ f = 16 - f
 
 put-places-requires : tie.Need-put-places-requires Inv-loop μ-loop
 put-places-requires c κs =
@@ -39,16 +39,16 @@ returns : tie.Need-returns Inv-loop μ-loop
 returns c =
     let k = c .before in
     let l = k .before .before .before .before in
-    numbers-refused _ _ (l .loop .inv .1) (omega arith) _ (k .number-formed .ensures) (c .if1 .taken)
+    numbers-refused _ _ _ (l .loop .inv .1) (omega arith) _ (k .number-formed .ensures) (c .if1 .taken)
 
 loop-again : tie.Need-loop-again Inv-loop μ-loop
 loop-again c =
     let k = c .before in
     let l = k .before .before .before .before in
-    (omega arith, numbers-next _ _ (l .loop .inv .1) _ (k .number-formed .ensures) (c .if1 .left))
+    (omega arith, numbers-next _ _ _ (l .loop .inv .1) _ (k .number-formed .ensures) (c .if1 .left))
 
 returns-2 : tie.Need-returns-2 Inv-loop μ-loop
-returns-2 c = numbers-done _ _ (c .before .loop .inv .1) (omega arith)
+returns-2 c = numbers-done _ _ _ (c .before .loop .inv .1) (omega arith)
 
 pub records-formed-spec : {M : Type 1} → statement M
 records-formed-spec = tie.close (tie.spec Inv-loop μ-loop (λ c κs. tt) (λ c κs. tt) put-places-requires loop-holds number-formed-requires returns (λ c. omega arith) (λ c. omega arith) loop-again returns-2)
