@@ -316,9 +316,8 @@ def dropped_by(call, before, after, taken):
     given = {number: {page for page, block in blocks.items() if now[number].blocks.get(page) == block} for number in children}
     heirs = [number for number in children if given[number]]
     old = {page for page, block in blocks.items() if (call.set, call.file, page, block) in taken}
-    # A block that no file lists is free, if no file is marked.
-    sure = all(held.state != MARKED for held in after.files.values())
-    freed = {page for page, block in blocks.items() if sure and block not in used(after)}
+    # A block that no file lists is free: a marked file has none.
+    freed = {page for page, block in blocks.items() if block not in used(after)}
     return Drop(blocks, children, given, heirs, old, freed, was, now, was[call.set].size)
 
 

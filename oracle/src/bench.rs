@@ -13,12 +13,14 @@ use crate::compactions::{self, Pulled};
 use crate::conversion::{self, Converted};
 use crate::judge::{format_blocks, Beside};
 use crate::lent::{check_unchanged, Buffer::*, Buffers, Guarded, Lending};
+use crate::markings::{self, Freeing};
 use crate::panel::REGISTERS;
 use crate::panel_judge::{self, Since};
 use crate::room::{self, Judged, Taken};
-use crate::state::{Kind, State};
+use crate::state::State;
 use crate::store;
 use crate::terms::{Asked, Met};
+use crate::turns::Turns;
 use crate::writes::{ByKind, Written};
 use std::collections::BTreeMap;
 use std::fmt;
@@ -116,6 +118,10 @@ pub struct Counts {
     pub terms: Met,
     /// The cases of Ask 9 that calls met.
     pub compactions: compactions::Met,
+    /// The cases of Ask 10 that calls met.
+    pub markings: markings::Met,
+    /// Blocks that markings freed, a block as often as it was freed.
+    pub freed: u64,
     pub damages: BTreeMap<Rule, u64>,
     pub flips: u64,
 }
@@ -220,6 +226,18 @@ impl Bench {
                 self.older = self.beside.as_ref().map(Beside::converted);
                 return Ok(None);
             }
+            // "keeping terms already there"
+            Item::Keep => {
+                self.buffers[Second] = self.buffers[Tables].clone();
+                self.older = self.beside.clone();
+                return Ok(None);
+            }
+            // A conversion clears what is put there, so plain store and tally are those of
+            // the store without it.
+            Item::LoadMarked { seed } => {
+                self.buffers[Second] = conversion::loaded(&self.buffers[Second], seed);
+                return Ok(None);
+            }
         };
         self.after_compaction &= ![Tables, Pages].contains(&changed);
         match changed {
@@ -242,8 +260,9 @@ impl Bench {
         check_unchanged(call.row(), &answer, &before, &after)?;
         let done = listed(call, answer, &before, &after)?;
         if let Some(done) = &done {
-            self.count(done, &before, &after);
+            self.count(done, &before);
         }
+        self.count_markings(call, answer, &done, &before, other.has(call.index()));
         self.compare_other(call, &answer, &before, &mut after, other)?;
         if let Some(done) = &done {
             self.compare_beside(done, &before, &after)?;
@@ -295,20 +314,39 @@ impl Bench {
     }
 
     /// Counts what a listed call did to the store.
-    fn count(&mut self, Done { call, answer }: &Done, before: &Buffers, after: &Buffers) {
+    fn count(&mut self, Done { call, answer }: &Done, before: &Buffers) {
         let drops = matches!(call, Call::Truncate { .. } | Call::Delete { .. });
-        if drops || call.as_write().is_some() {
-            self.counts.copies += u64::from(answer.second);
-            self.counts.files_marked += u64::from(answer.third);
+        if answer.number != 0 || !(drops || call.as_write().is_some()) {
+            return;
         }
-        if let (Call::Truncate { set, file, .. } | Call::Delete { set, file }, 0) =
-            (call, answer.number)
-        {
-            let (before, after) = (State::unpack(&before[Tables]), State::unpack(&after[Tables]));
-            let handed = handed_over(&before, &after, *set as usize, *file as usize);
+        self.counts.copies += u64::from(answer.second);
+        self.counts.files_marked += u64::from(answer.third);
+        // A write that marks nothing hands nothing over and frees nothing.
+        let turns = (drops || answer.third > 0)
+            .then(|| Turns::of(call, &State::unpack(&before[Tables])))
+            .flatten();
+        if let Some(turns) = turns {
+            let handed = turns.handed_over();
             self.counts.handed_over += handed.len() as u64;
             self.counts.handing_calls += u64::from(!handed.is_empty());
+            self.counts.freed += turns.freed().len() as u64;
         }
+    }
+
+    /// Counts the cases of Ask 10 that a call met, or the call that a panel command ran.
+    fn count_markings(
+        &mut self,
+        call: &Call,
+        answer: Answer,
+        done: &Option<Done>,
+        before: &Buffers,
+        is_linked: bool,
+    ) {
+        let (call, answer) = match done {
+            Some(done) => (&done.call, done.answer),
+            None => (call, answer),
+        };
+        self.counts.markings.count(&Freeing { call, answer, before }, is_linked);
     }
 
     /// Counts the cases of Ask 8 that a call met. Accesses of the panel are left out.
@@ -588,28 +626,6 @@ fn compare_answers(answer: &Answer, found: &Answer) -> Result<(), String> {
     } else {
         Err(format!("the answer is {found}; the oracle's is {answer}"))
     }
-}
-
-/// A page whose block a child took over.
-#[derive(Clone, Copy, PartialEq, Eq, Debug)]
-pub struct Handed {
-    pub page: usize,
-    pub block: usize,
-    pub heir: usize,
-}
-
-/// The blocks handed over by a call on this file, as the tables show it: before
-/// they stand in its own map, afterwards in a child's.
-pub fn handed_over(before: &State, after: &State, set: usize, file: usize) -> Vec<Handed> {
-    let mut list = Vec::new();
-    for (page, entry) in before.files[set][file].entries.iter().enumerate() {
-        for heir in before.children(set) {
-            if entry.kind == Kind::Stored && after.files[heir][file].entries[page] == *entry {
-                list.push(Handed { page, block: entry.block, heir });
-            }
-        }
-    }
-    list
 }
 
 fn put_byte(bytes: &mut [u8], at: usize, value: u8) {

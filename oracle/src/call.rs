@@ -324,10 +324,19 @@ pub enum Item {
     },
     /// Put the tables, without their terms, in the second tables.
     Narrow,
+    /// Put the tables in the second tables, as they are.
+    Keep,
+    /// Give the marked files of the second tables what marking left them before Ask 10: as
+    /// the seed says, a size, holes and free blocks.
+    LoadMarked {
+        seed: u32,
+    },
 }
 
-/// The word of a script that does so.
+/// The words of a script that do so.
 const NARROW: &str = "narrow";
+const KEEP: &str = "keep";
+const LOAD_MARKED: &str = "load-marked";
 
 /// The word of a script that changes a byte of a buffer. Its name alone gives
 /// it a length.
@@ -359,6 +368,8 @@ impl fmt::Display for Item {
             Item::Length { buffer, length } => write!(f, "{} {length}", buffer.name()),
             Item::Fill { buffer, seed } => write!(f, "{} {seed}", fill_word(*buffer)),
             Item::Narrow => write!(f, "{NARROW}"),
+            Item::Keep => write!(f, "{KEEP}"),
+            Item::LoadMarked { seed } => write!(f, "{LOAD_MARKED} {seed}"),
         }
     }
 }
@@ -390,8 +401,11 @@ impl Item {
     }
 
     fn parse_named(name: &str, words: &mut Words) -> Result<Item, String> {
-        if name == NARROW {
-            return Ok(Item::Narrow);
+        match name {
+            NARROW => return Ok(Item::Narrow),
+            KEEP => return Ok(Item::Keep),
+            LOAD_MARKED => return Ok(Item::LoadMarked { seed: words.number()? }),
+            _ => {}
         }
         for buffer in Buffer::ALL {
             if name == poke_word(buffer) {

@@ -6,8 +6,8 @@
 //! now, should go through the bitmap and the entries' kinds and blocks before it
 //! follows set chains". The first part is a question about the tables alone.
 //! The second part is all else, the pages' length before the rest. The rules on terms
-//! (Ask 8) stand last in it. Tables of the length before Ask 8 are judged by
-//! `check_older`, for the converter.
+//! (Ask 8) and on marked files (Ask 10) stand last in it. Older tables of either length are
+//! judged by `check_older`, for the converter.
 
 use crate::call::*;
 use crate::state::*;
@@ -91,6 +91,8 @@ rules! {
         SizeOver "size-over" "A file's size is over 32,768.";
         VirginSize "virgin-size" "A virgin file has a size other than 0.";
         VirginMapped "virgin-mapped" "A virgin file has an entry that is not unmapped.";
+        MarkedSize "marked-size" "A marked file has a size other than 0.";
+        MarkedMapped "marked-mapped" "A marked file has an entry that is not unmapped.";
         Set0State "set-0-state" "Set 0 has a virgin or marked file.";
         Set0Unmapped "set-0-unmapped" "A file of set 0 has an unmapped entry.";
         UnmappedNoParentFile "unmapped-no-parent-file" "An own or virgin file has an unmapped entry, but the parent set has no own or virgin file of its number.";
@@ -184,24 +186,23 @@ pub fn check_state(state: &State, pages_length: usize) -> Vec<Broken> {
     check_pages_length(state, pages_length, &mut found);
     check_rest(state, &mut found);
     check_terms(state, &mut found);
+    check_marked(state, &mut found);
     found
 }
 
-/// The check of tables of the length before Ask 8, by the rules of document 01 alone:
-/// "The tables are 17,436 bytes", with set records of 3 bytes that hold no term. They
-/// are read as they are; no term is added before they are judged.
+/// The check of "older tables of either length", each by the rules of its time. Tables of
+/// 17,436 bytes, with set records of 3 bytes that hold no term, are judged by document 01
+/// alone; they are read as they are, no term being added before. Tables of 17,468 bytes
+/// are judged by Ask 8 too, and not by Ask 10, so tables that meet Ask 10 already are
+/// among them.
 pub fn check_older(tables: &[u8], pages_length: usize) -> Vec<Broken> {
-    if tables.len() != OLDER_TABLES_BYTES {
-        return wrong_length();
+    let Some(state) = State::unpack_either(tables) else { return wrong_length() };
+    let mut found = first_part(&state);
+    check_pages_length(&state, pages_length, &mut found);
+    check_rest(&state, &mut found);
+    if tables.len() == TABLES_BYTES {
+        check_terms(&state, &mut found);
     }
-    check_older_state(&State::unpack_older(tables), pages_length)
-}
-
-/// The same of tables that are unpacked already.
-pub fn check_older_state(state: &State, pages_length: usize) -> Vec<Broken> {
-    let mut found = first_part(state);
-    check_pages_length(state, pages_length, &mut found);
-    check_rest(state, &mut found);
     found
 }
 
@@ -235,6 +236,20 @@ fn check_terms(state: &State, found: &mut Vec<Broken>) {
         }
         if record.end_day > LATEST_END {
             found.push(Broken::new(Rule::EndDayOver).set(set));
+        }
+    }
+}
+
+/// Document 02, of a marked file's size 0 and unmapped entries: "Well formed asks the same
+/// of marked files".
+fn check_marked(state: &State, found: &mut Vec<Broken>) {
+    for (set, file, record) in file_records(state) {
+        let mut push = |rule| found.push(Broken::new(rule).set(set).file(file));
+        if record.state == FileState::Marked && record.size != 0 {
+            push(Rule::MarkedSize);
+        }
+        if record.state == FileState::Marked && record.is_mapped() {
+            push(Rule::MarkedMapped);
         }
     }
 }
@@ -439,9 +454,7 @@ fn check_file_states(state: &State, found: &mut Vec<Broken>) {
         if record.state == FileState::Virgin && record.size != 0 {
             push(Rule::VirginSize);
         }
-        if record.state == FileState::Virgin
-            && record.entries.iter().any(|e| e.kind != Kind::Unmapped)
-        {
+        if record.state == FileState::Virgin && record.is_mapped() {
             push(Rule::VirginMapped);
         }
         if set == 0 && matches!(record.state, FileState::Virgin | FileState::Marked) {

@@ -30,7 +30,7 @@ pub struct Named {
     pub block: usize,
 }
 
-/// All stored entries in order, those of marked files too.
+/// All stored entries in order.
 pub fn stored_entries(tables: &[u8]) -> Vec<Named> {
     let named = |place: usize| match entry(tables, place) {
         (STORED, block) => Some(Named { place, block }),

@@ -23,7 +23,7 @@ cases! {
     Empty "the store is empty";
     Full "the store is full, next start becomes 0";
     FullMost "4,096 blocks are used, and one of them moves";
-    OfMarked "a marked file's block moves";
+    WithMarked "a file is marked, and a block moves";
     OfReadOnly "a read-only set's block moves";
     OfThreeSets "blocks of three sets or more move";
     OtherTree "the order by the tree would be another";
@@ -109,7 +109,7 @@ impl Pulled<'_> {
             (used == 0, Case::Empty),
             (used == all, Case::Full),
             (used == MOST_BLOCKS && !stays, Case::FullMost),
-            (moved.iter().any(|place| is_marked(tables, place / PAGES)), Case::OfMarked),
+            (!stays && (0..SETS * FILES).any(|file| is_marked(tables, file)), Case::WithMarked),
             (sets.iter().any(|set| is_read_only(tables, *set)), Case::OfReadOnly),
             (sets.len() >= 3, Case::OfThreeSets),
             (moves.differ_by(|place| tree_order(&listing, place)), Case::OtherTree),

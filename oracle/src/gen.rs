@@ -119,12 +119,13 @@ fn style(rng: &mut Rng, block_count: usize) -> Style {
 }
 
 /// A format, and often calls that make a family (see `family_calls`,
-/// `short_calls` and `group_calls`) or a line (see `line_calls`) or, in larger
+/// `short_calls`, `group_calls` and `marking_calls`) or a line (see `line_calls`) or, in larger
 /// stores, calls that fill them nearly.
 pub fn start(rng: &mut Rng, block_count: usize) -> Start {
     let style = style(rng, block_count);
     let (more, then) = match rng.below(100) {
-        0..=36 if block_count <= 64 => family_calls(rng, &style),
+        0..=21 if block_count <= 64 => family_calls(rng, &style),
+        22..=36 if block_count <= 64 => marking_calls(rng, &style),
         37..=56 if block_count <= 64 => short_calls(rng, &style),
         57..=67 if block_count <= 64 => line_calls(rng, &style),
         68..=88 if block_count <= 64 => group_calls(rng, &style),
@@ -147,6 +148,13 @@ pub fn group_start(rng: &mut Rng, block_count: usize) -> Start {
 pub fn room_start(rng: &mut Rng, block_count: usize) -> Start {
     let style = style(rng, block_count);
     let (more, then) = room_calls(rng, &style);
+    begin(style, more, then)
+}
+
+/// A format, and calls that make a family for marking (see `marking_calls`).
+pub fn marking_start(rng: &mut Rng, block_count: usize) -> Start {
+    let style = style(rng, block_count);
+    let (more, then) = marking_calls(rng, &style);
     begin(style, more, then)
 }
 
@@ -253,6 +261,10 @@ fn drop_pages(rng: &mut Rng, scene: &mut Scene, set: u32) {
 /// two; gives the last one.
 fn make_ancestors(rng: &mut Rng, scene: &mut Scene) -> u32 {
     let depth = rng.pick(&[0, 0, 0, 1, 1, 2, 3]);
+    make_ancestors_down_to(rng, scene, depth)
+}
+
+fn make_ancestors_down_to(rng: &mut Rng, scene: &mut Scene, depth: usize) -> u32 {
     let levels: Vec<usize> = scene.pages.iter().map(|_| rng.between(0, depth)).collect();
     let mut set = 0;
     scene.add(Call::Create { set, file: scene.file });
@@ -291,13 +303,17 @@ fn make_children(rng: &mut Rng, scene: &mut Scene, set: u32, count: usize) {
     }
 }
 
-/// Another file of set 0 takes all free blocks but so many.
+/// Another file of set 0 takes all free blocks but so many, from its first page on that is
+/// not stored.
 fn fill_up(rng: &mut Rng, scene: &mut Scene, leave: usize) {
     let file = (scene.file + 1) % FILES as u32;
-    let pages = scene.beside.tally.free.saturating_sub(leave).min(PAGES);
-    let (length, seed) = (pages * PAGE_BYTES, data_seed(rng));
     scene.add(Call::Create { set: 0, file });
-    scene.add(Call::Write { set: 0, file, offset: 0, length, seed });
+    let kinds = &scene.beside.tally.file(0, file as usize).kinds;
+    let first = kinds.iter().position(|kind| *kind != TallyKind::Stored).unwrap_or(PAGES);
+    let pages = scene.beside.tally.free.saturating_sub(leave).min(PAGES - first);
+    let (offset, length) = ((first * PAGE_BYTES) as u32, pages * PAGE_BYTES);
+    let seed = data_seed(rng);
+    scene.add(Call::Write { set: 0, file, offset, length, seed });
 }
 
 /// Calls that make a family short of blocks: children that lack one page, then
@@ -467,6 +483,75 @@ fn room_calls(rng: &mut Rng, style: &Style) -> (Vec<Call>, Vec<Call>) {
         write_near(rng, &mut scene, set);
     }
     (calls, scene.calls)
+}
+
+/// Calls that make a family for marking: a file with stored pages, in set 0 or below it,
+/// children of its set that have some of these pages themselves and need the others, sets
+/// below them that have pages of their own and depend on them, and no block free, or few.
+/// Then writes of all kinds, truncates and deletes of this file, each of which may mark a
+/// child and give its blocks to the next; between them new children, writes in children,
+/// and the store filled again.
+fn marking_calls(rng: &mut Rng, style: &Style) -> (Vec<Call>, Vec<Call>) {
+    let mut scene = Scene::new(rng, style);
+    scene.pages = group_pages(rng, style.block_count);
+    let depth = rng.pick(&[0, 0, 0, 1, 1, 2]);
+    let set = make_ancestors_down_to(rng, &mut scene, depth);
+    for _ in 0..rng.between(2, 5) {
+        make_holder(rng, &mut scene, set);
+    }
+    let leave = rng.pick(&[0, 0, 0, 0, 1, 1, 2, 3]);
+    fill_up(rng, &mut scene, leave);
+    let calls = std::mem::take(&mut scene.calls);
+    for _ in 0..rng.between(1, 4) {
+        change_over_holders(rng, &mut scene, set);
+        match rng.below(4) {
+            0 => make_holder(rng, &mut scene, set),
+            1 => {
+                let child = rng.pick(&used_sets(&scene.beside));
+                scene.write_a_page(rng, child);
+            }
+            2 => fill_up(rng, &mut scene, leave),
+            _ => {}
+        }
+    }
+    (calls, scene.calls)
+}
+
+/// A child of the set that has up to three of the pages itself, and often a child of its
+/// own that has one too; sometimes it is read-only and has what was written before.
+fn make_holder(rng: &mut Rng, scene: &mut Scene, set: u32) {
+    let Some(child) = scene.make(set, rng.pick(&[0, 1, 1, 1, 1])) else { return };
+    for _ in 0..rng.pick(&[0, 1, 1, 2, 2, 3]) {
+        scene.write_a_page(rng, child);
+    }
+    if rng.percent(35) {
+        if let Some(below) = scene.make(child, rng.pick(&[0, 1, 1])) {
+            for _ in 0..rng.below(3) {
+                scene.write_a_page(rng, below);
+            }
+        }
+    }
+}
+
+/// A write of one page or several, by groups or narrowly, or pages dropped.
+fn change_over_holders(rng: &mut Rng, scene: &mut Scene, set: u32) {
+    match rng.below(10) {
+        0..=3 => write_near(rng, scene, set),
+        4..=6 => {
+            let write = write_of_pages(rng, scene, set);
+            scene.add(write);
+        }
+        _ => drop_pages(rng, scene, set),
+    }
+}
+
+/// A write of whole pages from one of the scene's pages to another.
+fn write_of_pages(rng: &mut Rng, scene: &Scene, set: u32) -> Call {
+    let (one, other) = (rng.pick(&scene.pages), rng.pick(&scene.pages));
+    let (first, last) = (one.min(other), one.max(other));
+    let index = rng.pick(&[WRITE, WRITE_NARROW, WRITE_NARROW, WRITE_GROUPS]);
+    let length = (last + 1 - first) * PAGE_BYTES;
+    write_call(rng, index, (set, scene.file), (first * PAGE_BYTES) as u32, length)
 }
 
 /// One to eight pages that follow each other, mostly a whole group of as many; in a
@@ -774,6 +859,20 @@ fn data_seed(rng: &mut Rng) -> u32 {
 /// The line that gives a buffer a length.
 pub fn length_of(buffer: Buffer, length: usize) -> Item {
     Item::Length { buffer, length }
+}
+
+/// The lines that make other bytes of a buffer's.
+pub fn pokes(buffer: Buffer, before: &[u8], after: &[u8]) -> Vec<Item> {
+    let mut items = Vec::new();
+    if before.len() != after.len() {
+        items.push(length_of(buffer, after.len()));
+    }
+    for (at, value) in after.iter().enumerate() {
+        if before.get(at).copied().unwrap_or(0) != *value {
+            items.push(Item::Poke { buffer, at, value: *value });
+        }
+    }
+    items
 }
 
 /// A random call for the store as plain store and tally know it.
@@ -1129,9 +1228,8 @@ impl Made {
 // Well-formed states that no history need reach.
 
 /// Changes a well-formed store in ways that keep it well formed, whether or
-/// not calls could bring it there: other page bytes and next starts, marked
-/// files with any map and size, other states, kinds, sizes, writeabilities and terms,
-/// further sets, blocks moved and taken.
+/// not calls could bring it there: other page bytes and next starts, files marked, other
+/// states, kinds, sizes, writeabilities and terms, further sets, blocks moved and taken.
 pub fn twist(rng: &mut Rng, tables: &mut [u8], pages: &mut [u8]) {
     let mut state = State::unpack(tables);
     for _ in 0..rng.pick(&[1, 2, 3, 5, 8, 12]) {
@@ -1183,9 +1281,10 @@ fn twist_term(rng: &mut Rng, state: &mut State) -> Option<()> {
     Some(())
 }
 
+/// A file becomes marked, and holds nothing.
 fn twist_mark(rng: &mut Rng, state: &mut State) -> Option<()> {
     let (set, file) = any_present(rng, state)?;
-    state.files[set][file].state = FileState::Marked;
+    state.clear_marked(set, file);
     Some(())
 }
 
@@ -1263,15 +1362,15 @@ fn twist_new_set(rng: &mut Rng, state: &mut State) -> Option<()> {
     Some(())
 }
 
-/// Entries of own and marked files take up to twelve free blocks, as far as the
-/// state stays well formed.
+/// Entries of own files take up to twelve free blocks, as far as the state stays well
+/// formed.
 fn twist_fill(rng: &mut Rng, state: &mut State) -> Option<()> {
     let pages_length = state.block_count * PAGE_BYTES;
     for _ in 0..12 {
         let block = free_block(rng, state)?;
         let list = entries(state, |record, page| {
             let own = record.state == FileState::Own && page * PAGE_BYTES < record.size;
-            (own || record.state == FileState::Marked) && record.entries[page].kind != Kind::Stored
+            own && record.entries[page].kind != Kind::Stored
         });
         let mut filled = state.clone();
         *entry_at(&mut filled, rng.pick_any(&list)?) = stored(block);
@@ -1354,17 +1453,20 @@ pub struct Broke {
 }
 
 /// The rules that must break with a rule, as few as possible. There are some for
-/// one rule only. "Unused sets ... are all zero", but set 0 is to be writeable
+/// two rules only. "Unused sets ... are all zero", but set 0 is to be writeable
 /// and to have 8 as parent and sibling: if it is not used, its record either is
 /// all zero and breaks three rules of set 0 more, or it breaks
-/// `unused-set-not-zero`.
+/// `unused-set-not-zero`. A virgin or marked file has only unmapped entries, but set 0
+/// is to have none: such a file in set 0 breaks `set-0-unmapped`, or else, having no
+/// unmapped entry, `virgin-mapped` or `marked-mapped`.
 ///
 /// All others can be broken alone, some of them in one way only. A block count
-/// of 0 breaks `next-start` too, one over 4,096 need not. A virgin file in set 0
-/// breaks `virgin-mapped` or `set-0-unmapped` too, a marked one need not.
+/// of 0 breaks `next-start` too, one over 4,096 need not. A size over 32,768 breaks
+/// `marked-size` or `virgin-size` too, but not in an own file.
 pub fn broken_with(rule: Rule) -> &'static [Rule] {
     match rule {
         Rule::Set0NotUsed => &[Rule::UnusedSetNotZero],
+        Rule::Set0State => &[Rule::Set0Unmapped],
         _ => &[],
     }
 }
@@ -1647,7 +1749,9 @@ fn break_rule(rng: &mut Rng, state: &mut State, rule: Rule) -> Option<()> {
         Rule::FirstNotBelowEnd => break_first_day(rng, state)?,
         Rule::EndDayOver => break_end_day(rng, state)?,
         Rule::SizeOver => {
-            let list = files(state, |_, r| matches!(r.state, FileState::Own | FileState::Marked));
+            let own = files(state, |_, record| record.state == FileState::Own);
+            let present = files(state, |_, record| record.is_present());
+            let list = if rng.percent(80) { own } else { present };
             let (set, file) = rng.pick_any(&list)?;
             let random = rng.between(32_769, 65_535);
             state.files[set][file].size = rng.pick(&[32_769, 65_535, random]);
@@ -1657,7 +1761,14 @@ fn break_rule(rng: &mut Rng, state: &mut State, rule: Rule) -> Option<()> {
             let (set, file) = rng.pick_any(&list)?;
             state.files[set][file].size = rng.between(1, LARGEST_SIZE);
         }
-        Rule::VirginMapped => break_virgin_mapped(rng, state)?,
+        Rule::VirginMapped => break_mapped(rng, state, FileState::Virgin)?,
+        Rule::MarkedSize => {
+            let list = files(state, |_, record| record.state == FileState::Marked);
+            let (set, file) = rng.pick_any(&list)?;
+            let random = rng.between(1, LARGEST_SIZE);
+            state.files[set][file].size = rng.pick(&[1, 512, LARGEST_SIZE, random]);
+        }
+        Rule::MarkedMapped => break_mapped(rng, state, FileState::Marked)?,
         Rule::Set0State => break_set_0_state(rng, state)?,
         Rule::Set0Unmapped => {
             let list = entries(state, |record, page| record.entries[page].kind == Kind::Hole);
@@ -1764,14 +1875,14 @@ fn break_absent_file(rng: &mut Rng, state: &mut State) -> Option<()> {
     Some(())
 }
 
-/// A file without entries, or one with all holes and perhaps a stored page.
+/// A file without entries, or an own one with all holes and perhaps a stored page.
 fn break_unused_set_has_file(rng: &mut Rng, state: &mut State) -> Option<()> {
     let set = rng.pick_any(&sets(state, |_, record| !record.used))?;
     let (file, page) = (rng.below(FILES), rng.below(PAGES));
     let block = free_block(rng, state).filter(|_| rng.percent(50));
     let record = &mut state.files[set][file];
     record.state = rng.pick(&[FileState::Own, FileState::Virgin, FileState::Marked]);
-    if record.state == FileState::Own || (record.state == FileState::Marked && rng.percent(50)) {
+    if record.state == FileState::Own {
         record.entries = [HOLE; PAGES];
         if let Some(block) = block {
             record.entries[page] = stored(block);
@@ -1918,8 +2029,9 @@ fn break_link(rng: &mut Rng, state: &mut State) -> Option<()> {
     Some(())
 }
 
-fn break_virgin_mapped(rng: &mut Rng, state: &mut State) -> Option<()> {
-    let list = files(state, |_, record| record.state == FileState::Virgin);
+/// An entry of a file that is to have only unmapped ones becomes a hole or stored.
+fn break_mapped(rng: &mut Rng, state: &mut State, of: FileState) -> Option<()> {
+    let list = files(state, |_, record| record.state == of);
     let (set, file) = rng.pick_any(&list)?;
     let page = rng.below(PAGES);
     let block = free_block(rng, state);
@@ -1933,7 +2045,8 @@ fn break_virgin_mapped(rng: &mut Rng, state: &mut State) -> Option<()> {
     Some(())
 }
 
-/// Marks a file of set 0, one that no child depends on if there is one.
+/// A file of set 0, mostly one that no child depends on, becomes marked or virgin, mostly
+/// with all entries unmapped; sometimes it keeps what it has.
 fn break_set_0_state(rng: &mut Rng, state: &mut State) -> Option<()> {
     let present = files(state, |set, record| set == 0 && record.is_present());
     let alone: Vec<(usize, usize)> = present
@@ -1948,8 +2061,10 @@ fn break_set_0_state(rng: &mut Rng, state: &mut State) -> Option<()> {
         .collect();
     let list = if alone.is_empty() { present } else { alone };
     let (set, file) = rng.pick_any(&list)?;
-    state.files[set][file].state =
-        rng.pick(&[FileState::Marked, FileState::Marked, FileState::Virgin]);
+    if rng.percent(80) {
+        state.drop_file(set, file);
+    }
+    state.files[set][file].state = rng.pick(&[FileState::Marked, FileState::Virgin]);
     Some(())
 }
 
@@ -1971,7 +2086,7 @@ fn break_unmapped(rng: &mut Rng, state: &mut State) -> Option<()> {
     let (set, file) = rng.pick_any(&dependent)?;
     let parent = state.sets[set].parent;
     if parent != 0 && rng.percent(50) {
-        state.files[parent][file].state = FileState::Marked;
+        state.clear_marked(parent, file);
     } else {
         state.drop_file(parent, file);
     }

@@ -47,14 +47,16 @@ pub enum Short {
     Terms,
     /// Blocks that are scattered, and compactions.
     Compact,
+    /// A family in a store nearly full, in which marking frees blocks.
+    Marking,
 }
 
 /// How a history of this many blocks begins.
 type Begin = fn(&mut Rng, usize) -> Start;
 
 impl Short {
-    pub const ALL: [Short; 5] =
-        [Short::Groups, Short::Panel, Short::Room, Short::Terms, Short::Compact];
+    pub const ALL: [Short; 6] =
+        [Short::Groups, Short::Panel, Short::Room, Short::Terms, Short::Compact, Short::Marking];
 
     /// Of a hundred stores so many have 64 blocks, and the others have from so many to
     /// so many; how the history begins; the turns after it.
@@ -65,6 +67,7 @@ impl Short {
             Short::Room => (80, (2, 24), gen::room_start, 5),
             Short::Terms => (10, (1, 12), terms::term_start, 30),
             Short::Compact => (40, (2, 24), compact::compact_start, 15),
+            Short::Marking => (30, (4, 24), gen::marking_start, 10),
         }
     }
 }
@@ -151,8 +154,8 @@ fn turn(rng: &mut Rng, style: &gen::Style, beside: &Beside, other: &dyn Other) -
 
 /// A random history with a random store size and length. Now and then it begins
 /// with calls made through the panel, with a family for the room that a write can take,
-/// with one whose sets get terms or with scattered blocks, seldom with a delete of many
-/// copies.
+/// with one whose sets get terms, with scattered blocks or with a family for marking, seldom
+/// with a delete of many copies.
 pub fn any_history(
     seed: u64,
     other: &mut dyn Other,
@@ -171,6 +174,7 @@ pub fn any_history(
         10..=17 => short_history(Short::Room, seed, other, counts, watch),
         18..=25 => short_history(Short::Terms, seed, other, counts, watch),
         26..=33 => short_history(Short::Compact, seed, other, counts, watch),
+        34..=45 => short_history(Short::Marking, seed, other, counts, watch),
         _ => random_history(seed, block_count, length, other, counts, watch),
     }
 }

@@ -1,5 +1,5 @@
 //! A second implementation of the sweep store, written from document 01, Asks 1
-//! to 9 of document 02 and their readings (docs/DECISIONS.md) alone. Clarity
+//! to 10 of document 02 and their readings (docs/DECISIONS.md) alone. Clarity
 //! goes before speed: each call unpacks the tables to a plain state, does the
 //! paper's steps, and packs.
 //!
@@ -29,6 +29,7 @@ pub mod judging;
 pub mod layout;
 pub mod lent;
 pub mod maps;
+pub mod markings;
 pub mod names;
 pub mod panel;
 pub mod panel_judge;
@@ -42,4 +43,5 @@ pub mod store;
 pub mod tally;
 pub mod term_judge;
 pub mod terms;
+pub mod turns;
 pub mod writes;

@@ -87,6 +87,11 @@ fn check(file: &str, pages_length: Option<usize>) -> Result<bool, String> {
     for rule in broken {
         println!("{rule}");
     }
+    if check_older(&tables, pages_length).is_empty() {
+        println!(
+            "well formed before Ask 10; sweep_convert takes these tables and clears marked files"
+        );
+    }
     Ok(false)
 }
 
@@ -139,6 +144,7 @@ fn show_counts(counts: &Counts) {
     println!("writes judged by the room they take {}", counts.room);
     println!("calls of terms {}", counts.terms);
     println!("compactions {}", counts.compactions);
+    println!("blocks freed by marking {} in calls {}", counts.freed, counts.markings);
     writes::show("plain store and tally", &counts.writes_beside);
     accesses::show("what is demanded", &counts.panel_judged);
 }

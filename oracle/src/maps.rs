@@ -99,11 +99,19 @@ impl State {
         record.is_own_or_virgin() && record.entries[page].kind == Kind::Unmapped
     }
 
+    /// Document 02: "Marking now frees its stored blocks at that moment, any handed over
+    /// earlier in the same call among them, and leaves size 0 and all entries unmapped".
+    /// A block handed over stands in this file's map, and in no other.
+    pub fn clear_marked(&mut self, set: usize, file: usize) {
+        self.drop_file(set, file);
+        self.files[set][file] = MARKED_FILE;
+    }
+
     /// Marks a file. "Marking a file marks every own or virgin file of its
-    /// number in a child set that has any unmapped page, and so on down."
-    /// Gives how many files were newly marked.
+    /// number in a child set that has any unmapped page, and so on down." Document 02:
+    /// the blocks come free "for dependents too". Gives how many files were newly marked.
     pub fn mark(&mut self, set: usize, file: usize) -> u32 {
-        self.files[set][file].state = FileState::Marked;
+        self.clear_marked(set, file);
         let mut marked = 1;
         for child in self.children(set) {
             let record = &self.files[child][file];
@@ -144,7 +152,8 @@ impl State {
 
     /// Step 4: "For each touched page ascending, for each child in order of
     /// making that needs it". `dropped` are those of the touched pages that
-    /// the call drops whole. Gives copies made and files newly marked.
+    /// the call drops whole. Gives copies made and files newly marked. Document 02:
+    /// "no free block" is judged at each copy's turn.
     pub fn step_4(
         &mut self,
         pages: &mut [u8],
@@ -175,6 +184,8 @@ impl State {
                 } else if self.copy_to_child(pages, source, child, file, page) {
                     copies += 1;
                 } else {
+                    // Document 02: "A later copy in the same call may take these
+                    // blocks", so the turn of this child is over.
                     marked += self.mark(child, file);
                 }
             }
@@ -185,8 +196,8 @@ impl State {
     /// Document 02: "the other pages of each touched group are gone through,
     /// ascending, children in order of making, with the same copying." So a page
     /// resolving to a hole becomes a hole in each child that needs it, also in a
-    /// full store and past the size. A child marked in step 4 needs nothing.
-    /// Gives copies made.
+    /// full store and past the size. A child marked in step 4 needs nothing, and the
+    /// blocks that its marking freed are there for these copies. Gives copies made.
     pub fn extra_pages(
         &mut self,
         pages: &mut [u8],

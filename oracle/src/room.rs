@@ -3,13 +3,19 @@
 //! before and after it: "State it of the counts and of the bitmap before and
 //! after." The bytes are read here anew, and no code of a write is used.
 //!
-//! In the comments k, p and c are the three numbers of `Room`.
+//! Ask 10: "The room bound of Ask 7 then counts the blocks that marking freed among the
+//! free ones, a block as often as it was freed." How often that is, the turns of the write
+//! tell, gone through once more (`turns`).
+//!
+//! In the comments k, p and c are the first three numbers of `Room`.
 
 use crate::bits::field;
 use crate::call::*;
 use crate::check::is_well_formed;
 use crate::judging::{self, unless};
-use crate::layout::{block_count, is_marked, is_used_block, set_record};
+use crate::layout::{block_count, entry, is_marked, is_used_block, set_record, STORED};
+use crate::state::State;
+use crate::turns::Turns;
 use std::fmt;
 use std::ops::Range;
 
@@ -41,17 +47,22 @@ pub struct Room {
     pub children: usize,
     /// The free blocks.
     pub free: usize,
+    /// The blocks that the write's markings free, a block as often as it is freed; 0 for
+    /// a write that is refused.
+    pub freed: usize,
 }
 
 impl Room {
     /// Reads it off well-formed tables.
     pub fn of(write: &AnyWrite, tables: &[u8]) -> Room {
         let touched = touched_pages(write);
+        let turns = Turns::of_write(write, &State::unpack(tables));
         Room {
             touched: touched.len(),
             in_groups: pages_of_groups(&touched, write.group),
             children: children(tables, write.set),
             free: free_blocks(tables),
+            freed: turns.map_or(0, |turns| turns.freed().len()),
         }
     }
 
@@ -105,18 +116,22 @@ pub enum Bound {
     OwnBlocks,
     /// Second count <= p x c.
     Copies,
-    /// First + second <= free before.
+    /// First + second <= free before + freed.
     FreeBefore,
     /// Narrow: first + second <= k + k x c.
     Narrow,
     /// By eights: first + second <= k + (k + 14) x c.
     ByEights,
-    /// Free after + first + second = free before.
+    /// Free after + first + second = free before + freed.
     FreeAfter,
-    /// No bit that was 1 is 0 after.
+    /// A bit that was 1 is 0 after only if a file of the write's number that became marked
+    /// named the block.
     BitsStay,
-    /// Exactly first + second bits are newly 1.
+    /// At most first + second bits are newly 1.
     BitsNewlyOne,
+    /// If no file became marked: exactly first + second bits are newly 1, and nothing was
+    /// freed.
+    NothingMarked,
     /// With k + k x c free: the number is not 8.
     NoRefusal,
     /// With k + k x c free: the third count is 0.
@@ -131,7 +146,7 @@ pub enum Bound {
 }
 
 impl Bound {
-    pub const ALL: [Bound; 13] = [
+    pub const ALL: [Bound; 14] = [
         Bound::OwnBlocks,
         Bound::Copies,
         Bound::FreeBefore,
@@ -140,6 +155,7 @@ impl Bound {
         Bound::FreeAfter,
         Bound::BitsStay,
         Bound::BitsNewlyOne,
+        Bound::NothingMarked,
         Bound::NoRefusal,
         Bound::ThirdCount,
         Bound::NoMark,
@@ -201,7 +217,7 @@ impl Taken<'_> {
 
     /// The bounds of an accepted write's counts.
     fn by_counts(&self, room: &Room) -> Vec<Broken> {
-        let Room { touched: k, in_groups: p, children: c, free } = *room;
+        let Room { touched: k, in_groups: p, children: c, free, freed } = *room;
         let (first, second) = self.counts();
         let total = first + second;
         let is_narrow = self.write.group == NARROW_GROUP;
@@ -217,9 +233,13 @@ impl Taken<'_> {
             unless(second <= p * c, Bound::Copies, || {
                 format!("the second count is {second}, over {p} pages of groups times {c} children")
             }),
-            // "and never more than were free"
-            unless(total <= free, Bound::FreeBefore, || {
-                format!("{first} + {second} blocks taken are over the {free} that were free")
+            // "and never more than were free", which "then counts the blocks that
+            // marking freed among the free ones"
+            unless(total <= free + freed, Bound::FreeBefore, || {
+                format!(
+                    "{first} + {second} blocks taken are over the {free} that were free and \
+                    the {freed} that marking freed"
+                )
             }),
             // "An accepted narrow write of k touched pages in a set with c children
             // takes at most k + k x c blocks".
@@ -236,25 +256,52 @@ impl Taken<'_> {
     /// The same "of the bitmap before and after", all 4,096 bits of it.
     fn by_bitmap(&self, room: &Room) -> Vec<Broken> {
         let (first, second) = self.counts();
-        let (free, left) = (room.free, free_blocks(self.after));
+        let Room { free, freed, .. } = *room;
+        let left = free_blocks(self.after);
         let [before, after] = [self.before, self.after]
             .map(|tables| move |block: &usize| is_used_block(tables, *block));
-        let gone = (0..MOST_BLOCKS).find(|block| before(block) && !after(block));
+        let may_fall = self.blocks_of_newly_marked();
+        let falls = |block: &usize| before(block) && !after(block) && !may_fall.contains(block);
+        let gone = (0..MOST_BLOCKS).find(falls);
         let new = (0..MOST_BLOCKS).filter(|block| !before(block) && after(block)).count();
+        let marks = !self.newly_marked().is_empty();
         let found = [
-            unless(left + first + second == free, Bound::FreeAfter, || {
-                format!("{first} + {second} blocks taken of {free} free leave {left} free")
+            unless(left + first + second == free + freed, Bound::FreeAfter, || {
+                format!(
+                    "{first} + {second} blocks taken of {free} free and {freed} freed leave \
+                    {left} free"
+                )
             }),
             unless(gone.is_none(), Bound::BitsStay, || {
                 format!("the bit of block {} was 1 and is 0", gone.unwrap_or_default())
             }),
-            unless(new == first + second, Bound::BitsNewlyOne, || {
+            unless(new <= first + second, Bound::BitsNewlyOne, || {
+                format!("{new} bits are newly 1, over the {first} + {second} blocks taken")
+            }),
+            unless(marks || (new, freed) == (first + second, 0), Bound::NothingMarked, || {
                 format!(
-                    "{new} bits are newly 1, and {first} + {second} blocks are said to be taken"
+                    "nothing is marked, {new} bits are newly 1 of {first} + {second} blocks \
+                    taken, and {freed} are freed"
                 )
             }),
         ];
         found.into_iter().flatten().collect()
+    }
+
+    /// The file records, "at set x 16 + file", that became marked.
+    fn newly_marked(&self) -> Vec<usize> {
+        let newly =
+            |place: &usize| !is_marked(self.before, *place) && is_marked(self.after, *place);
+        (0..SETS * FILES).filter(newly).collect()
+    }
+
+    /// The blocks that files of the write's number named which became marked.
+    fn blocks_of_newly_marked(&self) -> Vec<usize> {
+        let of_number = |place: &usize| place % FILES == self.write.file as usize;
+        let files = self.newly_marked().into_iter().filter(of_number);
+        let entries = files.flat_map(|place| place * PAGES..(place + 1) * PAGES);
+        let named = entries.map(|place| entry(self.before, place));
+        named.filter(|(kind, _)| *kind == STORED).map(|(_, block)| block).collect()
     }
 
     /// "With k + k x c blocks free, neither kind marks a file or is refused with 8."
@@ -262,9 +309,7 @@ impl Taken<'_> {
         let Room { touched: k, children: c, free, .. } = *room;
         let Answer { number, third, .. } = self.answer;
         let though = || format!("though {free} blocks were free and {k} + {k} x {c} are enough");
-        let newly =
-            |place: &usize| !is_marked(self.before, *place) && is_marked(self.after, *place);
-        let marked = (0..SETS * FILES).find(newly);
+        let marked = self.newly_marked().first().copied();
         let found = [
             unless(number != NO_ROOM, Bound::NoRefusal, || format!("refused with 8, {}", though())),
             unless(third == 0, Bound::ThirdCount, || {
@@ -299,7 +344,7 @@ impl Taken<'_> {
 
     /// Whether each of `CASES` was met; a write without touched pages meets none.
     fn cases(&self, room: &Room) -> [bool; CASES.len()] {
-        let Room { touched: k, in_groups: p, children: c, free } = *room;
+        let Room { touched: k, in_groups: p, children: c, free, .. } = *room;
         let (first, second) = self.counts();
         let (total, enough) = (first + second, room.enough());
         let accepted = self.answer.number == 0;
@@ -315,6 +360,8 @@ impl Taken<'_> {
             free < enough && self.answer.third > 0,
             free < enough && !accepted,
             accepted && !is_narrow && total > enough,
+            accepted && total > free,
+            accepted && room.freed > 0 && free_blocks(self.after) > 0,
         ];
         cases.map(|met| met && k > 0)
     }
@@ -322,7 +369,7 @@ impl Taken<'_> {
 
 /// The cases that a write can meet, if it touches a page and is accepted or refused
 /// with 8.
-pub const CASES: [&str; 10] = [
+pub const CASES: [&str; 12] = [
     "k + k x c blocks free or more",
     "just k + k x c free",
     "one less free",
@@ -333,6 +380,8 @@ pub const CASES: [&str; 10] = [
     "fewer than k + k x c free, a file marked",
     "fewer than k + k x c free, refused with 8",
     "by groups, first + second over k + k x c",
+    "first + second over free, marking having freed some",
+    "marking freed some, and a block is free after",
 ];
 
 /// Writes that were judged.

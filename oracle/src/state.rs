@@ -63,6 +63,10 @@ pub struct FileRecord {
 pub const ABSENT_FILE: FileRecord =
     FileRecord { state: FileState::Absent, size: 0, zero: 0, entries: [UNMAPPED; PAGES] };
 
+/// Document 02, of marking: it "leaves size 0 and all entries unmapped". All marked files
+/// are alike.
+pub const MARKED_FILE: FileRecord = FileRecord { state: FileState::Marked, ..ABSENT_FILE };
+
 impl FileRecord {
     pub fn is_present(&self) -> bool {
         self.state != FileState::Absent
@@ -74,6 +78,11 @@ impl FileRecord {
 
     pub fn has_unmapped(&self) -> bool {
         self.entries.iter().any(|entry| entry.kind == Kind::Unmapped)
+    }
+
+    /// Whether an entry is not unmapped.
+    pub fn is_mapped(&self) -> bool {
+        self.entries.iter().any(|entry| entry.kind != Kind::Unmapped)
     }
 }
 
@@ -150,6 +159,15 @@ impl State {
     pub fn unpack_older(tables: &[u8]) -> State {
         assert_eq!(tables.len(), OLDER_TABLES_BYTES);
         State::unpack_records(tables, OLDER_SET_BYTES, unpack_older_set)
+    }
+
+    /// Reads tables of either length, whatever their bytes; none of another length.
+    pub fn unpack_either(tables: &[u8]) -> Option<State> {
+        match tables.len() {
+            TABLES_BYTES => Some(State::unpack(tables)),
+            OLDER_TABLES_BYTES => Some(State::unpack_older(tables)),
+            _ => None,
+        }
     }
 
     /// Reads tables with set records of so many bytes.

@@ -3,7 +3,7 @@
 //! that applies is given", so the checks stand in the order of the numbers.
 
 use crate::call::*;
-use crate::check::{check_older_state, check_state};
+use crate::check::{check_older, check_state};
 use crate::dates::{self, Date};
 use crate::maps::*;
 use crate::panel;
@@ -127,7 +127,7 @@ pub fn current(tables: &[u8], pages: &[u8], set: u32, day: u32) -> Answer {
     answer(try_current(tables, pages, set, day))
 }
 
-/// From older tables, of the length before Ask 8, to tables.
+/// From older tables of either length to tables.
 pub fn convert(older: &[u8], pages: &[u8], tables: &mut [u8]) -> Answer {
     answer(try_convert(older, pages, tables))
 }
@@ -502,7 +502,8 @@ fn truncate_below(
 
 /// "All other touched pages become holes in this map, their blocks free."
 /// Document 02, of a block handed over: "the delete or truncate itself does not
-/// free it"; it is in this map no longer.
+/// free it"; it is in this map no longer. So one that marking freed and a copy took
+/// since is not freed a second time.
 fn turn_to_holes(state: &mut State, set: usize, file: usize, dropped: &[usize]) {
     for page in dropped {
         let entry = state.files[set][file].entries[*page];
@@ -536,7 +537,8 @@ fn try_delete(tables: &mut [u8], pages: &mut [u8], set: u32, file: u32) -> Outco
         // Delete drops every page whole.
         (copies, marked) = state.step_4(pages, set, file, &all_pages, &all_pages);
     }
-    // The blocks that are still in the map: those handed over are not.
+    // The blocks that are still in the map: those handed over are not, whether the heir
+    // has them still, or marking freed them, or a copy has taken them since.
     state.drop_file(set, file);
     state.pack(tables);
     Ok([0, copies, marked])
@@ -682,17 +684,23 @@ fn try_current(tables: &[u8], pages: &[u8], set: u32, day: u32) -> Outcome {
 /// Document 02: "A converter, lent the pages too, takes well-formed tables of 17,436
 /// bytes into a second buffer of 17,468, adding the default term to used sets; otherwise
 /// it answers 1 and writes nothing." Well formed is meant by the rules of the older
-/// tables' time, which are document 01's.
+/// tables' time. "the converter of Ask 8 clears them", the marked files, "in older tables
+/// of either length, keeping terms already there".
 fn try_convert(older: &[u8], pages: &[u8], tables: &mut [u8]) -> Outcome {
-    if older.len() != OLDER_TABLES_BYTES || tables.len() != TABLES_BYTES {
+    let state = State::unpack_either(older).filter(|_| tables.len() == TABLES_BYTES);
+    let mut state = state.ok_or(1u32)?;
+    if !check_older(older, pages.len()).is_empty() {
         return Err(1);
     }
-    let mut state = State::unpack_older(older);
-    if !check_older_state(&state, pages.len()).is_empty() {
-        return Err(1);
+    if older.len() == OLDER_TABLES_BYTES {
+        for record in state.sets.iter_mut().filter(|record| record.used) {
+            (record.first_day, record.end_day) = (0, LATEST_END);
+        }
     }
-    for record in state.sets.iter_mut().filter(|record| record.used) {
-        (record.first_day, record.end_day) = (0, LATEST_END);
+    for (set, file) in (0..SETS).flat_map(|set| (0..FILES).map(move |file| (set, file))) {
+        if state.files[set][file].state == FileState::Marked {
+            state.clear_marked(set, file);
+        }
     }
     state.pack(tables);
     Ok([0, 0, 0])
@@ -730,8 +738,8 @@ fn try_compact(tables: &mut [u8], pages: &mut [u8], spare: &mut [u8]) -> Outcome
     Ok([0, 0, 0])
 }
 
-/// Gives the blocks of all stored entries, those of marked files too, new numbers "from
-/// 0 up, by set number, then file, then page". Gives the old ones in this order.
+/// Gives the blocks of all stored entries new numbers "from 0 up, by set number, then file,
+/// then page". Gives the old ones in this order.
 fn renumber(state: &mut State) -> Vec<usize> {
     let mut old_blocks = Vec::new();
     for file in state.files.iter_mut().flatten() {

@@ -70,7 +70,8 @@ struct Given {
     copies: u32,
     /// Files newly marked.
     marked: u32,
-    /// Blocks handed over: the call frees so many fewer.
+    /// Blocks handed over: the call frees so many fewer at its end, whatever became of
+    /// them since.
     handed_over: usize,
 }
 
@@ -211,7 +212,8 @@ impl Tally {
     /// What a waiting child gets at its turn, if no block is handed over to it.
     /// "A needed copy is step 4's, of a needed page resolving to stored; it
     /// finds none free if, at its turn, no block is free, own blocks and that
-    /// call's earlier copies being taken."
+    /// call's earlier copies being taken", and by document 02 the blocks that the
+    /// call's earlier markings freed being free.
     fn give(&mut self, child: usize, file: usize, page: usize, kind: TallyKind, given: &mut Given) {
         if kind == Stored && self.free == 0 {
             given.marked += self.mark(child, file);
@@ -247,11 +249,15 @@ impl Tally {
         }
     }
 
+    /// Document 02: "Marking now frees its stored blocks at that moment ... and leaves
+    /// size 0 and all entries unmapped, for dependents too." A block handed over is
+    /// counted among the heir's stored pages by then.
     fn mark(&mut self, set: usize, file: usize) -> u32 {
         let mut to_mark = vec![set];
         let mut marked = 0;
         while let Some(at) = to_mark.pop() {
-            self.file_mut(at, file).condition = Condition::Marked;
+            self.free += self.file(at, file).stored_pages();
+            *self.file_mut(at, file) = TallyFile::new(Condition::Marked, Unmapped);
             marked += 1;
             for &child in &self.set(at).children {
                 if self.file(child, file).depends() {

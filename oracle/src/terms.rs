@@ -3,11 +3,11 @@
 //! read here anew.
 
 use crate::call::*;
-use crate::check::{check_older, is_well_formed};
-use crate::conversion::narrowed;
+use crate::check::{check_older, is_well_formed, Rule};
+use crate::conversion::{loaded_files, narrowed, widened, Load};
 use crate::dates::{date_of, end_uncut, Date, DAYS};
 use crate::judging::{self, cases, those};
-use crate::layout::{has_own_term, is_read_only, is_used_set, term};
+use crate::layout::{block_count, has_own_term, is_marked, is_read_only, is_used_set, term};
 use crate::lent::Buffers;
 use crate::state::State;
 
@@ -52,7 +52,7 @@ cases! {
     OverOther "accepted over bytes that are not well formed";
     OverTerm "accepted over tables of the same store with other terms";
     OlderLength "a conversion is refused for the older length";
-    LongOlder "refused for older tables of 17,468 bytes";
+    OlderTerm "refused for a term of older tables of 17,468 bytes";
     NewLength "refused for the new length";
     ShortNew "refused for a new buffer of 17,436 bytes";
     ConvertPages "refused for the pages' length";
@@ -161,26 +161,27 @@ impl Asked<'_> {
     fn cases_of_conversion(&self) -> Vec<Case> {
         let (older, tables) = (self.before[Buffer::Second].as_slice(), self.tables());
         if self.answer.number == 0 {
-            let sets = (1..SETS).any(|set| older[516 + 3 * set] >= 128);
-            let marked = (0..128).any(|file| older[540 + 132 * file] >> 6 == 3);
+            let wide = widened(older);
+            let sets = (1..SETS).any(|set| is_used_set(&wide, set));
+            let marked = (0..SETS * FILES).any(|place| is_marked(&wide, place));
             let is_formed = is_well_formed(tables, self.pages_length());
-            let same_store = is_formed && narrowed(tables) == older;
-            let terms = same_store && (0..SETS).any(|set| has_own_term(tables, set));
+            let same_store = is_formed && narrowed(tables) == narrowed(older);
             return those(&[
                 (true, Case::Converted),
                 (sets, Case::ConvertedSets),
                 (marked, Case::ConvertedMarked),
                 (!is_formed, Case::OverOther),
-                (terms, Case::OverTerm),
+                (same_store && tables != wide, Case::OverTerm),
             ]);
         }
-        if older.len() != OLDER_TABLES_BYTES {
-            let is_long = older.len() == TABLES_BYTES;
-            return those(&[(true, Case::OlderLength), (is_long, Case::LongOlder)]);
+        if ![OLDER_TABLES_BYTES, TABLES_BYTES].contains(&older.len()) {
+            return vec![Case::OlderLength];
         }
         // What is wrong with the older tables, by their own count of blocks.
-        let blocks = State::unpack_older(older).block_count;
+        let blocks = block_count(older);
         let broken = check_older(older, blocks * PAGE_BYTES);
+        let of_term = |rule: Rule| matches!(rule, Rule::FirstNotBelowEnd | Rule::EndDayOver);
+        let has_bad_term = broken.iter().any(|broken| of_term(broken.rule));
         let first_part = broken.iter().any(|broken| broken.rule.is_first_part());
         let pages = self.pages_length() != blocks * PAGE_BYTES;
         let new = tables.len() != TABLES_BYTES;
@@ -190,6 +191,7 @@ impl Asked<'_> {
             (broken.is_empty() && !new && pages, Case::ConvertPages),
             (first_part && !new, Case::OlderFirstPart),
             (!first_part && !broken.is_empty() && !new, Case::OlderSecondPart),
+            (has_bad_term && !new, Case::OlderTerm),
         ])
     }
 
@@ -205,7 +207,8 @@ impl Asked<'_> {
             TABLES_BYTES if has_bad_term(tables) => {
                 let asks = !matches!(self.call, Call::Format { .. } | Call::CheckBlocks {});
                 let formed = asks && check_older(&narrowed(tables), pages_length).is_empty();
-                those(&[(formed, Case::BadTerm)])
+                let marked = loaded_files(tables).iter().any(|load| *load != Load::Nothing);
+                those(&[(formed && !marked, Case::BadTerm)])
             }
             _ => Vec::new(),
         }

@@ -28,7 +28,6 @@ pub struct Turn {
 pub struct Written<'a> {
     pub before: &'a State,
     pub after: &'a State,
-    pub answer: Answer,
     /// The pages of a group.
     pub group: usize,
     pub set: usize,
@@ -79,7 +78,6 @@ impl<'a> Written<'a> {
         Some(Written {
             before,
             after,
-            answer: *answer,
             group: write.group,
             set: write.set as usize,
             file: write.file as usize,
@@ -116,11 +114,11 @@ impl<'a> Written<'a> {
         }
     }
 
-    /// The blocks free when the extra pages begin.
+    /// The blocks free when the extra pages begin: their copies are the last that take any,
+    /// and nothing comes free after them.
     fn room(&self, turns: &[Turn]) -> usize {
         let extra = turns.iter().filter(|turn| turn.fate == Fate::Copied).count();
-        let Answer { first, second, .. } = self.answer;
-        self.before.free_blocks() + extra - (first + second) as usize
+        self.after.free_blocks() + extra
     }
 
     /// Whether each of `CASES` was met.

@@ -103,7 +103,7 @@ fn numbers_after(script: &str) -> Pair {
 #[test]
 fn the_first_part_looks_at_no_rule_of_the_second() {
     use Rule::*;
-    let cases: [(&str, &[Rule]); 48] = [
+    let cases: [(&str, &[Rule]); 50] = [
         // "the pages buffer is B x 512 bytes": the tables do not hold it.
         ("pages 0", &[PagesLength]),
         ("pages 2047", &[PagesLength]),
@@ -179,9 +179,12 @@ fn the_first_part_looks_at_no_rule_of_the_second() {
         // File 0 of set 1 is virgin: size 4, a hole.
         ("poke 2685 1", &[VirginSize]),
         ("poke 2688 64", &[VirginMapped]),
+        // The same, marked, which is well formed; then size 4; a hole.
+        ("poke 2684 192; poke 2685 1", &[MarkedSize]),
+        ("poke 2684 192; poke 2688 64", &[MarkedMapped]),
         // File 0 of set 0 marked, without a child that needs it, and with one.
-        ("remove 1; poke 572 192", &[Set0State]),
-        ("poke 572 192", &[Set0State, UnmappedNoParentFile]),
+        ("remove 1; poke 572 192", &[MarkedSize, MarkedMapped, Set0State]),
+        ("poke 572 192", &[MarkedSize, MarkedMapped, Set0State, UnmappedNoParentFile]),
         // Virgin: its entries are no longer allowed.
         ("poke 572 128; poke 573 0", &[VirginMapped, Set0State]),
         // Page 2 of file 0 of set 0, a hole, becomes unmapped.
@@ -225,9 +228,7 @@ fn entries_with_their_bits_pass_in_any_record() {
     for (set, file, state) in records {
         for page in [0, 63] {
             let put = entry(set, file, page, 2, 2);
-            // Only the marked file of a used set may have this entry.
-            let whole = u32::from(!(set == 1 && state.contains("192")));
-            gives(&format!("{state}{put}{bits}"), (0, whole));
+            gives(&format!("{state}{put}{bits}"), FIRST_PART_ACCEPTS);
             // Without the bit: an entry without a bit.
             gives(&format!("{state}{put}"), BOTH_REFUSE);
             // Block 1 is named by file 0 of set 0 too.
@@ -242,7 +243,7 @@ fn entries_with_their_bits_pass_in_any_record() {
             }
             // A hole: the bits stay right.
             let hole = entry(set, file, page, 1, 0);
-            gives(&format!("{state}{hole}"), (0, whole));
+            gives(&format!("{state}{hole}"), FIRST_PART_ACCEPTS);
         }
     }
     // Entry 1 of file 0 goes from set 0 to an unused set: block 1 is named once.
@@ -408,7 +409,7 @@ fn each_rule_is_of_one_part() {
         assert_ne!(rule.is_first_part(), Rule::SECOND_PART.contains(rule));
     }
     assert_eq!(Rule::SECOND_PART[0], Rule::PagesLength);
-    assert_eq!((Rule::FIRST_PART.len(), Rule::SECOND_PART.len()), (9, 28));
+    assert_eq!((Rule::FIRST_PART.len(), Rule::SECOND_PART.len()), (9, 30));
 }
 
 /// Both calls only look; the first part is lent the tables alone.
@@ -584,8 +585,8 @@ fn each_rule_broken_alone() {
             let found = rules_broken(&broke.tables, broke.pages.len());
             assert!(found.contains(rule));
             assert_eq!(found.len() == 1, broke.alone, "{rule:?}: {found:?}");
-            // The one rule that cannot be broken alone.
-            assert_eq!(broke.alone, *rule != Rule::Set0NotUsed);
+            // The two rules that cannot be broken alone.
+            assert_eq!(broke.alone, ![Rule::Set0NotUsed, Rule::Set0State].contains(rule));
             assert!(found.iter().all(|other| other.is_first_part() == rule.is_first_part()));
             let wanted = if rule.is_first_part() { BOTH_REFUSE } else { FIRST_PART_ACCEPTS };
             assert_eq!(numbers(&broke.tables, &broke.pages), wanted, "{rule:?}");

@@ -147,10 +147,11 @@ const CHAIN: &str = "create 0 0; create 0 1; write-narrow 0 0 0 512 1; \
 /// B = 3: all blocks are used, and next start is 1. Blocks 0, 1 and 2 go round.
 const FULL: &str = "create 0 0; create 0 1; create 0 2; write-narrow 0 0 0 512 1; \
     write-narrow 0 1 0 512 2; write-narrow 0 1 512 512 3; delete 0 0; write-narrow 0 2 0 512 4";
-/// B = 3: the file of set 1 has page 0 in block 2, and is marked for page 1; then file 0
-/// of set 0 is deleted.
+/// B = 3: the file of set 1 has page 0 in block 2, and is marked for page 1; its block comes
+/// free, and file 1 of set 0 takes it. Then file 0 of set 0 is deleted.
 const MARKED: &str = "create 0 0; write-narrow 0 0 0 1024 1; make 0 1 1; \
-    write-narrow 1 0 0 512 2; write-narrow 0 0 512 512 3; delete 0 0";
+    write-narrow 1 0 0 512 2; write-narrow 0 0 512 512 3; create 0 1; write-narrow 0 1 0 512 4; \
+    delete 0 0";
 
 #[test]
 fn an_exchange_and_a_chain() {
@@ -223,23 +224,17 @@ fn the_next_write_takes_the_block_at_next_start() {
     assert_eq!((blocks(&store), next_start(&store)), (vec![0, 2, 1], 2));
 }
 
-/// A marked file holds used blocks (C3): they are renumbered, and keep their bytes.
+/// A marked file holds no block, and stays as it is.
 #[test]
-fn blocks_of_marked_files() {
+fn marked_files_hold_no_blocks() {
     let mut store = Store::after(3, MARKED);
-    assert!(store.is_marked(1));
-    assert_eq!(named(store.0.tables()), [(1, 0, 0, 2)]);
-    let record = store.file(1);
+    assert_eq!(store.file(1), MARKED_FILE);
+    assert_eq!(named(store.0.tables()), [(0, 1, 0, 2)]);
     store.accepts("compact");
     assert_eq!((blocks(&store), used(&store), next_start(&store)), (vec![0], vec![0], 1));
-    assert!(holds(&store, 0, 2) && store.is_marked(1));
-    assert_eq!((store.file(1).size, store.file(1).has_unmapped()), (record.size, true));
+    assert!(holds(&store, 0, 4));
+    assert_eq!(store.file(1), MARKED_FILE);
     assert_eq!(store.does("read 1 0 0 1"), "6; 0, 0, 0");
-    // And before the blocks of a later set.
-    let mut store = Store::after(3, MARKED);
-    store.accepts("create 0 3; make 0 2 1; write-narrow 2 3 0 512 9; compact");
-    assert_eq!(named(store.0.tables()), [(1, 0, 0, 0), (2, 3, 0, 1)]);
-    assert!(holds(&store, 0, 2) && holds(&store, 1, 9));
 }
 
 /// "a reader of any file sees no difference": the bytes, the size and the maps looked at.
@@ -626,7 +621,7 @@ fn listing(state: &State, set: usize) -> Vec<usize> {
 }
 
 /// Each is seen by the comparison and by the judge.
-const WRONG: [(&str, Run); 19] = [
+const WRONG: [(&str, Run); 18] = [
     ("by file, then set", |_, _, lent| {
         wrongly(lent, |w| {
             let mut places = stored_places(&w.state);
@@ -655,13 +650,6 @@ const WRONG: [(&str, Run); 19] = [
             let mut places = stored_places(&w.state);
             let block = |place: &Place| w.state.files[place.0][place.1].entries[place.2].block;
             places.sort_by_key(block);
-            w.pull(&places);
-        })
-    }),
-    ("a marked file's blocks are left out", |_, _, lent| {
-        wrongly(lent, |w| {
-            let mut places = stored_places(&w.state);
-            places.retain(|(set, file, _)| w.state.files[*set][*file].state != FileState::Marked);
             w.pull(&places);
         })
     }),
@@ -914,7 +902,7 @@ const COUNTED: [Counted; 23] = [
     (2, EXCHANGE, "compact", &[Case::Exchange, Case::AllMove, Case::Full]),
     (4, CHAIN, "compact", &[Case::Chain, Case::AllMove]),
     (3, FULL, "compact", &[Case::Cycle, Case::AllMove, Case::Full]),
-    (3, MARKED, "compact", &[Case::ToFree, Case::OfMarked]),
+    (3, MARKED, "compact", &[Case::ToFree, Case::WithMarked]),
     (
         12,
         SCATTERED,

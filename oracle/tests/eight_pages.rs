@@ -342,31 +342,32 @@ fn a_child_marked_in_step_4_gets_no_extra_page() {
     let mut store = Store::after(2, script);
     assert_eq!(store.does("write 0 0 0 1 9"), "0; 0, 0, 1");
     assert!(store.is_marked(1));
-    assert_eq!((store.map(1), store.file(1).size), ("0:unmapped".into(), 1_024));
     // Set 2 has page 0 (block 2) and is not marked: it gets the holes.
     let script = "create 0 0; write-narrow 0 0 0 1024 1; make 0 1 0; make 0 2 1; \
         write-narrow 2 0 0 512 7";
     let mut store = Store::after(3, script);
     assert_eq!(store.does("write 0 0 0 1 9"), "0; 0, 0, 1");
-    assert!(store.is_marked(1) && store.map(1) == "0:unmapped");
+    assert!(store.is_marked(1));
     assert_eq!(store.file(2).state, FileState::Own);
     assert_eq!(store.map(2), "0:2 1:unmapped 2:hole 8:unmapped");
     assert_eq!(store.reads(2), [pages(&[7]), data_bytes(1_024, 1)[512..].to_vec()].concat());
-    // Marked at the second touched page, after it got a copy of the first.
+    // Marked at the second touched page, after it got a copy of the first, which comes free.
     let mut store = Store::after(4, &format!("{THREE_PAGES}; make 0 1 0"));
     assert_eq!(store.does("write 0 0 0 1024 9"), "0; 0, 1, 1");
-    assert!(store.is_marked(1) && store.map(1) == "0:3 1:unmapped");
+    assert!(store.is_marked(1));
+    assert_eq!(store.free(), 1);
 }
 
 /// B=6: create; write 0..2; make 1; make 2; grouped 0..1 by 3. Page 0 goes to
-/// blocks 3 and 4, page 1 to block 5 for set 1, and set 2 is marked. "Marked
-/// files keep their records and blocks", so page 2 finds no block for set 1.
+/// blocks 3 and 4, page 1 to block 5 for set 1, and set 2 is marked. Its copy in block 4
+/// comes free, and page 2 takes it for set 1.
 #[test]
-fn marking_frees_no_block_for_extra_pages() {
+fn marking_frees_a_block_for_extra_pages() {
     let mut store = Store::after(6, &format!("{THREE_PAGES}; make 0 1 0; make 0 2 0"));
-    assert_eq!(store.does("write-groups 3 0 0 0 1024 9"), "0; 0, 3, 1");
-    assert_eq!((store.file(1).state, store.map(1)), (FileState::Own, "0:3 1:5 2:unmapped".into()));
-    assert!(store.is_marked(2) && store.map(2) == "0:4 1:unmapped");
+    assert_eq!(store.does("write-groups 3 0 0 0 1024 9"), "0; 0, 4, 1");
+    let map = "0:3 1:5 2:4 3:unmapped";
+    assert_eq!((store.file(1).state, store.map(1)), (FileState::Own, map.into()));
+    assert!(store.is_marked(2));
     assert_eq!(store.reads(1), pages(&[1, 2, 3]));
     assert_eq!(store.free(), 0);
 }

@@ -165,14 +165,13 @@ fn without_need(pair: &Pair) -> bool {
 }
 
 /// "After a grouped write, if a block is free no live child needs a page of a
-/// touched group", and an extra page is copied only if nothing is marked.
+/// touched group".
 fn free_blocks(pair: &Pair) {
-    let Done { state, answer, .. } = pair.grouped;
+    let state = &pair.grouped.state;
     for child in pair.children() {
         let needs = pair.others.iter().any(|page| state.needs(child, pair.file, *page));
         assert!(!(needs && state.free_blocks() > 0), "{}", pair.name);
     }
-    assert!(answer.third == 0 || answer.second == pair.narrow.answer.second, "{}", pair.name);
 }
 
 /// The first free block from next start, going round.

@@ -1,5 +1,5 @@
 //! Facts found by running the store, which follow from documents 01 and 02 (Asks
-//! 2, 5 and 9). Each is checked after every call of random histories, and those of
+//! 2, 5, 9 and 10). Each is checked after every call of random histories, and those of
 //! calls on random well-formed stores too.
 
 use oracle::call::*;
@@ -8,7 +8,7 @@ use oracle::state::*;
 use std::collections::BTreeSet;
 
 mod walk;
-use walk::{Change, Seen};
+use walk::{bits_are_names, Change, Seen};
 
 const SEED: u64 = 16_000_016;
 
@@ -42,35 +42,28 @@ fn children_of_a_marked_file(state: &State, set: usize, file: usize) {
     }
 }
 
-/// In a store that calls have led to, a marked file has an unmapped entry, its
-/// parent's file is not virgin, its stored pages begin before its recorded size,
-/// and their bytes past that size are 0.
-fn maps_of_marked_files(state: &State, pages: &[u8], set: usize, file: usize) {
-    let record = &state.files[set][file];
-    assert!(record.has_unmapped());
+/// In a store that calls have led to, the parent's file of a marked file is not virgin.
+fn parents_of_marked_files(state: &State, set: usize, file: usize) {
     assert_ne!(state.files[state.sets[set].parent][file].state, FileState::Virgin);
-    for (page, entry) in record.entries.iter().enumerate() {
-        if entry.kind == Kind::Stored {
-            assert!(page * PAGE_BYTES < record.size);
-            let first = (record.size - page * PAGE_BYTES).min(PAGE_BYTES);
-            assert!(pages[block_range(entry.block)][first..].iter().all(|byte| *byte == 0));
-        }
-    }
 }
 
 #[test]
 fn facts_of_states() {
-    walk::histories(SEED, 120, |seen| {
+    let mut see = |seen: Seen| {
+        bits_are_names(seen.after);
         for (set, file) in all_files(seen.after) {
             if seen.after.files[set][file].is_own_or_virgin() {
                 zero_tail(seen.after, seen.pages_after, set, file);
             } else {
                 children_of_a_marked_file(seen.after, set, file);
-                maps_of_marked_files(seen.after, seen.pages_after, set, file);
+                parents_of_marked_files(seen.after, set, file);
             }
         }
-    });
+    };
+    walk::histories(SEED, 120, &mut see);
+    walk::histories_of_marking(SEED, 120, &mut see);
     walk::stores(SEED, 200, |seen| {
+        bits_are_names(seen.after);
         for (set, file) in all_files(seen.after) {
             if seen.after.files[set][file].state == FileState::Marked {
                 children_of_a_marked_file(seen.after, set, file);
@@ -83,7 +76,7 @@ fn facts_of_states() {
 // the call names, and its children are the files of its number in child sets.
 
 /// No set record changes. File records change only for this file and its
-/// children, and deeper down only by state own or virgin becoming marked.
+/// children, and deeper down only from own or virgin to marked, of size 0 and all unmapped.
 fn records_change_here_and_below(change: &Change) {
     let (before, after) = (change.seen.before, change.seen.after);
     assert_eq!(before.sets, after.sets);
@@ -98,7 +91,7 @@ fn records_change_here_and_below(change: &Change) {
             }
             assert!(file == change.file && is_below(before, set, change.set));
             assert!(old.is_own_or_virgin());
-            assert_eq!(*new, FileRecord { state: FileState::Marked, ..old.clone() });
+            assert_eq!(*new, MARKED_FILE);
         }
     }
 }
@@ -109,12 +102,12 @@ fn is_below(state: &State, set: usize, above: usize) -> bool {
     set != 0 && state.sets[set].used && (parent == above || is_below(state, parent, above))
 }
 
-/// A child's entry changes only from unmapped and only at a touched page or, in
-/// a write, at a page of a touched group. Afterwards no own or virgin child needs
-/// a touched page, and if a block is free, none needs a page of a touched group.
+/// An entry of a child that is not marked by the call changes only from unmapped and only at
+/// a touched page or, in a write, at a page of a touched group. Afterwards no own or virgin
+/// child needs a touched page, and if a block is free, none needs a page of a touched group.
 fn children_no_longer_need_touched_pages(change: &Change) {
     let after = change.seen.after;
-    for child in change.children() {
+    for child in change.children().into_iter().filter(|child| !change.marks(*child)) {
         for page in 0..PAGES {
             let old = change.seen.before.files[child][change.file].entries[page];
             let touched = change.touched.contains(&page);
@@ -183,29 +176,43 @@ fn to_hand_over(change: &Change) -> usize {
 }
 
 /// The copies called for are the pages needed less those to hand over, and in a
-/// write the extra pages needed. All are made, or as many as blocks are free
-/// besides the own blocks if those are too few. Some file is marked exactly if
-/// these blocks are too few without the extra pages. At most the pages to hand
-/// over are handed over, and all of them if nothing is marked.
+/// write the extra pages needed. If nothing is marked, all are made, or as many as blocks
+/// are free besides the own blocks if those are too few. With a file marked they are at
+/// least as many, and at most as many as with the freed blocks too. Some file is marked
+/// exactly if the blocks free before are too few without the extra pages. At most the pages
+/// to hand over are handed over, and all of them if nothing is marked.
 fn copies_marking_and_handing_over(change: &Change) {
     let Seen { answer, before, call, .. } = *change.seen;
     let (needed, extra) = (needed(change, &change.touched), needed(change, &change.extra));
     let to_hand_over = to_hand_over(change);
+    let called_for = needed - to_hand_over + extra;
     let room = before.free_blocks() - answer.first as usize;
-    assert_eq!(answer.second as usize, (needed - to_hand_over + extra).min(room), "{call}");
+    let least = called_for.min(room);
+    let most = called_for.min(room + change.freed.len());
+    assert!((least..=most).contains(&(answer.second as usize)), "{call}");
+    assert!(answer.third > 0 || change.freed.is_empty(), "{call}");
     assert_eq!(answer.third > 0, needed - to_hand_over > room, "{call}");
     assert!(change.handed.len() <= to_hand_over, "{call}");
     assert!(answer.third > 0 || change.handed.len() == to_hand_over, "{call}");
 }
 
-/// An extra page is copied only if nothing is marked.
-fn extra_copies_only_if_nothing_is_marked(change: &Change) {
-    let copied = |child: usize| {
-        let is_stored = |page: &usize| change.entry_after(child, *page).kind == Kind::Stored;
-        let was_needed = |page: &&usize| change.seen.before.needs(child, change.file, **page);
-        change.extra.iter().filter(was_needed).any(is_stored)
-    };
-    assert!(change.seen.answer.third == 0 || !change.children().into_iter().any(copied));
+fn stored_count(state: &State, set: usize, file: usize) -> usize {
+    state.files[set][file].entries.iter().filter(|entry| entry.kind == Kind::Stored).count()
+}
+
+/// What marking freed, without the turns: the stored entries that the files newly marked had
+/// before the call, with the copies and the blocks handed over, less the stored entries that
+/// the children still own or virgin gained.
+fn freed_blocks_by_the_tables(change: &Change) {
+    let Seen { answer, before, after, call, .. } = *change.seen;
+    let count = |state: &State, set: usize| stored_count(state, set, change.file);
+    let marked = (0..SETS).filter(|set| change.marks(*set));
+    let had: usize = marked.map(|set| count(before, set)).sum();
+    let is_live = |child: &usize| after.files[*child][change.file].is_own_or_virgin();
+    let live = change.children().into_iter().filter(is_live);
+    let gained: usize = live.map(|child| count(after, child) - count(before, child)).sum();
+    let given = answer.second as usize + change.handed.len();
+    assert_eq!(change.freed.len() + gained, had + given, "{call}");
 }
 
 fn marked_count(state: &State) -> usize {
@@ -232,43 +239,47 @@ fn own_blocks(change: &Change, state: &State) -> BTreeSet<usize> {
     entries.iter().filter(|e| e.kind == Kind::Stored).map(|e| e.block).collect()
 }
 
-/// Bytes change only in blocks that were free or were stored in this file's own
-/// map. Bits become 0 only for blocks of this file's own map. Neither happens to
-/// a block handed over.
+/// Bytes change only in blocks that were free, were stored in this file's own map, or were
+/// named by a file that the call marked. Bits become 0 only for blocks of this file's own
+/// map and of files that the call marked. Neither happens to a block handed over, unless
+/// marking freed it.
 fn other_used_blocks_stay(change: &Change) {
     let Seen { before, after, pages_before, pages_after, call, .. } = *change.seen;
-    let mut own = own_blocks(change, before);
+    let mut may = own_blocks(change, before);
     for handed in &change.handed {
-        assert!(own.remove(&handed.block), "{call}");
+        assert!(may.remove(&handed.block), "{call}");
     }
+    for set in (0..SETS).filter(|set| change.marks(*set)) {
+        let entries = before.files[set][change.file].entries;
+        may.extend(entries.iter().filter(|e| e.kind == Kind::Stored).map(|e| e.block));
+    }
+    let freed = change.handed.iter().filter(|handed| change.freed.contains(&handed.block));
+    may.extend(freed.map(|handed| handed.block));
     for block in 0..before.block_count {
         let same = pages_before[block_range(block)] == pages_after[block_range(block)];
-        assert!(same || !before.bits[block] || own.contains(&block), "{call}: block {block}");
+        assert!(same || !before.bits[block] || may.contains(&block), "{call}: block {block}");
         let falls = before.bits[block] && !after.bits[block];
-        assert!(!falls || own.contains(&block), "{call}: block {block}");
+        assert!(!falls || may.contains(&block), "{call}: block {block}");
     }
 }
 
-/// Own blocks and copies come from the free blocks, and the blocks that leave
-/// this file's map become free, except those handed over. Own blocks and copies
-/// are at most the blocks free before. Own blocks are at most the touched pages,
-/// copies at most these and the extra pages times the children. Without any, next
-/// start stays. After a write that
-/// marks, no block is free. A write hands nothing over.
+/// Own blocks and copies come from the free blocks and from those that marking freed, a
+/// block as often as it was freed; and the blocks that leave this file's map become free,
+/// except those handed over. Own blocks are at most the touched pages, copies at most these
+/// and the extra pages times the children. Without any, next start stays. A write hands
+/// nothing over.
 fn free_blocks_add_up(change: &Change) {
     let Seen { answer, before, after, call, .. } = *change.seen;
     let gone = own_blocks(change, before).difference(&own_blocks(change, after)).count();
     let taken = (answer.first + answer.second) as usize;
     let left = after.free_blocks() + taken + change.handed.len();
-    assert_eq!(left, before.free_blocks() + gone, "{call}");
-    assert!(taken <= before.free_blocks(), "{call}");
+    assert_eq!(left, before.free_blocks() + gone + change.freed.len(), "{call}");
+    assert!(taken <= before.free_blocks() + change.freed.len(), "{call}");
     let pages = change.touched.len() + change.extra.len();
     assert!(answer.first as usize <= change.touched.len(), "{call}");
     assert!(answer.second as usize <= pages * change.children().len(), "{call}");
     assert!(taken > 0 || after.next_start == before.next_start, "{call}");
-    let write = call.as_write().is_some();
-    assert!(!write || answer.third == 0 || after.free_blocks() == 0, "{call}");
-    assert!(!write || change.handed.is_empty(), "{call}");
+    assert!(call.as_write().is_none() || change.handed.is_empty(), "{call}");
 }
 
 /// After a write every touched page is stored in this file's map. A write with
@@ -330,41 +341,44 @@ fn compaction(seen: &Seen) {
     }
 }
 
-/// All facts of one call; gives its counts and the blocks handed over.
-fn facts_of_call(seen: &Seen) -> [usize; 4] {
+/// All facts of one call; gives its counts, the blocks handed over and those freed by
+/// marking.
+fn facts_of_call(seen: &Seen) -> [usize; 5] {
     let Some(change) = Change::of(seen) else {
         match seen.call {
             Call::Compact {} => compaction(seen),
             _ => create_make_and_remove(seen),
         }
-        return [0; 4];
+        return [0; 5];
     };
     records_change_here_and_below(&change);
     children_no_longer_need_touched_pages(&change);
     others_resolve_as_before(&change);
     copies_marking_and_handing_over(&change);
-    extra_copies_only_if_nothing_is_marked(&change);
+    freed_blocks_by_the_tables(&change);
     third_count_is_files_newly_marked(&change);
     other_used_blocks_stay(&change);
     free_blocks_add_up(&change);
     written_pages_are_stored(&change);
     let Answer { first, second, third, .. } = seen.answer;
-    [first as usize, second as usize, third as usize, change.handed.len()]
+    let [first, second, third] = [first, second, third].map(|count| count as usize);
+    [first, second, third, change.handed.len(), change.freed.len()]
 }
 
 #[derive(Default)]
-struct Sums([usize; 4]);
+struct Sums([usize; 5]);
 
 impl Sums {
-    fn add(&mut self, counts: [usize; 4]) {
+    fn add(&mut self, counts: [usize; 5]) {
         for (sum, count) in self.0.iter_mut().zip(counts) {
             *sum += count;
         }
     }
 
     fn check(&self) {
-        let [own, copies, marked, handed] = self.0;
+        let [own, copies, marked, handed, freed] = self.0;
         println!("own {own}, copies {copies}, marked {marked}, handed over {handed}");
+        println!("freed by marking {freed}");
         assert!(self.0.iter().all(|sum| *sum > 100));
     }
 }
@@ -373,6 +387,7 @@ impl Sums {
 fn facts_of_calls_in_histories() {
     let mut sums = Sums::default();
     walk::histories(SEED ^ 1, 150, |seen| sums.add(facts_of_call(&seen)));
+    walk::histories_of_marking(SEED ^ 4, 200, |seen| sums.add(facts_of_call(&seen)));
     sums.check();
 }
 
@@ -381,5 +396,6 @@ fn facts_of_calls_on_well_formed_stores() {
     let mut sums = Sums::default();
     walk::stores(SEED ^ 2, 800, |seen| sums.add(facts_of_call(&seen)));
     walk::written_stores(SEED ^ 3, 800, |seen| sums.add(facts_of_call(&seen)));
+    walk::marked_stores(SEED ^ 5, 800, |seen| sums.add(facts_of_call(&seen)));
     sums.check();
 }

@@ -1,5 +1,5 @@
 //! Ask 2 of document 02, "Delete hands its blocks to the copy", as it is read
-//! in docs/DECISIONS.md, "Readings of 02", Ask 2. The expected answers, maps and
+//! in docs/DECISIONS.md, "Readings of 02", Ask 2, with what marking frees (Ask 10). The expected answers, maps and
 //! bytes were worked out by hand from the papers. Each script runs with plain
 //! store and tally beside. All files have number 0; in the comments "set 1" is
 //! short for the file of set 1.
@@ -111,7 +111,6 @@ fn a_page_read_through_the_parent_marks_with_no_block_free() {
     let mut store = Store::after(2, READS_PAGE_0_THROUGH_PARENT);
     assert_eq!(store.does("delete 1 0"), "0; 0, 0, 1");
     assert!(store.is_marked(2));
-    assert_eq!((store.map(2), store.file(2).size), ("0:unmapped".into(), 1_024));
     assert_eq!(store.reads(0), pages(&[1]));
     assert_eq!(store.free(), 1);
 }
@@ -131,17 +130,17 @@ fn a_truncate_with_an_own_block_copies_and_pages_handed_over() {
     assert_eq!(store.does("truncate 1 0 100"), "0; 1, 1, 1");
     assert_eq!(store.map(1), "0:2 1:hole 2:unmapped");
     assert_eq!(store.map(2), "0:3 1:1 2:unmapped");
-    assert!(store.is_marked(3) && store.map(3) == "0:unmapped");
+    assert!(store.is_marked(3));
     assert_eq!(store.reads(0), pages(&[1]));
     assert_eq!(store.reads(1), pages(&[1])[..100]);
     assert_eq!(store.reads(2), pages(&[1, 2]));
     assert_eq!(store.free(), 0);
-    // Two: set 3 lacks one for page 1.
+    // Two: set 3 lacks one for page 1, and the copy of page 0 in block 4 comes free.
     let mut store = Store::after(5, &script);
     assert_eq!(store.does("truncate 1 0 100"), "0; 1, 2, 1");
     assert_eq!(store.map(2), "0:3 1:1 2:unmapped");
-    assert!(store.is_marked(3) && store.map(3) == "0:4 1:unmapped");
-    assert_eq!(store.free(), 0);
+    assert!(store.is_marked(3));
+    assert_eq!(store.free(), 1);
     // Three: nothing is marked.
     let mut store = Store::after(6, &script);
     assert_eq!(store.does("truncate 1 0 100"), "0; 1, 3, 0");
@@ -213,7 +212,7 @@ fn the_heir_is_the_first_child_in_order_of_making() {
     let mut store = Store::after(1, "create 0 0; write-narrow 0 0 0 512 1; make 0 2 0; make 0 1 0");
     assert_eq!(store.does("delete 0 0"), "0; 0, 0, 1");
     assert_eq!(store.map(2), "0:0 1:hole");
-    assert!(store.is_marked(1) && store.map(1) == "0:unmapped");
+    assert!(store.is_marked(1));
     assert_eq!(store.reads(2), pages(&[1]));
 }
 
@@ -260,7 +259,6 @@ fn a_child_marked_earlier_in_the_call_is_passed_over() {
     let mut store = Store::after(3, script);
     assert_eq!(store.does("truncate 0 0 100"), "0; 0, 0, 1");
     assert!(store.is_marked(1));
-    assert_eq!((store.map(1), store.file(1).size), ("0:unmapped".into(), 1_024));
     assert_eq!(store.map(0), "0:0 1:hole");
     assert_eq!(store.map(2), "0:2 1:1 2:unmapped");
     assert_eq!(store.reads(0), data_bytes(1_024, 1)[..100]);
@@ -276,7 +274,7 @@ fn a_child_marked_earlier_in_a_delete_is_passed_over() {
         make 1 2 0; make 1 3 1; write-narrow 3 0 0 512 3";
     let mut store = Store::after(3, script);
     assert_eq!(store.does("delete 1 0"), "0; 0, 0, 1");
-    assert!(store.is_marked(2) && store.map(2) == "0:unmapped");
+    assert!(store.is_marked(2));
     assert_eq!(store.map(3), "0:2 1:1 2:hole");
     assert_eq!(store.reads(3), pages(&[3, 2]));
     assert_eq!(store.free(), 0);
@@ -290,37 +288,38 @@ fn a_child_marked_before_the_call_is_passed_over() {
     let mut store = Store::after(1, script);
     assert!(store.is_marked(1));
     assert_eq!(store.does("delete 0 0"), "0; 0, 0, 0");
-    assert!(store.is_marked(1) && store.map(1) == "0:unmapped");
+    assert!(store.is_marked(1));
     assert_eq!(store.map(2), "0:0 1:hole");
     assert_eq!(store.reads(2), pages(&[2]));
 }
 
-/// The heir of page 0 is marked at page 1, which is read through the parent. A
-/// marked file keeps its blocks, so the block stays used until it is deleted.
+/// The heir of page 0 is marked at page 1, which is read through the parent. The block that
+/// it took over comes free with it, and its own delete frees nothing more.
 #[test]
-fn an_heir_marked_later_in_the_call_keeps_the_block() {
+fn an_heir_marked_later_in_the_call_gives_the_block_back() {
     let script = "create 0 0; write-narrow 0 0 512 512 1; make 0 1 1; write-narrow 1 0 0 512 2; \
         make 1 2 1";
     let mut store = Store::after(2, script);
     assert_eq!(store.does("delete 1 0"), "0; 0, 0, 1");
     assert!(store.is_marked(2));
-    assert_eq!((store.map(2), store.file(2).size), ("0:1 1:unmapped".into(), 1_024));
-    assert_eq!(store.free(), 0);
+    assert_eq!(store.free(), 1);
     assert_eq!(store.does("delete 2 0"), "0; 0, 0, 0");
     assert_eq!(store.free(), 1);
     assert_eq!(store.reads(0), pages(&[0, 1]));
 }
 
-/// Its block is not there for the next child either: set 2 takes page 0 over
-/// (block 1) and is marked at page 1, and so is set 3, which has page 0 itself.
+/// The block is there for the next child: set 2 takes page 0 over (block 1) and is marked at
+/// page 1; set 3, which has page 0 itself, takes block 1 for page 1. The delete does not free
+/// it, though it was in set 1's map before.
 #[test]
-fn a_block_of_an_heir_marked_later_is_not_free_for_this_calls_copies() {
+fn a_block_of_an_heir_marked_later_is_free_for_this_calls_copies() {
     let script = "create 0 0; write-narrow 0 0 512 512 1; make 0 1 1; write-narrow 1 0 0 512 2; \
         make 1 2 0; make 1 3 1; write-narrow 3 0 0 512 3";
     let mut store = Store::after(3, script);
-    assert_eq!(store.does("delete 1 0"), "0; 0, 0, 2");
-    assert!(store.is_marked(2) && store.map(2) == "0:1 1:unmapped");
-    assert!(store.is_marked(3) && store.map(3) == "0:2 1:unmapped");
+    assert_eq!(store.does("delete 1 0"), "0; 0, 1, 1");
+    assert!(store.is_marked(2));
+    assert_eq!(store.map(3), "0:2 1:1 2:hole");
+    assert_eq!(store.reads(3), pages(&[3, 1]));
     assert_eq!(store.reads(0), pages(&[0, 1]));
     assert_eq!(store.free(), 0);
 }
@@ -344,23 +343,23 @@ fn the_later_children_get_copies_of_the_same_block() {
 }
 
 /// With no block free each is marked: set 2 at page 1, after it got a copy of
-/// page 0; set 3 at page 0.
+/// page 0, which comes free; set 3 at page 0.
 #[test]
 fn the_later_children_are_marked_with_no_block_free() {
     let script = format!("{TWO_PAGES}; make 0 1 0; make 0 2 0; make 0 3 0");
     let mut store = Store::after(3, &script);
     assert_eq!(store.does("delete 0 0"), "0; 0, 1, 2");
     assert_eq!(store.map(1), "0:0 2:hole");
-    assert!(store.is_marked(2) && store.map(2) == "0:2 1:unmapped");
-    assert!(store.is_marked(3) && store.map(3) == "0:unmapped");
+    assert!(store.is_marked(2) && store.is_marked(3));
     assert_eq!(store.reads(1), pages(&[1, 2]));
-    assert_eq!(store.free(), 0);
+    assert_eq!(store.free(), 1);
     // The same in truncate.
     let mut store = Store::after(3, &script);
     assert_eq!(store.does("truncate 0 0 0"), "0; 0, 1, 2");
     assert_eq!(store.map(1), "0:0 2:unmapped");
     assert!(store.is_marked(2) && store.is_marked(3));
     assert_eq!(store.reads(1), pages(&[1, 2]));
+    assert_eq!(store.free(), 1);
 }
 
 /// M12 with 2 to 7 children: the first has both blocks, the others are marked;
@@ -376,7 +375,6 @@ fn row_12_with_2_to_7_children() {
         assert_eq!(store.reads(1), pages(&[1, 2]));
         for set in 2..=children {
             assert!(store.is_marked(set));
-            assert_eq!((store.map(set), store.file(set).size), ("0:unmapped".into(), 1_024));
         }
         assert_eq!(store.free(), 0);
         let mut store = Store::after(2 * children, &script);
@@ -442,7 +440,7 @@ fn blocks_that_no_child_needs_are_not_free_for_this_calls_copies() {
     assert_eq!(store.map(1), "0:hole 1:unmapped");
     assert_eq!(store.does("delete 0 0"), "0; 0, 0, 1");
     assert_eq!(store.map(1), "0:hole 1:0 2:hole");
-    assert!(store.is_marked(2) && store.map(2) == "0:hole 1:unmapped");
+    assert!(store.is_marked(2));
     assert_eq!(store.reads(1), pages(&[0, 1]));
     assert_eq!(store.free(), 1);
     // The same in truncate.
@@ -545,14 +543,13 @@ fn a_page_whose_only_heir_was_marked_is_freed() {
     let mut store = Store::after(2, "create 0 0; write-narrow 0 0 0 1024 1; make 0 1 0");
     assert_eq!(store.does("truncate 0 0 1"), "0; 0, 0, 1");
     assert!(store.is_marked(1));
-    assert_eq!((store.map(1), store.file(1).size), ("0:unmapped".into(), 1_024));
     assert_eq!(store.map(0), "0:0 1:hole");
     assert_eq!(store.reads(0), data_bytes(1, 1));
     assert_eq!(store.free(), 1);
 }
 
-/// "A marked file is only freed and made absent." Set 1 has page 0 in block 2
-/// and is marked with set 2.
+/// "A marked file is only freed and made absent." Set 1 had page 0 in block 2
+/// and is marked with set 2: the block is free since then.
 #[test]
 fn delete_of_a_marked_file_hands_nothing_over() {
     let script = format!(
@@ -560,10 +557,10 @@ fn delete_of_a_marked_file_hands_nothing_over() {
     );
     let mut store = Store::after(3, &script);
     assert!(store.is_marked(1) && store.is_marked(2));
-    assert_eq!(store.map(1), "0:2 1:unmapped");
+    assert_eq!(store.free(), 1);
     assert_eq!(store.does("delete 1 0"), "0; 0, 0, 0");
     assert_eq!(store.file(1), ABSENT_FILE);
-    assert!(store.is_marked(2) && store.map(2) == "0:unmapped");
+    assert!(store.is_marked(2));
     assert_eq!(store.free(), 1);
     // A live child of a marked file: it was deleted and created anew.
     let mut store = Store::after(3, &format!("{script}; delete 2 0; create 2 0"));

@@ -2,11 +2,11 @@
 //! it promises of files that are left unmarked and of marking, and that the
 //! cases that matter are met, and how often.
 
-use oracle::bench::Handed;
 use oracle::call::*;
 use oracle::maps::Resolved;
 use oracle::state::*;
 use oracle::store::read_bytes;
+use oracle::turns::{Handed, Turn};
 use std::collections::{BTreeMap, BTreeSet};
 
 mod walk;
@@ -50,30 +50,35 @@ fn others_read_as_before(seen: &Seen, changed: usize) {
     }
 }
 
-/// "marking still needs a copy with no block free": own blocks and copies have
-/// taken all that were free, and a file is marked either because the file that
-/// it reads through is, or because it lacks a page that was not to be had
-/// without a copy.
+/// "marking still needs a copy with no block free", which "is judged at each copy's turn":
+/// at that turn own blocks and copies have taken all that were free, with those that
+/// earlier markings freed. A file is marked either because the file that it reads through
+/// is, or because it lacks a page that was not to be had without a copy.
 fn marking_needs_a_copy_with_no_block_free(change: &Change) {
     let (seen, file) = (change.seen, change.file);
+    let turns = change.turns.as_ref().expect("a call that drops pages has turns");
     let newly: Vec<usize> = (0..SETS).filter(|set| change.marks(*set)).collect();
     assert_eq!(newly.len(), seen.answer.third as usize);
-    if newly.is_empty() {
-        return;
-    }
-    let taken = (seen.answer.first + seen.answer.second) as usize;
-    assert_eq!(taken, seen.before.free_blocks(), "{}", seen.call);
-    for set in newly {
-        if seen.before.sets[set].parent != change.set {
-            assert!(change.marks(seen.before.sets[set].parent), "{}", seen.call);
-            assert!(seen.after.files[set][file].has_unmapped(), "{}", seen.call);
-            continue;
+    let mut free = seen.before.free_blocks();
+    for turn in &turns.list {
+        match turn {
+            Turn::Own { .. } | Turn::Copied(_) => free -= 1,
+            Turn::Marked { page, child, set, blocks } => {
+                assert!(newly.contains(set), "{}", seen.call);
+                if set == child {
+                    assert_eq!(free, 0, "{}", seen.call);
+                    let resolved = seen.before.resolve(change.set, file, *page);
+                    assert!(resolved != Resolved::Hole, "{}", seen.call);
+                    assert!(seen.before.needs(*child, file, *page), "{}", seen.call);
+                    assert!(needs_a_copy(change, *child, *page), "{}: set {set}", seen.call);
+                } else {
+                    assert!(change.marks(seen.before.sets[*set].parent), "{}", seen.call);
+                    assert!(seen.before.files[*set][file].has_unmapped(), "{}", seen.call);
+                }
+                free += blocks.len();
+            }
+            _ => {}
         }
-        let lacks = |page: &usize| {
-            let stored = seen.before.resolve(change.set, file, *page) != Resolved::Hole;
-            stored && change.entry_after(set, *page) == UNMAPPED && needs_a_copy(change, set, *page)
-        };
-        assert!(change.touched.iter().any(lacks), "{}: set {set}", seen.call);
     }
 }
 

@@ -582,9 +582,14 @@ fn bits_are_added_to_any_cause() {
 // Counts over 255.
 
 /// P11: a file of 64 pages in set 0 and seven children. The first takes the blocks
-/// over, the others need 64 x 6 = 384 copies, page by page. Where none is free they
-/// are marked, all six of them unless it is the last page: page 63 begins with 378
-/// copies made.
+/// over, the others need 64 x 6 = 384 copies, page by page. Where none is free one of them
+/// is marked, and its copies of the pages before come free for the others.
+///
+/// With 254 blocks: pages 0 to 41 take 252; of page 42 sets 2 and 3 get copies, set 4 is
+/// marked, which frees 42, and sets 5 to 7 take 3 of them. The five left take 35 for pages
+/// 43 to 49 and 4 for page 50, where set 7 is marked, which frees 50. The four left take 48
+/// for pages 51 to 62 and 2 for page 63, where set 5 is marked, and set 6 takes one more:
+/// 252 + 5 + 35 + 4 + 48 + 2 + 1 = 347. The other cases are reckoned in the same way.
 #[test]
 fn counts_over_255_show_as_255() {
     let children: String = (1..8).map(|set| format!("; make 0 {set} 0")).collect();
@@ -593,12 +598,13 @@ fn counts_over_255_show_as_255() {
     let cases = [
         (0, 0, 0, 6),
         (1, 1, 1, 6),
-        (254, 254, 254, 6),
-        (255, 255, 255, 6),
-        (256, 256, 255, 6),
-        (257, 257, 255, 6),
-        (378, 378, 255, 6),
-        (381, 381, 255, 3),
+        (2, 3, 3, 6),
+        (134, 253, 253, 4),
+        (135, 255, 255, 4),
+        (136, 256, 255, 4),
+        (254, 347, 255, 3),
+        (256, 349, 255, 2),
+        (383, 383, 255, 1),
         (384, 384, 255, 0),
         (400, 384, 255, 0),
     ];

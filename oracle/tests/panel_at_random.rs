@@ -137,7 +137,7 @@ fn histories_are_as_the_calls_they_run_and_meet_every_case() {
     println!("seed {SEED}");
     let mut rng = Rng::new(SEED);
     let mut counts = Counts::default();
-    for round in 0..250 {
+    for round in 0..350 {
         let block_count = if round % 10 == 0 { 64 } else { rng.between(1, 12) };
         let start = panel::panel_start(&mut rng, block_count);
         history(&mut rng, start, 25, &mut counts);

@@ -2,7 +2,7 @@
 
 use oracle::call::*;
 use oracle::conversion::narrowed;
-use oracle::state::State;
+use oracle::state::*;
 use std::io::Write;
 use std::path::PathBuf;
 use std::process::{Command, Output, Stdio};
@@ -90,6 +90,38 @@ fn check_tells_of_terms_and_of_older_tables() {
         set-zero: The zero field of a set record is not zero. set 0\n";
     assert_eq!(printed(&["check", &bad]), format!("{told}{wanted}"));
     assert_eq!(status(&["check", &bad]), 1);
+}
+
+/// Ask 10: what marked files hold is told, and that the converter takes such tables.
+#[test]
+fn check_tells_of_marked_files() {
+    let mut state = State::formatted(3);
+    state.files[0][0] = FileRecord { state: FileState::Own, entries: [HOLE; PAGES], ..ABSENT_FILE };
+    state.sets[0].first_child = 1;
+    state.sets[1] = SetRecord {
+        used: true,
+        level: 1,
+        first_child: NONE,
+        next_sibling: NONE,
+        end_day: LATEST_END,
+        ..UNUSED_SET
+    };
+    state.files[1][0] = MARKED_FILE;
+    assert_eq!(printed(&["check", &file("marked", &state.packed())]), "well formed\n");
+    state.files[1][0].size = 9;
+    state.files[1][0].entries[5] = stored(2);
+    state.bits[2] = true;
+    let loaded = file("loaded", &state.packed());
+    let wanted = "not well formed, broken rules: 2\n\
+        marked-size: A marked file has a size other than 0. set 1 file 0\n\
+        marked-mapped: A marked file has an entry that is not unmapped. set 1 file 0\n\
+        well formed before Ask 10; sweep_convert takes these tables and clears marked files\n";
+    assert_eq!(printed(&["check", &loaded]), wanted);
+    assert_eq!(status(&["check", &loaded]), 1);
+    // By document 01 they are well formed.
+    assert_eq!(status(&["check", &file("loaded-older", &narrowed(&state.packed()))]), 0);
+    state.sets[1].end_day = 0;
+    assert!(!printed(&["check", &file("both", &state.packed())]).contains("before Ask 10"));
 }
 
 #[test]

@@ -1,5 +1,6 @@
 //! Ask 7 of document 02, "How much room a write can take", as it is read in
-//! docs/DECISIONS.md, "Readings of 02", Ask 7. The expected numbers and answers were
+//! docs/DECISIONS.md, "Readings of 02", Ask 7, with the blocks that marking frees counted
+//! among the free ones (Ask 10). The expected numbers and answers were
 //! worked out by hand from the papers. Each script runs with plain store and tally
 //! beside, and each write goes through the judge.
 //!
@@ -13,6 +14,7 @@ use oracle::call::*;
 use oracle::room::{self, Bound, Judged, Judgement, Room, Taken, CASES};
 use oracle::state::*;
 use oracle::store;
+use oracle::turns::Turns;
 use std::collections::BTreeSet;
 
 mod script;
@@ -72,16 +74,30 @@ impl Done {
     }
 }
 
-/// Does a write on a store of this many blocks. The judge must find k, p, c and the
-/// free blocks to be these, and no bound broken; afterwards as many blocks fewer are
-/// free as the first two counts say.
+/// Does a write on a store of this many blocks, in which marking frees nothing. The judge
+/// must find k, p, c and the free blocks to be these, and no bound broken; afterwards as many
+/// blocks fewer are free as the first two counts say.
 fn takes(blocks: usize, script: &str, line: &str, room: [usize; 4], answer: &str) -> Store {
+    takes_and_frees(blocks, script, line, room, 0, answer)
+}
+
+/// The same of a write whose markings free so many blocks, a block as often as it is freed.
+fn takes_and_frees(
+    blocks: usize,
+    script: &str,
+    line: &str,
+    room: [usize; 4],
+    freed: usize,
+    answer: &str,
+) -> Store {
     let mut store = Store::after(blocks, script);
     let done = Done::on(&mut store, line);
     assert_eq!(done.room(), Some(room), "{blocks} blocks; {script}; {line}");
+    assert_eq!(done.judgement().room.unwrap().freed, freed, "{blocks} blocks; {script}; {line}");
     assert_eq!(done.answer.to_string(), answer, "{blocks} blocks; {script}; {line}");
     assert_eq!(done.judgement().outcome(), Ok(()));
-    assert_eq!(store.free() + done.answer.first + done.answer.second, room[3] as u32);
+    let taken = (done.answer.first + done.answer.second) as usize;
+    assert_eq!(store.free() as usize + taken, room[3] + freed);
     store
 }
 
@@ -185,7 +201,7 @@ fn a_grouped_write_can_take_more_than_a_narrow_one_may() {
 
 /// "With k + k x c blocks free, neither kind marks a file or is refused with 8." k = 2, c
 /// = 2: 6 blocks are enough for each kind, as pages 2 on are holes. With 5 the last copy,
-/// of page 1 for set 3, finds none.
+/// of page 1 for set 3, finds none, and set 3's copy of page 0 comes free.
 #[test]
 fn just_enough_and_one_less() {
     for (kind, group) in KINDS {
@@ -195,7 +211,7 @@ fn just_enough_and_one_less() {
             let store = takes(blocks, TWO_PAGES, &line, [2, p, 2, blocks - 2], "0; 2, 4, 0");
             assert!(!(1..4).any(|set| store.is_marked(set)), "{line}");
         }
-        let store = takes(7, TWO_PAGES, &line, [2, p, 2, 5], "0; 2, 3, 1");
+        let store = takes_and_frees(7, TWO_PAGES, &line, [2, p, 2, 5], 1, "0; 2, 3, 1");
         assert!(store.is_marked(3) && !store.is_marked(2), "{line}");
     }
 }
@@ -237,12 +253,12 @@ fn extra_pages_without_a_block_where_there_is_just_enough() {
     let line = "write 1 0 4095 2 9";
     let store = takes(20, TWO_EIGHTS, line, [2, 16, 1, 4], "0; 2, 2, 0");
     assert_eq!(store.map(2), "0:unmapped 7:18 9:unmapped");
-    takes(19, TWO_EIGHTS, line, [2, 16, 1, 3], "0; 2, 1, 1");
+    takes_and_frees(19, TWO_EIGHTS, line, [2, 16, 1, 3], 1, "0; 2, 1, 1");
     // By threes, pages 2 and 3 of 0 to 5: k = 2, c = 1, so 4 of 10 - 6 = 4.
     let six = "create 0 0; write-narrow 0 0 0 3072 1; make 0 1 1; make 1 2 0";
     let line = "write-groups 3 1 0 1024 1024 9";
     takes(10, six, line, [2, 6, 1, 4], "0; 2, 2, 0");
-    takes(9, six, line, [2, 6, 1, 3], "0; 2, 1, 1");
+    takes_and_frees(9, six, line, [2, 6, 1, 3], 1, "0; 2, 1, 1");
 }
 
 /// One block less than k + k x c need not be too few. A hole needs an own block and no
@@ -351,7 +367,7 @@ fn level_5() {
         // In set 4: k = 2, c = 3. 2 + 2 x 3 = 8 of 10 - 2; with one less set 7 is marked.
         let line = format!("{kind} 4 0 0 1024 9");
         takes(10, script, &line, [2, p, 3, 8], "0; 2, 6, 0");
-        takes(9, script, &line, [2, p, 3, 7], "0; 2, 5, 1");
+        takes_and_frees(9, script, &line, [2, p, 3, 7], 1, "0; 2, 5, 1");
         // In set 5, of level 5: no children. k = 2 of 4 - 2; with one less 8.
         let line = format!("{kind} 5 0 0 1024 9");
         takes(4, script, &line, [2, p, 0, 2], "0; 2, 0, 0");
@@ -360,8 +376,56 @@ fn level_5() {
         // three sets below it.
         let line = format!("{kind} 3 0 0 1024 9");
         takes(6, script, &line, [2, p, 1, 4], "0; 2, 2, 0");
-        takes(5, script, &line, [2, p, 1, 3], "0; 2, 1, 4");
+        takes_and_frees(5, script, &line, [2, p, 1, 3], 1, "0; 2, 1, 4");
     }
+}
+
+// Blocks that marking freed.
+
+/// B=4: create; write 0..1; make 1; make 2; write 0..1. Two blocks are free, one each for
+/// page 0; at page 1 set 1 is marked, and set 2 takes its block. Three copies, over 2.
+#[test]
+fn more_is_taken_than_was_free() {
+    let script = "create 0 0; write-narrow 0 0 0 1024 1; make 0 1 0; make 0 2 0";
+    let line = "write-narrow 0 0 0 1024 9";
+    let store = takes_and_frees(4, script, line, [2, 2, 2, 2], 1, "0; 0, 3, 1");
+    assert!(store.is_marked(1));
+    assert_eq!(store.map(2), "0:3 1:2 2:unmapped");
+    assert_eq!(store.reads(2), data_bytes(1_024, 1));
+}
+
+/// "a block as often as it was freed". B=8: create; write 0..3; make 1, 2, 3, 4; write 0..3.
+/// Pages 0 to 3 are in blocks 0 to 3. Page 0 goes to blocks 4 to 7, for sets 1 to 4. Page 1:
+/// set 1 is marked (4), set 2 takes 4, set 3 is marked (6), set 4 takes 6. Page 2: set 2 is
+/// marked (5 and 4), and set 4 takes 4, the first free one from next start 7, going round.
+/// Page 3: set 4 takes 5. Eight copies; 4 blocks were free, and 3 different ones were freed,
+/// block 4 twice: counted once each they would be 7.
+#[test]
+fn a_block_counts_as_often_as_it_was_freed() {
+    let script =
+        "create 0 0; write-narrow 0 0 0 2048 1; make 0 1 0; make 0 2 0; make 0 3 0; make 0 4 0";
+    let line = "write-narrow 0 0 0 2048 9";
+    let store = takes_and_frees(8, script, line, [4, 4, 4, 4], 4, "0; 0, 8, 3");
+    assert!([1, 2, 3].into_iter().all(|set| store.is_marked(set)));
+    assert_eq!(store.reads(4), data_bytes(2_048, 1));
+    assert_eq!(store.free(), 0);
+    let call = call_of(line);
+    let before = Store::after(8, script).state();
+    let freed = Turns::of(&call, &before).unwrap().freed();
+    assert_eq!(freed.iter().collect::<BTreeSet<_>>().len(), 3);
+    assert_eq!(freed.len(), 4);
+}
+
+/// B=6: create; write 0..2; make 1; make 2; grouped 0..1 by 3. Set 1 gets pages 0 and 1, set
+/// 2 page 0; set 2 is marked at page 1, and the extra page 2 takes its block for set 1.
+/// Narrowly the block stays free.
+#[test]
+fn an_extra_page_takes_a_freed_block() {
+    let script = "create 0 0; write-narrow 0 0 0 1536 1; make 0 1 0; make 0 2 0";
+    let grouped = "write-groups 3 0 0 0 1024 9";
+    takes_and_frees(6, script, grouped, [2, 3, 2, 3], 1, "0; 0, 4, 1");
+    let narrow = "write-narrow 0 0 0 1024 9";
+    takes_and_frees(6, script, narrow, [2, 2, 2, 3], 1, "0; 0, 3, 1");
 }
 
 // Writes that take nothing.
@@ -453,7 +517,7 @@ fn touched_pages() {
         (1, 32_767, 64),
     ];
     for (offset, length, touched) in cases {
-        let wanted = Room { touched, in_groups: touched, children: 0, free: 5 };
+        let wanted = Room { touched, in_groups: touched, children: 0, free: 5, freed: 0 };
         assert_eq!(Room::of(&write_of(1, offset, length), &tables), wanted, "{offset} {length}");
     }
 }
@@ -499,7 +563,7 @@ fn pages_of_touched_groups() {
     for (first, last, group, in_groups) in IN_GROUPS {
         let touched = last + 1 - first;
         let write = write_of(group, (first * PAGE_BYTES) as u32, touched * PAGE_BYTES);
-        let wanted = Room { touched, in_groups, children: 0, free: 5 };
+        let wanted = Room { touched, in_groups, children: 0, free: 5, freed: 0 };
         assert_eq!(Room::of(&write, &tables), wanted, "{first} {last} {group}");
         assert_eq!(wanted.enough(), touched);
     }
@@ -548,9 +612,16 @@ fn narrow() -> Done {
     Done::after(10, TWO_PAGES, "write-narrow 1 0 0 1024 9")
 }
 
-/// The same with 5 blocks free, which are not: 0; 2, 3, 1.
+/// The same with 5 blocks free, which are not: 0; 2, 3, 1. Block 5 was taken and freed.
 fn too_few() -> Done {
     Done::after(7, TWO_PAGES, "write-narrow 1 0 0 1024 9")
+}
+
+/// B=4: create; write 1..2; make 1; write(1,0 page 0); write 0..1: 0; 1, 0, 1. One block was
+/// free, block 3, which is the own block of page 0; block 2, set 1's own, is free after.
+fn frees() -> Done {
+    let script = "create 0 0; write-narrow 0 0 512 1024 1; make 0 1 1; write-narrow 1 0 0 512 2";
+    Done::after(4, script, "write-narrow 0 0 0 1024 9")
 }
 
 /// And with 1: 8; 0, 0, 0.
@@ -574,19 +645,24 @@ fn refuse(done: &mut Done, number: u32) {
     done.after = done.before.clone();
 }
 
+/// The file is own after all.
+fn unmark(tables: &mut [u8], set: usize, file: usize) {
+    tables[572 + 132 * (set * 16 + file)] ^= 0x80;
+}
+
 /// Changes of an accepted write, and the bounds that they break, found by hand.
-const ACCEPTED: [Case; 24] = [
+const ACCEPTED: [Case; 30] = [
     // 3 > k; 3 + 4 > 6; 2 left + 7 is not 8; 6 new bits are not 7.
     (
         narrow,
         |done| done.answer.first = 3,
-        &[Bound::OwnBlocks, Bound::Narrow, Bound::FreeAfter, Bound::BitsNewlyOne],
+        &[Bound::OwnBlocks, Bound::Narrow, Bound::FreeAfter, Bound::NothingMarked],
     ),
     // 5 > 2 x 2; 2 + 5 > 6.
     (
         narrow,
         |done| done.answer.second = 5,
-        &[Bound::Copies, Bound::Narrow, Bound::FreeAfter, Bound::BitsNewlyOne],
+        &[Bound::Copies, Bound::Narrow, Bound::FreeAfter, Bound::NothingMarked],
     ),
     // 9 + 4 > 8 free.
     (
@@ -597,29 +673,41 @@ const ACCEPTED: [Case; 24] = [
             Bound::FreeBefore,
             Bound::Narrow,
             Bound::FreeAfter,
-            Bound::BitsNewlyOne,
+            Bound::NothingMarked,
         ],
     ),
-    // Too little said, within all bounds of the counts.
-    (narrow, |done| done.answer.first = 1, &[Bound::FreeAfter, Bound::BitsNewlyOne]),
-    (narrow, |done| done.answer.second = 0, &[Bound::FreeAfter, Bound::BitsNewlyOne]),
+    // Too little said, within all bounds of the counts: 6 new bits are over it.
+    (
+        narrow,
+        |done| done.answer.first = 1,
+        &[Bound::FreeAfter, Bound::BitsNewlyOne, Bound::NothingMarked],
+    ),
+    (
+        narrow,
+        |done| done.answer.second = 0,
+        &[Bound::FreeAfter, Bound::BitsNewlyOne, Bound::NothingMarked],
+    ),
     // One more own block and one copy less: the sum is right.
     (narrow, |done| (done.answer.first, done.answer.second) = (3, 3), &[Bound::OwnBlocks]),
     (narrow, |done| (done.answer.first, done.answer.second) = (1, 5), &[Bound::Copies]),
     // Block 0, which was used, is free: 3 left + 6 is not 8.
     (narrow, |done| turn_bit(&mut done.after, 0), &[Bound::FreeAfter, Bound::BitsStay]),
     // Block 7, which was taken, is free: 5 new bits.
-    (narrow, |done| turn_bit(&mut done.after, 7), &[Bound::FreeAfter, Bound::BitsNewlyOne]),
+    (narrow, |done| turn_bit(&mut done.after, 7), &[Bound::FreeAfter, Bound::NothingMarked]),
     // Block 8 is used too: 7 new bits.
-    (narrow, |done| turn_bit(&mut done.after, 8), &[Bound::FreeAfter, Bound::BitsNewlyOne]),
+    (
+        narrow,
+        |done| turn_bit(&mut done.after, 8),
+        &[Bound::FreeAfter, Bound::BitsNewlyOne, Bound::NothingMarked],
+    ),
     // A bit from B up is not among the free blocks, but it is newly 1.
-    (narrow, |done| turn_bit(&mut done.after, 10), &[Bound::BitsNewlyOne]),
-    (narrow, |done| turn_bit(&mut done.after, 4_095), &[Bound::BitsNewlyOne]),
+    (narrow, |done| turn_bit(&mut done.after, 10), &[Bound::BitsNewlyOne, Bound::NothingMarked]),
+    (narrow, |done| turn_bit(&mut done.after, 4_095), &[Bound::BitsNewlyOne, Bound::NothingMarked]),
     // Another block for one that was used: as many are left.
     (
         narrow,
         |done| [1, 9].into_iter().for_each(|block| turn_bit(&mut done.after, block)),
-        &[Bound::BitsStay, Bound::BitsNewlyOne],
+        &[Bound::BitsStay, Bound::BitsNewlyOne, Bound::NothingMarked],
     ),
     (narrow, |done| done.answer.third = 1, &[Bound::ThirdCount]),
     // A child's file; the file itself; an absent one; one of an unused set.
@@ -627,25 +715,42 @@ const ACCEPTED: [Case; 24] = [
     (narrow, |done| mark(&mut done.after, 1, 0), &[Bound::NoMark]),
     (narrow, |done| mark(&mut done.after, 0, 5), &[Bound::NoMark]),
     (narrow, |done| mark(&mut done.after, 7, 15), &[Bound::NoMark]),
-    // With too few blocks free a file may be marked. 3 + 3 > 5 free, but not > 6.
+    // With too few blocks free a file may be marked. 3 + 3 are not over 5 free and 1 freed,
+    // and 4 + 3 are; and not over 6, and are. 4 bits are newly 1.
     (too_few, |done| mark(&mut done.after, 2, 0), &[]),
+    (too_few, |done| done.answer.first = 3, &[Bound::OwnBlocks, Bound::FreeAfter]),
     (
         too_few,
-        |done| done.answer.first = 3,
-        &[Bound::OwnBlocks, Bound::FreeBefore, Bound::FreeAfter, Bound::BitsNewlyOne],
+        |done| done.answer.first = 4,
+        &[Bound::OwnBlocks, Bound::FreeBefore, Bound::Narrow, Bound::FreeAfter],
+    ),
+    // 1 left + 1 + 0 is 1 free + 1 freed. Block 2 may fall, and block 0 may not; if block 2
+    // does not fall, 0 are left.
+    (frees, |done| turn_bit(&mut done.after, 2), &[Bound::FreeAfter]),
+    (frees, |done| turn_bit(&mut done.after, 0), &[Bound::FreeAfter, Bound::BitsStay]),
+    (frees, |done| done.answer.second = 1, &[Bound::FreeAfter]),
+    (frees, |done| unmark(&mut done.after, 1, 0), &[Bound::BitsStay, Bound::NothingMarked]),
+    // A file of another number: its marking is no reason for block 2 to fall.
+    (
+        frees,
+        |done| {
+            unmark(&mut done.after, 1, 0);
+            mark(&mut done.after, 1, 5);
+        },
+        &[Bound::BitsStay],
     ),
     // 17 > 16 x 1; 2 + 17 > 2 + (2 + 14) x 1.
     (
         by_eights,
         |done| done.answer.second = 17,
-        &[Bound::Copies, Bound::ByEights, Bound::FreeAfter, Bound::BitsNewlyOne],
+        &[Bound::Copies, Bound::ByEights, Bound::FreeAfter, Bound::NothingMarked],
     ),
     // 9 > 4 x 2. By groups of another size there is no bound of the sum but the free
     // blocks.
     (
         by_fives,
         |done| done.answer.second = 9,
-        &[Bound::Copies, Bound::FreeAfter, Bound::BitsNewlyOne],
+        &[Bound::Copies, Bound::FreeAfter, Bound::NothingMarked],
     ),
     (by_fives, |done| done.answer.third = 2, &[Bound::ThirdCount]),
     // Which blocks are taken is not judged: block 9 for block 7.
@@ -703,17 +808,21 @@ fn each_bound_can_be_broken() {
 #[test]
 fn what_the_judge_says() {
     let first_is_9 = "room: the first count is 9, over the 2 touched pages; \
-        9 + 4 blocks taken are over the 8 that were free; \
+        9 + 4 blocks taken are over the 8 that were free and the 0 that marking freed; \
         9 + 4 blocks taken narrowly are over 2 + 2 x 2; \
-        9 + 4 blocks taken of 8 free leave 2 free; \
-        6 bits are newly 1, and 9 + 4 blocks are said to be taken";
+        9 + 4 blocks taken of 8 free and 0 freed leave 2 free; \
+        nothing is marked, 6 bits are newly 1 of 9 + 4 blocks taken, and 0 are freed";
     assert_eq!(says(&narrow(), |done| done.answer.first = 9), first_is_9);
     let second_is_17 = "room: the second count is 17, over 16 pages of groups times 1 children; \
         2 + 17 blocks taken by eights are over 2 + (2 + 14) x 1; \
-        2 + 17 blocks taken of 24 free leave 6 free; \
-        18 bits are newly 1, and 2 + 17 blocks are said to be taken";
+        2 + 17 blocks taken of 24 free and 0 freed leave 6 free; \
+        nothing is marked, 18 bits are newly 1 of 2 + 17 blocks taken, and 0 are freed";
     assert_eq!(says(&by_eights(), |done| done.answer.second = 17), second_is_17);
-    let dropped = "room: 2 + 4 blocks taken of 8 free leave 3 free; \
+    let too_little = "room: 1 + 4 blocks taken of 8 free and 0 freed leave 2 free; \
+        6 bits are newly 1, over the 1 + 4 blocks taken; \
+        nothing is marked, 6 bits are newly 1 of 1 + 4 blocks taken, and 0 are freed";
+    assert_eq!(says(&narrow(), |done| done.answer.first = 1), too_little);
+    let dropped = "room: 2 + 4 blocks taken of 8 free and 0 freed leave 3 free; \
         the bit of block 1 was 1 and is 0";
     assert_eq!(says(&narrow(), |done| turn_bit(&mut done.after, 1)), dropped);
     let though = "though 8 blocks were free and 2 + 2 x 2 are enough";
@@ -782,11 +891,12 @@ fn writes_of_another_implementation_are_judged() {
     let counts = "the answer is 0; 2, 5, 0; the oracle's is 0; 2, 4, 0; \
         room: the second count is 5, over 2 pages of groups times 2 children; \
         2 + 5 blocks taken narrowly are over 2 + 2 x 2; \
-        2 + 5 blocks taken of 8 free leave 2 free; \
-        6 bits are newly 1, and 2 + 5 blocks are said to be taken";
+        2 + 5 blocks taken of 8 free and 0 freed leave 2 free; \
+        nothing is marked, 6 bits are newly 1 of 2 + 5 blocks taken, and 0 are freed";
     assert_eq!(said_of(|answer, _| answer.second += 1, line), Err(counts.to_string()));
     let bits = "tables differ at byte 4: 0x7f; the oracle's is 0xff; \
-        room: 2 + 4 blocks taken of 8 free leave 3 free; the bit of block 0 was 1 and is 0";
+        room: 2 + 4 blocks taken of 8 free and 0 freed leave 3 free; \
+        the bit of block 0 was 1 and is 0";
     assert_eq!(said_of(|_, tables| turn_bit(tables, 0), line), Err(bits.to_string()));
     // Within all bounds: only the difference is said.
     let same_room = "tables differ at byte 4: 0xfe; the oracle's is 0xff";
@@ -804,13 +914,20 @@ const BY_EIGHTS: &str = "write 1 0 0 1024 9";
 const BY_FIVES: &str = "write-groups 5 1 0 31744 1 9";
 
 /// Each write with the cases that it meets, by their place in `CASES`, found by hand.
-const COUNTED: [(usize, &str, &str, &[usize]); 13] = [
+const COUNTED: [(usize, &str, &str, &[usize]); 14] = [
     // 7 free, 6 enough and taken.
     (9, TWO_PAGES, NARROW, &[0, 3, 4]),
     // Just 6 free.
     (8, TWO_PAGES, NARROW, &[0, 1, 3, 4, 6]),
-    // 5 free, all taken, a file marked.
-    (7, TWO_PAGES, NARROW, &[2, 3, 6, 7]),
+    // 5 free, all taken, a file marked, and its block free after.
+    (7, TWO_PAGES, NARROW, &[2, 3, 6, 7, 11]),
+    // 2 free, and 3 copies, by the block that marking freed.
+    (
+        4,
+        "create 0 0; write-narrow 0 0 0 1024 1; make 0 1 0; make 0 2 0",
+        "write-narrow 0 0 0 1024 9",
+        &[7, 10],
+    ),
     // 1 free.
     (3, TWO_PAGES, NARROW, &[8]),
     // By eights, 6 free and taken; p x c is 16.
@@ -858,6 +975,8 @@ fn the_line_that_tells_of_it() {
         by groups, second = p x c, p > k, c > 0: 0; first + second = free, over 0: 1; \
         fewer than k + k x c free, a file marked: 0; \
         fewer than k + k x c free, refused with 8: 0; \
-        by groups, first + second over k + k x c: 0";
+        by groups, first + second over k + k x c: 0; \
+        first + second over free, marking having freed some: 0; \
+        marking freed some, and a block is free after: 0";
     assert_eq!(store.0.counts.room.to_string(), wanted);
 }

@@ -1,5 +1,5 @@
-//! Ask 7 of document 02 in random stores, crowded and small, with writes of every size
-//! of groups: what each write finds and takes is reckoned once more, the judge must
+//! Ask 7 of document 02, with the blocks that marking frees (Ask 10), in random stores,
+//! crowded and small, with writes of every size of groups: what each write finds and takes is reckoned once more, the judge must
 //! agree, and the cases that matter are met. Claims that one could believe and that
 //! are false: an example against each is found at random. All of it runs with plain
 //! store and tally beside.
@@ -15,7 +15,8 @@ use oracle::maps::Resolved;
 use oracle::rng::Rng;
 use oracle::room::{self, Judged, Judgement, Room, Taken, CASES};
 use oracle::state::*;
-use std::collections::{BTreeMap, VecDeque};
+use oracle::turns::Turns;
+use std::collections::{BTreeMap, BTreeSet, VecDeque};
 
 mod walk;
 use walk::{others_of_groups, Seen};
@@ -147,10 +148,11 @@ fn each_write(seed: u64, rounds: usize, mut see: impl FnMut(Done) -> bool) {
 /// How a store begins; no format follows.
 fn begin(rng: &mut Rng, round: usize) -> Start {
     let small = rng.between(1, 24);
-    let mut start = match round % 4 {
+    let mut start = match round % 5 {
         0 | 1 => gen::room_start(rng, 64),
         2 => gen::room_start(rng, small),
-        _ => gen::group_start(rng, small.max(3)),
+        3 => gen::group_start(rng, small.max(3)),
+        _ => gen::marking_start(rng, small.max(4)),
     };
     start.style.weights[0] = 0;
     start
@@ -194,13 +196,14 @@ impl Found {
 
 /// "Own need is the touched pages not stored in this file's map." With N needed copies and
 /// X extra ones: a write is refused with 8 exactly when the own need is over the free
-/// blocks, its copies are the smaller of N + X and the blocks left, and it marks exactly
-/// when N is over these. The bitmap says the same.
+/// blocks. It marks exactly when N is over the blocks left. If it does not, its copies are
+/// the smaller of N + X and these; if it does, they are not fewer, and at most the smaller
+/// of N + X and these with the freed ones. The bitmap says the same.
 fn as_reckoned(done: &Done, room: &Room) {
     let found = Found::of(done);
     let (k, others, c) = (found.touched.len(), found.others.len(), found.children.len());
-    let free = found.state.free_blocks();
-    let wanted = Room { touched: k, in_groups: k + others, children: c, free };
+    let (free, freed) = (found.state.free_blocks(), freed_by_the_tables(done, &found));
+    let wanted = Room { touched: k, in_groups: k + others, children: c, free, freed };
     assert_eq!(*room, wanted, "{}", done.script());
     let (set, file) = (done.write.set as usize, done.write.file as usize);
     let is_own = |page: &&usize| !found.state.is_stored(set, file, **page);
@@ -210,21 +213,44 @@ fn as_reckoned(done: &Done, room: &Room) {
         return;
     }
     let needed = found.copies(&done.write, &found.touched);
-    let copies = (needed + found.copies(&done.write, &found.others)).min(free - own);
+    let called_for = needed + found.copies(&done.write, &found.others);
+    let copies = called_for.min(free - own)..=called_for.min(free - own + freed);
     assert_eq!(done.answer.first as usize, own, "{}", done.script());
-    assert_eq!(done.answer.second as usize, copies, "{}", done.script());
+    assert!(copies.contains(&(done.answer.second as usize)), "{}", done.script());
     assert_eq!(done.answer.third > 0, needed > free - own, "{}", done.script());
-    bitmap_as_reckoned(done, &found.state);
+    bitmap_as_reckoned(done, &found.state, freed);
+}
+
+/// The blocks that marking freed, without going through the turns: the stored entries that
+/// the files newly marked had before, with the copies, less the stored entries that the
+/// children still own or virgin gained.
+fn freed_by_the_tables(done: &Done, found: &Found) -> usize {
+    let (before, after) = (&found.state, State::unpack(&done.after));
+    let file = done.write.file as usize;
+    let count = |state: &State, set: usize| {
+        let entries = state.files[set][file].entries;
+        entries.iter().filter(|entry| entry.kind == Kind::Stored).count()
+    };
+    let is_marked = |state: &State, set: usize| state.files[set][file].state == FileState::Marked;
+    let newly = (0..SETS).filter(|set| !is_marked(before, *set) && is_marked(&after, *set));
+    let had: usize = newly.map(|set| count(before, set)).sum();
+    let live = found.children.iter().filter(|set| after.files[**set][file].is_own_or_virgin());
+    let gained: usize = live.map(|set| count(&after, *set) - count(before, *set)).sum();
+    had + done.answer.second as usize - gained
 }
 
 /// The bits, and the marked files of all sets.
-fn bitmap_as_reckoned(done: &Done, before: &State) {
+fn bitmap_as_reckoned(done: &Done, before: &State, freed: usize) {
     let after = State::unpack(&done.after);
     let bits = || before.bits.iter().zip(&after.bits);
-    assert!(bits().all(|(old, new)| *new || !*old), "{}", done.script());
+    let falls = bits().any(|(old, new)| *old && !*new);
     let newly = bits().filter(|(old, new)| !**old && **new).count();
-    assert_eq!(newly, done.total(), "{}", done.script());
-    assert_eq!(after.free_blocks() + newly, before.free_blocks(), "{}", done.script());
+    if done.answer.third == 0 {
+        assert!(!falls && freed == 0 && newly == done.total(), "{}", done.script());
+    }
+    assert!(newly <= done.total(), "{}", done.script());
+    let (left, free) = (after.free_blocks() + done.total(), before.free_blocks());
+    assert_eq!(left, free + freed, "{}", done.script());
     let marked = |state: &State| {
         let records = state.files.iter().flatten();
         records.filter(|record| record.state == FileState::Marked).count()
@@ -279,7 +305,7 @@ impl Met {
 #[test]
 fn writes_keep_to_it_and_meet_every_case() {
     let mut met = Met::default();
-    each_write(SEED, 500, |done| {
+    each_write(SEED, 625, |done| {
         met.see(&done);
         true
     });
@@ -303,7 +329,7 @@ fn well_formed_stores_keep_to_it() {
 }
 
 /// The histories that `compare` makes: so many of them meet every case, whatever the
-/// seed.
+/// seed, but for those of blocks freed by marking, for which there are others.
 #[test]
 fn histories_of_compare_meet_every_case() {
     for seed in 0..4 {
@@ -315,7 +341,8 @@ fn histories_of_compare_meet_every_case() {
             assert!(outcome.is_ok(), "{}", outcome.err().unwrap().text);
         }
         println!("{}", counts.room);
-        for (case, met) in CASES.iter().zip(counts.room.met) {
+        let cases = CASES.iter().zip(counts.room.met);
+        for (case, met) in cases.filter(|(case, _)| !case.contains("marking")) {
             assert!(met >= 8, "seed {seed}, {case}: {met}");
         }
     }
@@ -389,7 +416,36 @@ fn without_virgin(done: &Done, room: &Room) -> usize {
     room.touched + room.touched * (room.children - virgin)
 }
 
-const FALSE: [Claim; 4] = [
+/// How many different blocks the markings of a write freed.
+fn different_freed(done: &Done) -> usize {
+    let turns = Turns::of_write(&done.write, &State::unpack(&done.before));
+    let freed = turns.map_or(Vec::new(), |turns| turns.freed());
+    freed.into_iter().collect::<BTreeSet<usize>>().len()
+}
+
+const FALSE: [Claim; 7] = [
+    // Set 2 takes the block that set 1's marking freed.
+    Claim {
+        name: "a write takes at most the blocks that were free",
+        denies: |done, room| done.total() > room.free,
+        example: "format 2048; create 0 0; write-narrow 0 0 0 1024 1; make 0 1 0; make 0 2 0; \
+            write-narrow 0 0 0 1024 9",
+    },
+    // Four blocks are free and three different ones are freed, one of them twice: eight
+    // copies.
+    Claim {
+        name: "a write takes at most the blocks that were free and those freed, once each",
+        denies: |done, room| done.total() > room.free + different_freed(done),
+        example: "format 4096; create 0 0; write-narrow 0 0 0 2048 1; make 0 1 0; make 0 2 0; \
+            make 0 3 0; make 0 4 0; write-narrow 0 0 0 2048 9",
+    },
+    // The copy of page 0 is freed, and nobody takes it.
+    Claim {
+        name: "after a write that marks no block is free",
+        denies: |done, _| done.answer.third > 0 && State::unpack(&done.after).free_blocks() > 0,
+        example: "format 1536; create 0 0; write-narrow 0 0 0 1024 1; make 0 1 0; \
+            write-narrow 0 0 0 1024 9",
+    },
     // One touched page and one child, but by groups it takes three blocks.
     Claim {
         name: "a grouped write takes at most k + k x c",
@@ -459,7 +515,7 @@ fn claims_that_are_false() {
 fn claims_that_are_true() {
     let claims: [fn(&Done, &Room) -> bool; 4] = [
         |done, room| done.is_narrow() && done.total() > room.enough(),
-        |done, room| done.total() > room.free,
+        |done, room| done.total() > room.free + room.freed,
         |done, room| done.answer.second as usize > room.in_groups * room.children,
         |done, room| {
             room.free >= room.enough() && (done.answer.third > 0 || done.answer.number == 8)

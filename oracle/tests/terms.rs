@@ -481,13 +481,12 @@ fn conversions_are_refused() {
     for length in [0, 1, 516, 17_436, 17_467, 17_469, 34_936] {
         refused(&older, pages, length);
     }
-    // The older length; tables of the new length too.
-    for length in [0, 1, 3, 540, 17_435, 17_437, 34_872] {
+    // The older length. Of 17,468 bytes too, if they are only made longer.
+    for length in [0, 1, 3, 540, 17_435, 17_437, 17_467, 17_468, 17_469, 34_872] {
         let mut other = older.clone();
         other.resize(length, 0);
         refused(&other, pages, 17_468);
     }
-    refused(tables, pages, 17_468);
     // The pages' length.
     for length in [0, 1, 1_024, 1_535, 1_537, 2_048] {
         refused(&older, &vec![0; length], 17_468);
@@ -506,33 +505,36 @@ fn conversions_are_refused() {
     refused(&[0x69; 17_436], pages, 17_468);
 }
 
-/// Each rule of document 01, broken alone in the older tables; a broken term is not in
-/// them.
+/// Each rule of their time, broken alone in the older tables. A broken term is not in those
+/// of 17,436 bytes, and no rule on marked files is of their time in either.
 #[test]
-fn each_rule_of_document_01_is_asked_of_older_tables() {
+fn each_rule_of_their_time_is_asked_of_older_tables() {
     println!("seed {SEED}");
     let mut rng = Rng::new(SEED);
     for rule in Rule::ALL {
         for _ in 0..10 {
             let broke = gen::break_alone(&mut rng, *rule);
-            let older = narrowed(&broke.tables);
-            let before = vec![0xA7; TABLES_BYTES];
-            let mut new = before.clone();
-            let answer = store::convert(&older, &broke.pages, &mut new);
-            let rules: BTreeSet<Rule> =
-                check_older(&older, broke.pages.len()).iter().map(|broken| broken.rule).collect();
-            let by_term = match rule {
-                Rule::FirstNotBelowEnd | Rule::EndDayOver => true,
-                // A term in an unused set, or another field of it.
-                Rule::UnusedSetNotZero => rules.is_empty(),
-                // Tables of 17,436 bytes that were well formed before Ask 8.
-                Rule::TablesLength => older.len() == OLDER_TABLES_BYTES && rules.is_empty(),
-                _ => false,
-            };
-            assert_eq!(answer, Answer::refused(u32::from(!by_term)), "{rule:?}");
-            assert_eq!(new == before, !by_term, "{rule:?}");
-            assert_eq!(rules.contains(rule), !by_term, "{rule:?}: {rules:?}");
-            assert!(!by_term || is_well_formed(&new, broke.pages.len()));
+            for older in [narrowed(&broke.tables), broke.tables.clone()] {
+                let before = vec![0xA7; TABLES_BYTES];
+                let mut new = before.clone();
+                let answer = store::convert(&older, &broke.pages, &mut new);
+                let broken = check_older(&older, broke.pages.len());
+                let rules: BTreeSet<Rule> = broken.iter().map(|broken| broken.rule).collect();
+                let is_short = older.len() == OLDER_TABLES_BYTES;
+                let is_taken = match rule {
+                    Rule::MarkedSize | Rule::MarkedMapped => true,
+                    Rule::FirstNotBelowEnd | Rule::EndDayOver => is_short,
+                    // A term in an unused set, or another field of it.
+                    Rule::UnusedSetNotZero => is_short && rules.is_empty(),
+                    // Tables of 17,436 bytes that were well formed before Ask 8.
+                    Rule::TablesLength => is_short && rules.is_empty(),
+                    _ => false,
+                };
+                assert_eq!(answer, Answer::refused(u32::from(!is_taken)), "{rule:?}");
+                assert_eq!(new == before, !is_taken, "{rule:?}");
+                assert_eq!(rules.contains(rule), !is_taken, "{rule:?}: {rules:?}");
+                assert!(!is_taken || is_well_formed(&new, broke.pages.len()));
+            }
         }
     }
 }
@@ -805,7 +807,7 @@ fn wrong_programs_are_noticed() {
             }
             answer
         }),
-        ("the converter takes the new length", CONVERT, |index, n, mut lent| {
+        ("the converter takes any tables of the new length", CONVERT, |index, n, mut lent| {
             let answer = right(index, n, lent.again());
             match lent.second.len() == lent.tables.len() {
                 true => Answer::default(),
@@ -885,7 +887,7 @@ impl Other for After {
 // What is counted.
 
 /// Lines on a store of one block, with the cases that the last of them meets.
-const COUNTED: [(&str, &[Case]); 40] = [
+const COUNTED: [(&str, &[Case]); 43] = [
     ("set-term 0 1998 1 1 1", &[Case::SameDay, Case::OneMonth, Case::FirstDate, Case::OfSet0]),
     ("set-term 1 1998 1 31 1", &[Case::LastDay, Case::OneMonth, Case::OfReadOnly]),
     ("set-term 2 1998 1 31 1", &[Case::LastDay, Case::OneMonth]),
@@ -933,7 +935,16 @@ const COUNTED: [(&str, &[Case]); 40] = [
         &[Case::Converted, Case::ConvertedSets, Case::OverOther],
     ),
     ("narrow; second 17437; convert", &[Case::OlderLength]),
-    ("narrow; second 17468; convert", &[Case::OlderLength, Case::LongOlder]),
+    ("keep; convert", &[Case::Converted, Case::ConvertedSets]),
+    ("set-term 0 1998 1 1 1; keep; convert", &[Case::Converted, Case::ConvertedSets]),
+    (
+        "keep; set-term 0 1998 1 1 1; convert",
+        &[Case::Converted, Case::ConvertedSets, Case::OverTerm],
+    ),
+    (
+        "keep; poke-second 521 0; poke-second 522 0; convert",
+        &[Case::OlderTerm, Case::OlderSecondPart],
+    ),
     ("narrow; tables 17467; convert", &[Case::NewLength]),
     ("narrow; tables 17436; convert", &[Case::NewLength, Case::ShortNew]),
     ("narrow; pages 513; convert", &[Case::ConvertPages]),

@@ -27,7 +27,7 @@ fn histories_meet_every_case() {
     println!("seed {SEED}");
     let mut seeds = Rng::new(SEED);
     let mut counts = Counts::default();
-    for _ in 0..300 {
+    for _ in 0..360 {
         let outcome =
             short_history(Short::Terms, seeds.word(), &mut NoOther, &mut counts, &mut |_| {});
         assert!(outcome.is_ok(), "{}", outcome.err().unwrap().text);
@@ -59,7 +59,7 @@ fn conversions_of_any_store() {
     let mut rng = Rng::new(SEED ^ 2);
     let pool = gen::pool(&mut rng, 40);
     let mut counts = Counts::default();
-    for round in 0..300 {
+    for round in 0..600 {
         let made = &pool[round % pool.len()];
         let (mut tables, mut pages) = (made.tables.clone(), made.pages.clone());
         if round % 2 == 0 {
@@ -82,7 +82,7 @@ fn conversions_of_any_store() {
         Case::OverOther,
         Case::OverTerm,
         Case::OlderLength,
-        Case::LongOlder,
+        Case::OlderTerm,
         Case::NewLength,
         Case::ShortNew,
         Case::ConvertPages,
@@ -93,18 +93,22 @@ fn conversions_of_any_store() {
 }
 
 /// Plain store and tally that agree with the older tables agree with the new ones, and go
-/// on agreeing through further calls.
+/// on agreeing through further calls. "keeping terms already there": those of the longer
+/// older tables stay. Marked files hold what they did before Ask 10 until then.
 #[test]
 fn plain_store_and_tally_go_on_after_a_conversion() {
     println!("seed {SEED}");
     let mut rng = Rng::new(SEED ^ 3);
     let (mut further, mut had_terms) = (0, 0);
-    for made in gen::pool(&mut rng, 80) {
+    for (round, made) in gen::pool(&mut rng, 120).into_iter().enumerate() {
         let state = State::unpack(&made.tables);
         had_terms += usize::from(state.sets.iter().any(|set| set.used && set.end_day != 36_525));
         let mut bench = Bench::with(made.tables.clone(), made.pages.clone());
         bench.beside = Some(made.beside.clone());
-        for item in [Item::Narrow, Item::Call(Call::Convert {})] {
+        let is_long = round % 2 == 0;
+        let older = if is_long { Item::Keep } else { Item::Narrow };
+        let load = Item::LoadMarked { seed: round as u32 };
+        for item in [older, load, Item::Call(Call::Convert {})] {
             bench.step(&item, &mut NoOther).unwrap();
         }
         let new = State::unpack(bench.tables());
@@ -114,7 +118,9 @@ fn plain_store_and_tally_go_on_after_a_conversion() {
         assert_eq!(read_off(&new, bench.pages()).terms, beside.terms);
         for set in 0..SETS {
             let (old, new) = (&state.sets[set], &new.sets[set]);
-            let wanted = if old.used { (0, 36_525) } else { (0, 0) };
+            let by_default = if old.used { (0, 36_525) } else { (0, 0) };
+            let kept = (old.first_day, old.end_day);
+            let wanted = if is_long { kept } else { by_default };
             assert_eq!((new.first_day, new.end_day), wanted);
         }
         for _ in 0..20 {
@@ -196,14 +202,16 @@ fn a_term_changes_four_bytes() {
     assert!(accepted > 700, "{accepted}");
 }
 
-/// Older tables are judged by document 01's rules: what is broken in tables is broken in
-/// them without their terms, but for the rules on terms.
+/// Older tables are judged by the rules of their time. What is broken in tables is broken in
+/// them without their terms, but for the rules on terms and on marked files; and in older
+/// ones of the same length, but for the rules on marked files.
 #[test]
-fn older_tables_are_judged_by_document_01() {
+fn older_tables_are_judged_by_the_rules_of_their_time() {
     println!("seed {SEED}");
     let mut rng = Rng::new(SEED ^ 6);
     let pool = gen::pool(&mut rng, 60);
     let mut met = BTreeSet::new();
+    let of_marked = [Rule::MarkedSize, Rule::MarkedMapped];
     for round in 0..6_000 {
         let made = &pool[rng.below(pool.len())];
         let mut tables = made.tables.clone();
@@ -216,16 +224,23 @@ fn older_tables_are_judged_by_document_01() {
         if tables.len() != TABLES_BYTES {
             continue;
         }
-        let older = narrowed(&tables);
-        let found: BTreeSet<Rule> =
-            check_older(&older, made.pages.len()).iter().map(|broken| broken.rule).collect();
+        let found = |older: &[u8]| -> BTreeSet<Rule> {
+            check_older(older, made.pages.len()).iter().map(|broken| broken.rule).collect()
+        };
+        let wanted = |tables: &[u8]| -> BTreeSet<Rule> {
+            let mut broken = rules_broken(tables, made.pages.len());
+            broken.retain(|rule| !of_marked.contains(rule));
+            broken
+        };
+        let short = found(&narrowed(&tables));
         // The same tables with terms that break no rule.
-        let wanted = rules_broken(&without_any_terms(&tables), made.pages.len());
-        assert_eq!(found, wanted);
-        met.extend(found);
+        assert_eq!(short, wanted(&without_any_terms(&tables)));
+        assert_eq!(found(&tables), wanted(&tables));
+        met.extend(short);
     }
     let of_terms = [Rule::FirstNotBelowEnd, Rule::EndDayOver, Rule::TablesLength];
-    let of_document_01 = Rule::ALL.iter().filter(|rule| !of_terms.contains(rule));
+    let is_later = |rule: &Rule| of_terms.contains(rule) || of_marked.contains(rule);
+    let of_document_01 = Rule::ALL.iter().filter(|rule| !is_later(rule));
     assert_eq!(met, of_document_01.copied().collect());
 }
 

@@ -124,24 +124,6 @@ fn no_live_child_is_unmapped_over_a_parents_hole() {
 }
 
 #[test]
-fn a_marked_file_has_recorded_size_0() {
-    let after = after(&format!("{FULL}; write-narrow 0 0 0 1 1"));
-    assert!(after.is_marked(1) && after.file(1).size == 1);
-}
-
-/// Page 0 becomes a hole in set 1, and page 1 finds no block free.
-#[test]
-fn a_marked_file_has_a_stored_page_or_is_all_unmapped() {
-    let after = after(
-        "format 1024; create 0 0; write-narrow 0 0 512 1 1; make 0 1 0; write-narrow 0 0 0 513 2",
-    );
-    assert_eq!(after.answer, Answer::accepted([1, 0, 1]));
-    assert!(after.is_marked(1) && !after.has_stored(1));
-    assert_eq!(after.file(1).entries[0], HOLE);
-    assert_eq!(after.file(1).entries[1], UNMAPPED);
-}
-
-#[test]
 fn siblings_ascend_and_a_childs_number_is_above_its_parents() {
     let siblings = after("format 512; make 0 2 0; make 0 1 0");
     assert_eq!(siblings.state.children(0), [2, 1]);
@@ -182,8 +164,9 @@ fn the_heir_of_a_block_is_not_marked_by_the_call() {
         "format 1024; create 0 0; write-narrow 0 0 512 512 1; make 0 1 1; \
         write-narrow 1 0 0 512 2; make 1 2 0; delete 1 0",
     );
+    // Block 1 was handed over, and came free with the marking.
     assert_eq!(after.answer, Answer::accepted([0, 0, 1]));
-    assert!(after.is_marked(2) && after.has_stored(2) && after.state.bits[1]);
+    assert!(after.is_marked(2) && !after.state.bits[1]);
 }
 
 #[test]
@@ -222,8 +205,96 @@ fn a_marked_child_got_no_copy_in_that_call() {
     let after = after(
         "format 1536; create 0 0; write-narrow 0 0 0 1024 1; make 0 1 0; write-narrow 0 0 0 1024 2",
     );
+    // The only child.
     assert_eq!(after.answer, Answer::accepted([0, 1, 1]));
-    assert!(after.is_marked(1) && after.has_stored(1));
+    assert!(after.is_marked(1));
+}
+
+// Claims about marking that frees blocks, true before Ask 10.
+
+/// Each child gets a free block for page 0. Set 1 is marked at page 1, and set 2 takes its
+/// block.
+#[test]
+fn a_call_takes_at_most_the_blocks_that_were_free() {
+    let script = "format 2048; create 0 0; write-narrow 0 0 0 1024 1; make 0 1 0; make 0 2 0";
+    assert_eq!(after(script).state.free_blocks(), 2);
+    let after = after(&format!("{script}; write-narrow 0 0 0 1024 2"));
+    assert_eq!(after.answer, Answer::accepted([0, 3, 1]));
+}
+
+/// Page 0 is copied and page 1 is not: the copy is freed, and nobody takes it.
+#[test]
+fn no_block_is_free_after_a_write_that_marked() {
+    let after = after(
+        "format 1536; create 0 0; write-narrow 0 0 0 1024 1; make 0 1 0; write-narrow 0 0 0 1024 2",
+    );
+    assert_eq!(after.answer, Answer::accepted([0, 1, 1]));
+    assert_eq!(after.state.free_blocks(), 1);
+}
+
+/// Two needed copies, one block free and one freed, and one copy.
+#[test]
+fn copies_are_all_that_free_and_freed_blocks_allow() {
+    let after = after(
+        "format 2048; create 0 0; write-narrow 0 0 0 1536 1; make 0 1 0; write-narrow 0 0 0 1024 2",
+    );
+    assert_eq!(after.answer, Answer::accepted([0, 1, 1]));
+    assert_eq!(after.state.free_blocks(), 1);
+}
+
+/// Set 1's own block, block 2, is freed; the own block of page 0 was taken before.
+#[test]
+fn a_write_lets_no_bit_fall() {
+    let script = "format 2048; create 0 0; write-narrow 0 0 512 1024 1; make 0 1 1; \
+        write-narrow 1 0 0 512 2";
+    assert!(after(script).state.bits[2]);
+    let after = after(&format!("{script}; write-narrow 0 0 0 1024 3"));
+    assert_eq!(after.answer, Answer::accepted([1, 0, 1]));
+    assert!(after.is_marked(1) && !after.state.bits[2]);
+}
+
+/// Page 4 was cut from set 0 and handed over to set 1; set 2 got a copy. Set 1 is marked at
+/// page 2, and set 2 takes block 2, in which page 4 of set 1 was.
+#[test]
+fn a_write_changes_only_blocks_that_were_free_or_its_own() {
+    let script = "format 2048; create 0 0; write-narrow 0 0 1024 1536 1; make 0 1 0; make 0 2 0; \
+        truncate 0 0 2048";
+    let before = after(script);
+    assert_eq!(before.file(1).entries[4], stored(2));
+    let after = after(&format!("{script}; write-narrow 0 0 1024 512 2"));
+    assert_eq!(after.answer, Answer::accepted([0, 1, 1]));
+    assert!(after.is_marked(1));
+    assert_eq!(after.file(2).entries[2], stored(2));
+    let block = oracle::maps::block_range(2);
+    assert!(before.state.bits[2] && before.pages[block.clone()] != after.pages[block]);
+}
+
+/// Set 1 gets pages 0 and 1 in blocks 3 and 5, set 2 gets page 0 in block 4 and is marked at
+/// page 1. Page 2 is extra, and block 4 is there for set 1.
+#[test]
+fn an_extra_page_is_copied_only_if_nothing_is_marked() {
+    let after = after(
+        "format 3072; create 0 0; write-narrow 0 0 0 1536 1; make 0 1 0; make 0 2 0; \
+        write-groups 3 0 0 0 1024 2",
+    );
+    assert_eq!(after.answer, Answer::accepted([0, 4, 1]));
+    assert!(after.is_marked(2));
+    assert_eq!(after.file(1).entries[..3], [stored(3), stored(5), stored(4)]);
+}
+
+/// Without Ask 10 sets 2 and 3 would be marked at page 0, and set 4, which has page 0, would
+/// take page 1 over. Now set 3 has page 0 in the block that set 2's marking freed, so it is
+/// set 3 that takes page 1 over, and set 4 is marked.
+#[test]
+fn no_file_is_marked_that_would_be_spared_if_marking_freed_nothing() {
+    let after = after(
+        "format 2048; create 0 0; write-narrow 0 0 0 512 1; make 0 1 1; \
+        write-narrow 1 0 512 512 2; make 1 2 1; make 1 3 0; make 1 4 1; \
+        write-narrow 2 0 1024 512 3; write-narrow 4 0 0 512 4; delete 1 0",
+    );
+    assert_eq!(after.answer, Answer::accepted([0, 1, 2]));
+    assert!(after.is_marked(2) && after.is_marked(4));
+    assert_eq!(after.file(3).entries[..2], [stored(2), stored(1)]);
 }
 
 /// Size 100, byte 100 of its stored page not 0, truncate to 512: the tables

@@ -71,7 +71,7 @@ fn each_rule_is_reported_when_its_damage_is_done() {
     let mut rng = Rng::new(SEED);
     let pool = gen::pool(&mut rng, 60);
     // Damages to these break others too, by their nature.
-    let never_alone = [Rule::Set0NotUsed, Rule::BlockCount];
+    let never_alone = [Rule::Set0NotUsed, Rule::Set0State, Rule::BlockCount];
     for rule in Rule::ALL {
         let (mut done, mut alone) = (0, 0);
         let mut tries = 0;
@@ -219,5 +219,5 @@ fn any_bytes_are_judged() {
 fn every_rule_has_a_name_of_its_own() {
     let names: BTreeSet<&str> = Rule::ALL.iter().map(|rule| rule.name()).collect();
     assert_eq!(names.len(), Rule::ALL.len());
-    assert_eq!(Rule::ALL.len(), 37);
+    assert_eq!(Rule::ALL.len(), 39);
 }

@@ -109,7 +109,8 @@ mod linked {
     use oracle::conversion::narrowed;
     use oracle::dates::{date_of, day_number, end_day, Date, DAYS};
     use oracle::gen::compact::{self, Order};
-    use oracle::gen::{self, length_of, panel, terms, Made, Style, CONVERT, CURRENT, SET_TERM};
+    use oracle::gen::{self, length_of, panel, pokes, terms, Made, Style};
+    use oracle::gen::{CONVERT, CURRENT, SET_TERM};
     use oracle::history::{any_history, many_copies_history, short_history};
     use oracle::history::{Failure, Short, Watch};
     use oracle::judge::Beside;
@@ -141,6 +142,7 @@ exit status: 0 no difference, 1 a difference or a case that no call met, 2 bad u
     const ROOM_HISTORIES: usize = 300;
     const TERM_HISTORIES: usize = 150;
     const COMPACT_HISTORIES: usize = 150;
+    const MARKING_HISTORIES: usize = 400;
     const CONVERSIONS: usize = 100;
     const COMPACTIONS: usize = 150;
     /// How many blocks the stores have whose blocks are all used or all free.
@@ -323,6 +325,9 @@ exit status: 0 no difference, 1 a difference or a case that no call met, 2 bad u
             }
             for _ in 0..COMPACTIONS {
                 self.compacted()?;
+            }
+            for _ in 0..MARKING_HISTORIES {
+                self.short_history(Short::Marking)?;
             }
             for block_count in ORDERED {
                 self.ordered(block_count)?;
@@ -713,11 +718,11 @@ exit status: 0 no difference, 1 a difference or a case that no call met, 2 bad u
 
         fn show(&self) {
             let counts = &self.counts;
-            let [groups, panel, room, terms, compact] = self.short_histories;
+            let [groups, panel, room, terms, compact, marking] = self.short_histories;
             println!(
                 "histories {}, short ones with writes by groups {groups}, through the panel {panel}, \
                 with many copies {}, for the room of a write {room}, with terms {terms}, \
-                with compactions {compact}",
+                with compactions {compact}, with marking in stores nearly full {marking}",
                 self.histories, self.many_copies
             );
             println!("stores converted {}", self.conversions);
@@ -746,18 +751,19 @@ exit status: 0 no difference, 1 a difference or a case that no call met, 2 bad u
             println!("writes judged by the room they take {}", counts.room);
             println!("calls of terms {}", counts.terms);
             println!("compactions {}", counts.compactions);
+            println!("blocks freed by marking {} in calls {}", counts.freed, counts.markings);
             writes::show("the library", &counts.writes_linked);
             writes::show("plain store and tally", &counts.writes_beside);
             accesses::show("the library", &counts.panel_linked);
         }
 
         /// Says how the run ended: well, if there was no difference and some write met
-        /// each case of the room that a write can take, and some call each case of terms
-        /// and of compactions.
+        /// each case of the room that a write can take, and some call each case of terms,
+        /// of compactions and of marking.
         fn ends_well(&self, outcome: Outcome) -> bool {
             let counts = &self.counts;
-            let unmet =
-                [counts.room.unmet(), counts.terms.unmet(), counts.compactions.unmet()].concat();
+            let of_calls = [counts.terms.unmet(), counts.compactions.unmet()].concat();
+            let unmet = [counts.room.unmet(), of_calls, counts.markings.unmet()].concat();
             match outcome {
                 Err(failure) => {
                     println!("compare: DIFFERENCE: {}", failure.text);
@@ -871,19 +877,5 @@ exit status: 0 no difference, 1 a difference or a case that no call met, 2 bad u
         script.extend(pokes(Buffer::Tables, &made.tables, tables));
         script.extend(pokes(Buffer::Pages, &made.pages, pages));
         script
-    }
-
-    /// The lines that make other bytes of a buffer's.
-    fn pokes(buffer: Buffer, before: &[u8], after: &[u8]) -> Vec<Item> {
-        let mut items = Vec::new();
-        if before.len() != after.len() {
-            items.push(length_of(buffer, after.len()));
-        }
-        for (at, value) in after.iter().enumerate() {
-            if before.get(at).copied().unwrap_or(0) != *value {
-                items.push(Item::Poke { buffer, at, value: *value });
-            }
-        }
-        items
     }
 }

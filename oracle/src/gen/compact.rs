@@ -95,20 +95,13 @@ impl Order {
 }
 
 /// Gives the stored entries of well-formed tables other blocks, in this order, whatever
-/// these hold, and another next start; before, some files are marked and some sets become
-/// read-only or writeable, where the tables stay well formed.
+/// these hold, and another next start; before, some sets become read-only or writeable.
 pub fn reorder(rng: &mut Rng, tables: &mut [u8], order: Order) {
     let mut state = State::unpack(tables);
     let block_count = state.block_count;
-    for _ in 0..rng.below(6) {
-        let mut changed = state.clone();
-        let done = match rng.below(3) {
-            0 | 1 => twist_mark(rng, &mut changed),
-            _ => twist_writeable(rng, &mut changed),
-        };
-        if done.is_some() && check_state(&changed, block_count * PAGE_BYTES).is_empty() {
-            state = changed;
-        }
+    for _ in 0..rng.below(4) {
+        // Without a set beside set 0 nothing changes.
+        let _ = twist_writeable(rng, &mut state);
     }
     let places = stored_entries(&state);
     let used = places.len();
@@ -221,7 +214,7 @@ fn drop_somewhere(rng: &mut Rng, scene: &mut Scene) {
 }
 
 /// The file of a set made from set 0 has a page of its own and needs another one; with no
-/// block free, a write of that page in set 0 marks it, and it keeps its block.
+/// block free, a write of that page in set 0 marks it, and its block comes free.
 fn mark_in_full_store(rng: &mut Rng, scene: &mut Scene) {
     scene.add(Call::Create { set: 0, file: scene.file });
     for page in [0, 1] {

@@ -236,9 +236,10 @@ pub fn panel_start(rng: &mut Rng, block_count: usize) -> Start {
     by_panel(rng, style, calls, then)
 }
 
-/// How many blocks `many_copies_start` leaves free: just too few for a count over
-/// 255, just enough, and more.
-pub const LEFT_FREE: [usize; 8] = [254, 255, 256, 257, 300, 384, 400, 448];
+/// How many blocks `many_copies_start` leaves free. A child that is marked gives its copies
+/// to the others, so that fewer blocks than copies do: for six children that need copies 135
+/// make 255 of them and 136 make 256; for five, 164 make 255; for four, 256 make 256.
+pub const LEFT_FREE: [usize; 8] = [135, 136, 164, 256, 300, 384, 400, 448];
 
 /// A format, and a file of 64 stored pages in set 0; set 0, or a set made from it,
 /// has up to seven children that need them, and so many blocks are free. Then a

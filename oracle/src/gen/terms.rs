@@ -156,12 +156,14 @@ pub fn current(rng: &mut Rng, style: &Style, beside: &Beside) -> Call {
     Call::Current { set, day: rng.pick(&days) }
 }
 
-/// Bytes of older tables that break a rule of document 01 wherever they are put in a
-/// well-formed store's: a block count over 4,096, a zero field of the header and of set
-/// 0, and set 0 not used, not writeable, at level 1.
+/// Bytes of older tables of either length that break a rule of document 01 wherever they
+/// are put in a well-formed store's: a block count over 4,096, a zero field of the header
+/// and of set 0, and set 0 not used, not writeable, at level 1.
 const BREAKS: [(usize, u8); 6] = [(0, 255), (3, 1), (518, 1), (516, 68), (516, 132), (516, 204)];
+/// The end day of set 0 becomes 0, in tables that have terms.
+const BREAKS_TERM: [(usize, u8); 2] = [(521, 0), (522, 0)];
 /// Lengths that the converter refuses, of the older tables and of the new buffer.
-const WRONG_OLDER: [usize; 7] = [0, 1, 540, 17_435, 17_437, TABLES_BYTES, 40_000];
+const WRONG_OLDER: [usize; 8] = [0, 1, 540, 17_435, 17_437, 17_467, 17_469, 40_000];
 const WRONG_NEW: [usize; 7] = [0, 1, 572, 17_467, 17_469, OLDER_TABLES_BYTES, 40_000];
 
 /// The new buffer is filled with any bytes, or with zeros, or has some other bytes.
@@ -188,13 +190,23 @@ fn calls_meanwhile(rng: &mut Rng, style: &Style, beside: &Beside) -> Vec<Item> {
     calls
 }
 
-/// A conversion in a history: the tables go, without their terms, to the second buffer,
-/// and are converted back, so that plain store and tally go on. Sometimes calls come
+/// The tables go to the second buffer, without their terms or as they are; mostly their
+/// marked files then get what they held before Ask 10.
+fn older(rng: &mut Rng) -> Vec<Item> {
+    let mut items = vec![rng.pick(&[Item::Narrow, Item::Keep])];
+    if rng.percent(75) {
+        items.push(Item::LoadMarked { seed: data_seed(rng) });
+    }
+    items
+}
+
+/// A conversion in a history: the tables go to the second buffer (see `older`) and are
+/// converted back, so that plain store and tally go on. Sometimes calls come
 /// between, or the new buffer gets any bytes; sometimes conversions that are refused come
 /// first.
 pub fn conversion(rng: &mut Rng, style: &Style, beside: &Beside) -> Vec<Item> {
     let convert = || Item::Call(Call::Convert {});
-    let mut items = vec![Item::Narrow];
+    let mut items = older(rng);
     match rng.below(10) {
         0..=2 => {}
         3 | 4 => items.extend(calls_meanwhile(rng, style, beside)),
@@ -204,13 +216,19 @@ pub fn conversion(rng: &mut Rng, style: &Style, beside: &Beside) -> Vec<Item> {
             items.push(length_of(Buffer::Tables, TABLES_BYTES));
         }
         8 => {
-            let (at, value) = rng.pick(&BREAKS);
+            let has_terms = items[0] == Item::Keep;
+            let breaks = match has_terms && rng.percent(40) {
+                true => BREAKS_TERM.to_vec(),
+                false => vec![rng.pick(&BREAKS)],
+            };
             let buffer = Buffer::Second;
-            items.extend([Item::Poke { buffer, at, value }, convert(), Item::Narrow]);
+            items.extend(breaks.into_iter().map(|(at, value)| Item::Poke { buffer, at, value }));
+            items.push(convert());
+            items.extend(older(rng));
         }
         _ => {
             items.extend([length_of(Buffer::Second, rng.pick(&WRONG_OLDER)), convert()]);
-            items.push(Item::Narrow);
+            items.extend(older(rng));
         }
     }
     items.push(convert());
@@ -218,9 +236,9 @@ pub fn conversion(rng: &mut Rng, style: &Style, beside: &Beside) -> Vec<Item> {
 }
 
 /// A conversion on any store, well formed or not: what stands in the tables is converted
-/// to itself.
+/// to itself, or mended.
 pub fn any_conversion(rng: &mut Rng) -> Vec<Item> {
-    let mut items = vec![Item::Narrow];
+    let mut items = older(rng);
     if rng.percent(10) {
         items.push(length_of(Buffer::Second, rng.pick(&WRONG_OLDER)));
     }
@@ -228,26 +246,26 @@ pub fn any_conversion(rng: &mut Rng) -> Vec<Item> {
     items
 }
 
-/// Conversions of a well-formed store: with wrong lengths of all three buffers, with older
-/// tables in which a rule of document 01 is broken, and accepted ones between them, into
-/// a buffer of any bytes too.
+/// Conversions of a well-formed store, whose older tables are of one length or the other:
+/// with marked files that hold what they did before Ask 10, with wrong lengths of all three
+/// buffers, with older tables in which a rule is broken, and accepted ones between them,
+/// into a buffer of any bytes too.
 pub fn conversions(rng: &mut Rng, tables: &[u8], pages_length: usize) -> Vec<Item> {
     let convert = || Item::Call(Call::Convert {});
-    let mut items = vec![Item::Narrow, convert()];
+    let older = rng.pick(&[Item::Narrow, Item::Keep]);
+    let right = if older == Item::Keep { tables.to_vec() } else { narrowed(tables) };
+    let mut items = vec![older.clone(), convert()];
+    items.extend([Item::LoadMarked { seed: data_seed(rng) }, convert()]);
     items.extend(any_new_buffer(rng));
     items.push(convert());
-    let (new, older) = (rng.pick(&WRONG_NEW), rng.pick(&WRONG_OLDER));
-    for length in [new, OLDER_TABLES_BYTES] {
+    for length in [rng.pick(&WRONG_NEW), OLDER_TABLES_BYTES] {
         items.extend([length_of(Buffer::Tables, length), convert()]);
     }
-    items.extend([length_of(Buffer::Tables, TABLES_BYTES), convert()]);
-    for length in [older, TABLES_BYTES] {
-        items.extend([Item::Narrow, length_of(Buffer::Second, length), convert()]);
-    }
-    items.push(Item::Narrow);
+    items.extend([length_of(Buffer::Tables, TABLES_BYTES), convert(), older.clone()]);
+    items.extend([length_of(Buffer::Second, rng.pick(&WRONG_OLDER)), convert(), older.clone()]);
     for _ in 0..3 {
-        items.extend(broken_older(rng, tables));
-        items.extend([convert(), Item::Narrow]);
+        items.extend(broken_older(rng, tables, &right));
+        items.extend([convert(), older.clone()]);
     }
     let wrong = [0, 1, pages_length - 1, pages_length + 1, pages_length - 512, pages_length + 512];
     items.extend([length_of(Buffer::Pages, rng.pick(&wrong)), convert()]);
@@ -255,26 +273,19 @@ pub fn conversions(rng: &mut Rng, tables: &[u8], pages_length: usize) -> Vec<Ite
     items
 }
 
-/// Lines that break a rule of document 01 in the second tables, which hold these tables
-/// without their terms.
-fn broken_older(rng: &mut Rng, tables: &[u8]) -> Vec<Item> {
-    let right = narrowed(tables);
+/// Lines that break a rule in the second tables, which hold these tables as they are or
+/// without their terms. A rule on terms cannot be broken in the shorter ones, and a rule on
+/// marked files is none of theirs.
+fn broken_older(rng: &mut Rng, tables: &[u8], right: &[u8]) -> Vec<Item> {
     let mut broken = tables.to_vec();
     let rule = rng.pick(Rule::ALL);
     if !damage_rule(rng, &mut broken, rule) {
         return Vec::new();
     }
-    let broken = narrowed(&broken);
-    let mut items = Vec::new();
-    if broken.len() != right.len() {
-        items.push(length_of(Buffer::Second, broken.len()));
+    if right.len() == OLDER_TABLES_BYTES {
+        broken = narrowed(&broken);
     }
-    for (at, value) in broken.iter().enumerate() {
-        if right.get(at).copied().unwrap_or(0) != *value {
-            items.push(Item::Poke { buffer: Buffer::Second, at, value: *value });
-        }
-    }
-    items
+    pokes(Buffer::Second, right, &broken)
 }
 
 /// A format, and mostly a family (see `family_calls`, `short_calls`, `line_calls`); most

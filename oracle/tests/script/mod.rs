@@ -86,8 +86,11 @@ impl Store {
         runs.join(" ")
     }
 
+    /// Whether the file is marked. If it is, it has size 0 and all entries unmapped.
     pub fn is_marked(&self, set: usize) -> bool {
-        self.file(set).state == FileState::Marked
+        let file = self.file(set);
+        assert!(file.state != FileState::Marked || file == MARKED_FILE, "set {set}: {file:?}");
+        file.state == FileState::Marked
     }
 
     /// All bytes by reading.

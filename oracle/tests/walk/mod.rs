@@ -5,12 +5,13 @@
 #![allow(dead_code)]
 
 use oracle::agree::read_off;
-use oracle::bench::{handed_over, Bench, Handed, NoOther};
+use oracle::bench::{Bench, NoOther};
 use oracle::call::*;
 use oracle::gen::{self, Made, Start, Style};
 use oracle::judge::Beside;
 use oracle::rng::Rng;
 use oracle::state::*;
+use oracle::turns::{Handed, Turns};
 use std::collections::BTreeSet;
 
 /// An accepted call that can change the store, with the store before and after
@@ -66,8 +67,12 @@ pub struct Change<'a> {
     pub whole: Vec<usize>,
     /// The other pages of the groups that a write touches.
     pub extra: Vec<usize>,
-    /// The blocks handed over, as the tables show it.
+    /// The turns of the call; none if it has none.
+    pub turns: Option<Turns>,
+    /// The blocks handed over, those that marking freed since among them.
     pub handed: Vec<Handed>,
+    /// The blocks that marking freed, each as often as it was freed.
+    pub freed: Vec<usize>,
 }
 
 impl<'a> Change<'a> {
@@ -98,12 +103,14 @@ impl<'a> Change<'a> {
             _ if seen.before.files[set][file].state == FileState::Marked => (0..0, 0),
             _ => (0..PAGES, 0),
         };
-        let handed = handed_over(seen.before, seen.after, set, file);
+        let turns = Turns::of(seen.call, seen.before);
+        let handed = turns.as_ref().map_or(Vec::new(), Turns::handed_over);
+        let freed = turns.as_ref().map_or(Vec::new(), Turns::freed);
         let whole = touched.clone().filter(|page| *page >= first_whole).collect();
         let touched: Vec<usize> = touched.collect();
         // Only writes go by groups.
         let extra = write.map_or(Vec::new(), |write| others_of_groups(&touched, write.group));
-        Some(Change { seen, set, file, touched, whole, extra, handed })
+        Some(Change { seen, set, file, touched, whole, extra, turns, handed, freed })
     }
 
     pub fn children(&self) -> Vec<usize> {
@@ -118,6 +125,21 @@ impl<'a> Change<'a> {
 
     pub fn entry_after(&self, child: usize, page: usize) -> Entry {
         self.seen.after.files[child][self.file].entries[page]
+    }
+}
+
+/// No free block has a name in any map, and no used one is without: a bit is 1 exactly if
+/// one entry names the block, whatever the file's state. Marked files hold nothing.
+pub fn bits_are_names(state: &State) {
+    let mut names = vec![0; MOST_BLOCKS];
+    for record in state.files.iter().flatten() {
+        assert!(record.state != FileState::Marked || *record == MARKED_FILE);
+        for entry in record.entries.iter().filter(|entry| entry.kind == Kind::Stored) {
+            names[entry.block] += 1;
+        }
+    }
+    for (block, bit) in state.bits.iter().enumerate() {
+        assert_eq!(names[block], usize::from(*bit), "block {block}");
     }
 }
 
@@ -191,13 +213,21 @@ pub fn reads_of_histories(seed: u64, rounds: usize, see: impl FnMut(SeenRead)) {
 /// Shows the calls of random histories that begin with a family for writes by
 /// groups; fewer calls than in others follow.
 pub fn histories_of_groups(seed: u64, rounds: usize, see: impl FnMut(Seen)) {
-    let mut see = changes(see);
+    show_short_histories(seed, rounds, gen::group_start, &mut changes(see));
+}
+
+/// The same with a family for marking.
+pub fn histories_of_marking(seed: u64, rounds: usize, see: impl FnMut(Seen)) {
+    show_short_histories(seed, rounds, gen::marking_start, &mut changes(see));
+}
+
+fn show_short_histories(seed: u64, rounds: usize, begin: Begin, see: &mut dyn FnMut(Shown)) {
     println!("seed {seed}");
     let mut rng = Rng::new(seed);
     for round in 0..rounds {
         let block_count = if round % 5 == 0 { 64 } else { rng.between(3, 16) };
-        let start = gen::group_start(&mut rng, block_count);
-        show_history(&mut rng, start, 20, &mut see);
+        let start = begin(&mut rng, block_count);
+        show_history(&mut rng, start, 20, see);
     }
 }
 
@@ -239,6 +269,12 @@ pub fn stores(seed: u64, rounds: usize, see: impl FnMut(Seen)) {
 pub fn written_stores(seed: u64, rounds: usize, see: impl FnMut(Seen)) {
     let most = ["write", "write-narrow", "write-groups"];
     show_stores(seed, rounds, gen::group_start, &most, see);
+}
+
+/// The same with stores of families for marking; most calls write or drop pages.
+pub fn marked_stores(seed: u64, rounds: usize, see: impl FnMut(Seen)) {
+    let most = ["write", "write-narrow", "write-groups", "truncate", "delete"];
+    show_stores(seed, rounds, gen::marking_start, &most, see);
 }
 
 /// How a store of this many blocks begins.
