@@ -10,7 +10,7 @@ WARNINGS = -std=c99 -Wall -Wextra -Wpedantic -Werror
 PACKAGE = $(CURDIR)/dist
 BUILT = target-gate/examples
 
-EXAMPLES = analyser_day two_images front_to_back front_panel room terms compaction
+EXAMPLES = analyser_day two_images front_to_back front_panel room terms compaction marked
 
 .PHONY: dist examples clean
 

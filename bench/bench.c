@@ -69,7 +69,8 @@ static const struct calls twin = { "twin", ALL(twin) };
 
 static _Alignas(4096) uint8_t tables[TABLES];          /* what the calls are given */
 static _Alignas(4096) uint8_t kept[TABLES];            /* the tables before the call */
-static _Alignas(4096) uint8_t old[OLD_TABLES];         /* tables of before the terms, only read */
+static _Alignas(4096) uint8_t old[TABLES];             /* older tables of either length, only read */
+static size_t old_length;
 static _Alignas(64) uint8_t registers[REGISTERS], registers_kept[REGISTERS];
 static _Alignas(4096) uint8_t pages[MAX_BLOCKS * PAGE];
 static _Alignas(4096) uint8_t pages_kept[MAX_BLOCKS * PAGE];
@@ -315,6 +316,46 @@ static void full_file(unsigned blocks) { one_file(blocks, 64, 0); }
 static void one_child(unsigned blocks) { one_file(blocks, 64, 1); }
 static void seven_children(unsigned blocks) { one_file(blocks, 64, 7); }
 
+/* Other files of the used sets are written, one after the other, until only so many blocks are free. No set reads them through another. */
+static void fill_up(unsigned sets, unsigned left)
+{
+    for (unsigned i = 0, free = free_now(); i < sets * 15 && free > left; i++, free = free_now()) {
+        unsigned s = i / 15, f = 1 + i % 15, n = free - left < 64 ? free - left : 64;
+        must(twin_create(LENT, s, f));
+        must(twin_write_narrow(LENT, s, f, 0, data, (size_t)n * PAGE));
+    }
+    if (free_now() != left)
+        fail("a store could not be filled");
+}
+
+/* File 0 of set 0 with 64 pages, and children of set 0 that have `held` pages of it in blocks of their own, from page 8 on, and read
+ * the others through set 0; so many blocks are free. */
+static void crowded(unsigned blocks, unsigned children, unsigned held, unsigned left)
+{
+    one_file(blocks, 64, 0);
+    for (unsigned s = 1; s <= children; s++) {
+        must(twin_make(LENT, 0, s, 1));
+        must(twin_write_narrow(LENT, s, 0, 8 * PAGE, data, (size_t)held * PAGE));
+    }
+    fill_up(children + 1, left);
+}
+
+static void one_crowded(unsigned blocks) { crowded(blocks, 1, 0, 32); }
+static void seven_crowded(unsigned blocks) { crowded(blocks, 7, 0, 64); }
+static void seven_full(unsigned blocks) { crowded(blocks, 7, 8, 0); }
+
+/* Set 1 has half of file 0 in blocks of its own and reads the other half through set 0; five children of set 1 read all of it through
+ * set 1; 64 blocks are free. */
+static void middle_crowded(unsigned blocks)
+{
+    one_file(blocks, 64, 0);
+    must(twin_make(LENT, 0, 1, 1));
+    must(twin_write_narrow(LENT, 1, 0, 0, data, 32 * PAGE));
+    for (unsigned s = 2; s <= 6; s++)
+        must(twin_make(LENT, 1, s, 1));
+    fill_up(7, 64);
+}
+
 /* File 0 of set 0 with 64 pages, and a chain of copies down to level 5 that have nothing of their own. */
 static void chain(unsigned blocks)
 {
@@ -343,7 +384,28 @@ static void line_on(unsigned blocks)
         registers[i] = (uint8_t)(i * 7 + 1);
 }
 
-/* Such stores as they were before the terms; the tables that are written to hold something else. */
+/* Stores from before marking freed blocks: all files of the sets from `first` on are marked, and keep what they had. */
+static void mark_from(unsigned first)
+{
+    for (unsigned i = first * 16; i < 128; i++)
+        tables[FILES_AT + i * RECORD] |= 0xc0;
+}
+
+/* The typical store, half of its sets with marked files; and the scattered one, with marked files in all sets but set 0. */
+static void half_marked(unsigned blocks)
+{
+    typical(blocks);
+    mark_from(4);
+}
+
+static void all_marked(unsigned blocks)
+{
+    scattered(blocks);
+    mark_from(1);
+}
+
+/* Such stores as they were before the terms, and as they were when marked files kept what they had; the tables that are written to
+ * hold something else. */
 static void age(void)
 {
     memcpy(old, tables, SETS_AT);
@@ -351,18 +413,44 @@ static void age(void)
         memcpy(old + SETS_AT + s * OLD_SET_BYTES, tables + SETS_AT + s * SET_BYTES, OLD_SET_BYTES);
     memcpy(old + OLD_FILES_AT, tables + FILES_AT, OLD_TABLES - OLD_FILES_AT);
     memset(tables, 0xee, TABLES);
+    old_length = OLD_TABLES;
 }
-#define OLD(name, build)                                                                                               \
+
+static void put_aside(void)
+{
+    memcpy(old, tables, TABLES);
+    memset(tables, 0xee, TABLES);
+    old_length = TABLES;
+}
+#define OLD(name, build, how)                                                                                          \
     static void name(unsigned blocks)                                                                                  \
     {                                                                                                                  \
         build(blocks);                                                                                                 \
-        age();                                                                                                         \
+        how();                                                                                                         \
     }
-OLD(old_empty, empty)
-OLD(old_file, full_file)
-OLD(old_typical, typical)
-OLD(old_deep, deep)
-OLD(old_scattered, scattered)
+OLD(old_empty, empty, age)
+OLD(old_file, full_file, age)
+OLD(old_typical, typical, age)
+OLD(old_deep, deep, age)
+OLD(old_scattered, scattered, age)
+OLD(old_half_marked, half_marked, age)
+OLD(old_all_marked, all_marked, age)
+OLD(long_empty, empty, put_aside)
+OLD(long_file, full_file, put_aside)
+OLD(long_typical, typical, put_aside)
+OLD(long_deep, deep, put_aside)
+OLD(long_scattered, scattered, put_aside)
+OLD(long_half_marked, half_marked, put_aside)
+OLD(long_all_marked, all_marked, put_aside)
+
+/* The stores with marked files as a conversion leaves them. */
+static void clear_marked(void)
+{
+    put_aside();
+    must(twin_convert(old, old_length, pages, length, tables, TABLES));
+}
+OLD(cleared_half, half_marked, clear_marked)
+OLD(cleared_all, all_marked, clear_marked)
 
 /* ---- the cases ---- */
 
@@ -393,6 +481,7 @@ CASE(delete_it, delete(LENT, 0, 0))
 CASE(read_5, read(LENT, 5, 0, 0, buffer, FILE_BYTES))
 CASE(truncate_5, truncate(LENT, 5, 0, 100))
 CASE(delete_4, delete(LENT, 4, 0))
+CASE(delete_1, delete(LENT, 1, 0))
 CASE(make_1, make(LENT, 0, 1, 1))
 CASE(remove_1, remove(LENT, 1))
 CASE(remove_7, remove(LENT, 7))
@@ -415,7 +504,7 @@ CASE(term_far, set_term(LENT, 7, 2026, 11, 30, 15))
 CASE(term_none, set_term(LENT, 0, 2026, 11, 31, 12))
 CASE(current_root, current(LENT, 0, 10547))
 CASE(current_far, current(LENT, 7, 10547))
-CASE(convert_it, convert(old, OLD_TABLES, pages, length, tables, TABLES))
+CASE(convert_it, convert(old, old_length, pages, length, tables, TABLES))
 CASE(compact_it, compact(LENT, spare, PAGE))
 
 /* File 0 of set 0 rewritten from front to back, a page a call; gives the counts of all, and the first number that is not 0. */
@@ -449,11 +538,15 @@ static const struct bench_case cases[] = {
     { "check", "whole check", "full, deep", check, deep, false, 0, { 64, 4096 }, { 11, 21 } },
     { "check", "whole check", "scattered", check, scattered, false, 0, { 64, 4096 }, { 0, 0 } },
     { "check", "whole check", "sizes", check, sizes, false, 0, { 64, 4096 }, { 32, 32 } },
+    { "check", "whole check", "half marked", check, cleared_half, false, 0, { 64, 4096 }, { 0, 0 } },
+    { "check", "whole check", "all marked", check, cleared_all, false, 0, { 64, 4096 }, { 0, 0 } },
     { "check", "first part", "empty", check_blocks, empty, false, 0, { 64, 4096 }, { 0, 0 } },
     { "check", "first part", "typical", check_blocks, typical, false, 0, { 64, 4096 }, { 0, 0 } },
     { "check", "first part", "full, deep", check_blocks, deep, false, 0, { 64, 4096 }, { 0, 0 } },
     { "check", "first part", "scattered", check_blocks, scattered, false, 0, { 64, 4096 }, { 0, 0 } },
     { "check", "first part", "sizes", check_blocks, sizes, false, 0, { 64, 4096 }, { 0, 0 } },
+    { "check", "first part", "half marked", check_blocks, cleared_half, false, 0, { 64, 4096 }, { 0, 0 } },
+    { "check", "first part", "all marked", check_blocks, cleared_all, false, 0, { 64, 4096 }, { 0, 0 } },
     { "free", "", "empty", free_of, empty, false, 0, { 64, 4096 }, { 0, 0 } },
     { "free", "", "typical", free_of, typical, false, 0, { 64, 4096 }, { 0, 0 } },
     { "free", "", "full, deep", free_of, deep, false, 0, { 64, 4096 }, { 0, 0 } },
@@ -472,6 +565,9 @@ static const struct bench_case cases[] = {
     { "write", "32 KiB, 64 copies", "one child", write_all, one_child, true, 0, { 1024, 4096 }, { 0, 0 } },
     { "write", "32 KiB, 448 copies", "seven children", write_all, seven_children, true, 0, { 1024, 4096 }, { 77, 77 } },
     { "write", "32 KiB, marks", "one child", write_all, one_child, true, 0, { 64, 0 }, { 0, 0 } },
+    { "write", "32 KiB, frees 32", "one crowded", write_all, one_crowded, true, 0, { 128, 1024 }, { 0, 0 } },
+    { "write", "32 KiB, taken again", "seven crowded", write_all, seven_crowded, true, 0, { 128, 4096 }, { 0, 0 } },
+    { "write", "1 byte, taken again", "seven full", write_1, seven_full, true, 0, { 128, 4096 }, { 0, 0 } },
     { "write", "1 byte, 8 copies", "one child", write_1, one_child, true, 0, { 1024, 4096 }, { 0, 0 } },
     { "write", "1 byte, 56 copies", "seven children", write_1, seven_children, true, 0, { 1024, 4096 }, { 0, 0 } },
     { "write", "1 byte, 3 children", "typical", write_1, typical, true, 0, { 4096, 0 }, { 0, 0 } },
@@ -484,6 +580,9 @@ static const struct bench_case cases[] = {
     { "narrow", "32 KiB, 64 copies", "one child", narrow_all, one_child, true, 0, { 1024, 4096 }, { 0, 0 } },
     { "narrow", "32 KiB, 448 copies", "seven children", narrow_all, seven_children, true, 0, { 1024, 4096 }, { 77, 77 } },
     { "narrow", "32 KiB, marks", "one child", narrow_all, one_child, true, 0, { 64, 0 }, { 0, 0 } },
+    { "narrow", "32 KiB, frees 32", "one crowded", narrow_all, one_crowded, true, 0, { 128, 1024 }, { 0, 0 } },
+    { "narrow", "32 KiB, taken again", "seven crowded", narrow_all, seven_crowded, true, 0, { 128, 4096 }, { 0, 0 } },
+    { "narrow", "1 byte, taken again", "seven full", narrow_1, seven_full, true, 0, { 128, 4096 }, { 0, 0 } },
     { "narrow", "1 byte, 1 copy", "one child", narrow_1, one_child, true, 0, { 1024, 4096 }, { 0, 0 } },
     { "narrow", "1 byte, 7 copies", "seven children", narrow_1, seven_children, true, 0, { 1024, 4096 }, { 0, 0 } },
     { "narrow", "1 byte, 3 children", "typical", narrow_1, typical, true, 0, { 4096, 0 }, { 0, 0 } },
@@ -499,12 +598,15 @@ static const struct bench_case cases[] = {
     { "truncate", "1 copy, 63 handed", "one child", truncate_to_100, one_child, true, 0, { 1024, 4096 }, { 0, 0 } },
     { "truncate", "64 handed", "one child", truncate_to_0, one_child, true, 0, { 64, 4096 }, { 0, 0 } },
     { "truncate", "384 copies", "seven children", truncate_to_0, seven_children, true, 0, { 1024, 4096 }, { 0, 0 } },
+    { "truncate", "handed, taken again", "seven crowded", truncate_to_0, seven_crowded, true, 0, { 128, 4096 }, { 0, 0 } },
     { "truncate", "up", "one file", truncate_up, short_file, true, 0, { 64, 4096 }, { 0, 0 } },
     { "truncate", "level 5", "chain", truncate_5, chain, true, 0, { 1024, 4096 }, { 0, 0 } },
     { "delete", "", "one file", delete_it, full_file, true, 0, { 64, 4096 }, { 0, 0 } },
     { "delete", "64 handed", "one child", delete_it, one_child, true, 0, { 64, 4096 }, { 0, 0 } },
     { "delete", "384 copies", "seven children", delete_it, seven_children, true, 0, { 1024, 4096 }, { 0, 0 } },
     { "delete", "64 handed, marks", "seven children", delete_it, seven_children, true, 0, { 64, 0 }, { 0, 0 } },
+    { "delete", "handed, taken again", "seven crowded", delete_it, seven_crowded, true, 0, { 128, 4096 }, { 0, 0 } },
+    { "delete", "set 1, taken again", "middle crowded", delete_1, middle_crowded, true, 0, { 256, 4096 }, { 0, 0 } },
     { "delete", "level 4, 64 copies", "chain", delete_4, chain, true, 0, { 1024, 4096 }, { 0, 0 } },
     { "delete", "", "typical", delete_it, typical, true, 0, { 64, 4096 }, { 0, 0 } },
     { "make", "", "one file", make_1, full_file, true, 0, { 64, 4096 }, { 3, 3 } },
@@ -535,11 +637,20 @@ static const struct bench_case cases[] = {
     { "current", "set 0", "one file", current_root, full_file, false, 0, { 64, 4096 }, { 0, 0 } },
     { "current", "set 7", "typical", current_far, typical, false, 0, { 64, 4096 }, { 0, 0 } },
     { "current", "set 7", "full, deep", current_far, deep, false, 0, { 64, 4096 }, { 0, 0 } },
-    { "convert", "", "empty", convert_it, old_empty, true, 0, { 64, 4096 }, { 0, 0 } },
-    { "convert", "", "one file", convert_it, old_file, true, 0, { 64, 4096 }, { 0, 0 } },
-    { "convert", "", "typical", convert_it, old_typical, true, 0, { 64, 4096 }, { 0, 0 } },
-    { "convert", "", "full, deep", convert_it, old_deep, true, 0, { 64, 4096 }, { 0, 0 } },
-    { "convert", "", "scattered", convert_it, old_scattered, true, 0, { 64, 4096 }, { 0, 0 } },
+    { "convert", "17,436 bytes", "empty", convert_it, old_empty, true, 0, { 64, 4096 }, { 0, 0 } },
+    { "convert", "17,436 bytes", "one file", convert_it, old_file, true, 0, { 64, 4096 }, { 0, 0 } },
+    { "convert", "17,436 bytes", "typical", convert_it, old_typical, true, 0, { 64, 4096 }, { 0, 0 } },
+    { "convert", "17,436 bytes", "full, deep", convert_it, old_deep, true, 0, { 64, 4096 }, { 0, 0 } },
+    { "convert", "17,436 bytes", "scattered", convert_it, old_scattered, true, 0, { 64, 4096 }, { 0, 0 } },
+    { "convert", "17,436 bytes", "half marked", convert_it, old_half_marked, true, 0, { 64, 4096 }, { 0, 0 } },
+    { "convert", "17,436 bytes", "all marked", convert_it, old_all_marked, true, 0, { 64, 4096 }, { 0, 0 } },
+    { "convert", "17,468 bytes", "empty", convert_it, long_empty, true, 0, { 64, 4096 }, { 0, 0 } },
+    { "convert", "17,468 bytes", "one file", convert_it, long_file, true, 0, { 64, 4096 }, { 0, 0 } },
+    { "convert", "17,468 bytes", "typical", convert_it, long_typical, true, 0, { 64, 4096 }, { 0, 0 } },
+    { "convert", "17,468 bytes", "full, deep", convert_it, long_deep, true, 0, { 64, 4096 }, { 0, 0 } },
+    { "convert", "17,468 bytes", "scattered", convert_it, long_scattered, true, 0, { 64, 4096 }, { 0, 0 } },
+    { "convert", "17,468 bytes", "half marked", convert_it, long_half_marked, true, 0, { 64, 4096 }, { 0, 0 } },
+    { "convert", "17,468 bytes", "all marked", convert_it, long_all_marked, true, 0, { 64, 4096 }, { 0, 0 } },
     { "compact", "nothing stored", "empty", compact_it, empty, true, 0, { 64, 4096 }, { 0, 0 } },
     { "compact", "nothing to move", "in order", compact_it, in_order, true, 0, { 64, 4096 }, { 0, 0 } },
     { "compact", "", "typical", compact_it, typical, true, 0, { 64, 4096 }, { 0, 0 } },

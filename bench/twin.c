@@ -105,6 +105,7 @@ struct store {
     unsigned count;   /* how many they are */
     uint8_t order[SETS]; /* the used sets, each after its parent */
     uint8_t above[SETS]; /* the place of the parent in that order */
+    bool marked_keep;    /* older tables: a marked file may have a size and entries */
     uint8_t parent[SETS], level[SETS], first[SETS], next[SETS], writeable[SETS];
 };
 
@@ -117,12 +118,15 @@ static inline bool live(unsigned state) { return state - 1 < 2; }
 
 /* ---- the well-formed check ---- */
 
-/* The tables as they are, or as they were before sets had terms. */
+/* The tables as they are; as they were when marked files kept what they had; and, before that, when sets had no terms. */
 struct layout {
     size_t tables, heads;
     unsigned set_bytes;
+    bool marked_keep;
 };
-static const struct layout now = { TABLES, HEADS, SET_BYTES }, before_terms = { OLD_TABLES, OLD_HEADS, OLD_SET_BYTES };
+static const struct layout now = { TABLES, HEADS, SET_BYTES, false };
+static const struct layout marked_kept = { TABLES, HEADS, SET_BYTES, true };
+static const struct layout before_terms = { OLD_TABLES, OLD_HEADS, OLD_SET_BYTES, true };
 
 /* The set records: zero fields, terms, the root, and a walk over the chains from it, which must meet each used set once. */
 static bool check_sets(const uint8_t *t, const struct layout l, struct store *x)
@@ -294,8 +298,11 @@ static bool check_number(const uint8_t *heads, const struct store *x, unsigned f
         }
         if (!head_formed(head))
             return false;
-        if (state_of(head) == MARKED)
+        if (state_of(head) == MARKED) {
+            if (!x->marked_keep && (size_of(head) || ~m.unmapped))
+                return false;
             continue;
+        }
         if (m.unmapped) {
             if (!(alive >> up & 1))
                 return false;
@@ -342,7 +349,7 @@ static inline __attribute__((always_inline)) bool check_blocks(const uint8_t *t,
     zero_bytes((uint8_t *)&k, sizeof k);
     for (unsigned i = 0; i < n * FILES; i++) {
         const uint8_t *r = t + l.heads + i * RECORD;
-        bool blank = !(load32(r) & 0x7fffffff) && zero_words(r + 4, 16);
+        bool blank = state_of(load32(r)) != OWN && zero_words(r + 4, 16);
         struct masks m = blank ? (struct masks){ 0, ~(uint64_t)0 } : pass_map(&k, r + 4);
         if (masks)
             masks[i] = m;
@@ -366,6 +373,7 @@ static bool formed_as(const uint8_t *t, size_t length, const struct layout l, si
     for (unsigned s = 0; s < n; s++)
         if (!(x->used >> s & 1) && !zero_words(t + l.heads + s * SET_FILES, SET_FILES / 8))
             return false;
+    x->marked_keep = l.marked_keep;
     for (unsigned f = 0; f < FILES; f++)
         if (!check_number(t + l.heads, x, f, masks))
             return false;
@@ -378,9 +386,12 @@ static bool well_formed(const uint8_t *t, size_t length, size_t pages, struct st
     return formed_as(t, length, now, pages, x);
 }
 
+/* Tables of either length by the rules of their time. */
 static bool old_formed(const uint8_t *t, size_t length, size_t pages, struct store *x)
 {
-    return formed_as(t, length, before_terms, pages, x);
+    if (length == OLD_TABLES)
+        return formed_as(t, length, before_terms, pages, x);
+    return formed_as(t, length, marked_kept, pages, x);
 }
 
 /* ---- looking ---- */
@@ -596,6 +607,23 @@ static void free_blocks(uint8_t *t, const uint8_t *map, unsigned from, unsigned 
     }
 }
 
+/* Are any of the four entries from here on stored? */
+static inline bool some_stored(const uint8_t *entries) { return raw64(entries) & LANES(0x0080); }
+
+/* A marked file is left with its state and nothing else; gives how many blocks this frees. */
+static unsigned clear_marked(uint8_t *t, uint8_t *record)
+{
+    unsigned n = 0;
+    for (uint8_t *at = record + 4; at < record + RECORD; at += 8)
+        if (some_stored(at)) {
+            n += ones(raw64(at) & LANES(0x0080));
+            free_blocks(t, at, 0, 4);
+        }
+    zero_bytes(record, RECORD);
+    store32(record, head_of(MARKED, 0));
+    return n;
+}
+
 sweep_answer twin_remove(uint8_t *t, size_t tl, uint8_t *p, size_t pl, uint32_t set)
 {
     (void)p;
@@ -609,7 +637,7 @@ sweep_answer twin_remove(uint8_t *t, size_t tl, uint8_t *p, size_t pl, uint32_t 
     if (set == 0)
         return refused(SWEEP_ROOT);
     for (unsigned f = 0; f < FILES; f++)
-        if (state_of(head_at(t, set, f)) & 1) /* own or marked: others name no block */
+        if (state_of(head_at(t, set, f)) & 1) /* absent and virgin files name no block; nor do marked ones, which are rare */
             free_blocks(t, t + record_at(set, f) + 4, 0, PAGES);
     zero_bytes(t + record_at(set, 0), SET_FILES);
     unsigned up = x.parent[set], after = x.next[set];
@@ -673,18 +701,30 @@ sweep_answer twin_current(const uint8_t *t, size_t tl, const uint8_t *p, size_t 
     return answer(0, term >> 16 <= day && day < (term & 0xffff), 0, 0);
 }
 
+/* Tables from before sets had terms, with the default term in used sets. */
+static void widen(const uint8_t *old, uint8_t *t, const struct store *x)
+{
+    copy_bytes(t, old, RECORDS);
+    for (unsigned s = 0; s < SETS; s++) {
+        memcpy(t + set_at(s), old + RECORDS + s * OLD_SET_BYTES, OLD_SET_BYTES);
+        store32(t + set_at(s) + 3, is_used(x, s) ? END_DAY : 0);
+    }
+    copy_bytes(t + HEADS, old + OLD_HEADS, SETS * SET_FILES);
+}
+
 sweep_answer twin_convert(const uint8_t *old, size_t ol, const uint8_t *p, size_t pl, uint8_t *t, size_t tl)
 {
     (void)p;
     struct store x;
     if (tl != TABLES || !old_formed(old, ol, pl, &x))
         return refused(SWEEP_BAD_TABLES);
-    copy_bytes(t, old, RECORDS);
-    for (unsigned s = 0; s < SETS; s++) {
-        memcpy(t + set_at(s), old + RECORDS + s * OLD_SET_BYTES, OLD_SET_BYTES);
-        store32(t + set_at(s) + 3, is_used(&x, s) ? END_DAY : 0);
-    }
-    copy_bytes(t + HEADS, old + OLD_HEADS, SETS * SET_FILES);
+    if (ol == OLD_TABLES)
+        widen(old, t, &x);
+    else
+        copy_bytes(t, old, TABLES);
+    for (uint8_t *r = t + HEADS; r < t + TABLES; r += RECORD)
+        if (state_of(load32(r)) == MARKED)
+            clear_marked(t, r);
     return refused(0);
 }
 
@@ -761,11 +801,10 @@ static bool depends(const uint8_t *t, unsigned set, unsigned file)
     return false;
 }
 
-/* Marks the file in a set, and in the sets below that depend on it. */
+/* Marks the file in a set, and in the sets below that depend on it. Their blocks are free at once. */
 static void mark(struct change *c, unsigned set)
 {
-    uint8_t *r = c->t + record_at(set, c->file);
-    store32(r, head_of(MARKED, size_of(load32(r))));
+    c->free += clear_marked(c->t, c->t + record_at(set, c->file));
     c->marks++;
     for (unsigned k = c->x->first[set]; k != NONE; k = c->x->next[k])
         if (depends(c->t, k, c->file))
@@ -1002,7 +1041,7 @@ sweep_answer twin_delete(uint8_t *t, size_t tl, uint8_t *p, size_t pl, uint32_t 
         settle_children(&c);
         give_pages(&c, 0, PAGES, 0);
     }
-    if (state != VIRGIN)
+    if (state != VIRGIN) /* what is left in the map: blocks handed over are not, whoever has them now */
         free_blocks(t, r + 4, 0, PAGES);
     zero_bytes(r, RECORD);
     return finish(&c);
@@ -1019,9 +1058,6 @@ struct compaction {
     unsigned start;         /* the window is the blocks from here on */
     uint16_t owner[WINDOW]; /* the place of the entry that names a block of the window, if that is used and not below k */
 };
-
-/* Are any of the four entries from here on stored? */
-static inline bool some_stored(const uint8_t *entries) { return raw64(entries) & LANES(0x0080); }
 
 /* The window begins at block k: the owners are among the entries of the record in hand and those behind it. */
 static __attribute__((noinline)) void fill_window(struct compaction *c, const uint8_t *record)
@@ -1080,7 +1116,7 @@ static __attribute__((noinline)) unsigned pull_together(uint8_t *t, uint8_t *p, 
     c.t = t, c.p = p, c.spare = spare;
     c.k = 0, c.start = MAX_BLOCKS; /* no block is in the window yet */
     for (uint8_t *r = t + HEADS; r < t + TABLES; r += RECORD) {
-        if (!(state_of(load32(r)) & 1)) /* own or marked: others name no block */
+        if (state_of(load32(r)) != OWN) /* others name no block */
             continue;
         for (uint8_t *at = r + 4; at < r + RECORD; at += 8) {
             if (!some_stored(at))

@@ -6,7 +6,8 @@
  *   tables  SWEEP_TABLES_BYTES bytes: header, bitmap, set records, file records;
  *   pages   the blocks, SWEEP_PAGE_BYTES bytes each, at least one and at most SWEEP_BLOCKS_MAX.
  * The calls of the front panel are lent a third, its registers, SWEEP_PANEL_REGISTERS bytes; three of the four want it alone.
- * sweep_convert is lent older tables too, SWEEP_OLD_TABLES_BYTES bytes, from before sets had terms; no other call takes those.
+ * sweep_convert is lent older tables too: SWEEP_OLD_TABLES_BYTES bytes, from before sets had terms, or SWEEP_TABLES_BYTES, from before
+ * marking freed blocks. No other call takes the shorter ones, or the longer ones where a marked file still holds something.
  * sweep_compact is lent a spare page too, SWEEP_PAGE_BYTES bytes.
  * sweep_format makes a store of as many blocks as the pages buffer holds; every later call wants the same length.
  *
@@ -37,7 +38,7 @@ extern "C" {
 
 /* Sizes */
 #define SWEEP_TABLES_BYTES 17468u   /* the tables */
-#define SWEEP_OLD_TABLES_BYTES 17436u /* the tables before sets had terms: for sweep_convert alone */
+#define SWEEP_OLD_TABLES_BYTES 17436u /* the tables before sets had terms: the shorter of the two lengths that sweep_convert takes */
 #define SWEEP_PAGE_BYTES 512u       /* a page, and a block */
 #define SWEEP_BLOCKS_MAX 4096u      /* blocks of a store */
 #define SWEEP_PAGES_BYTES_MAX 2097152u /* the pages buffer: SWEEP_BLOCKS_MAX blocks */
@@ -93,20 +94,29 @@ sweep_answer sweep_format(uint8_t *tables, size_t tables_length, uint8_t *pages,
 sweep_answer sweep_create(uint8_t *tables, size_t tables_length, uint8_t *pages, size_t pages_length,
                           uint32_t set, uint32_t file);
 
+/* MARKED FILES: a file is marked, which means out of sync, where a call in its parent set needs a copy of a page for it and no block is
+ * free at that copy's turn. Marked with it are the files of its number in the sets below that still read a page through it, and so on
+ * down. Each of them gives its blocks back at that moment, those that it got earlier in the same call too, and is left with size 0 and
+ * all entries unmapped: what it held is lost. A later copy of the same call may take these blocks. The copy that found none is not tried
+ * again. A read, size, write or truncate of a marked file is refused with SWEEP_MARKED. It stays marked until it is deleted or its set
+ * removed; its delete frees no block, for it has none. Tables in which a marked file has a size, or an entry that is not unmapped, are
+ * not well formed. Stores from before marking freed blocks may have such files: see sweep_convert. */
+
 /* Writes data at offset; a gap before it reads as zeros. Touched are the pages that hold a byte of data. First each child set that
  * still reads a touched page through this set gets that page as it was: a stored one as a copy, a hole as a hole. Where no block is
- * free for a copy, the child's file is marked. Then the other pages of each touched group of SWEEP_GROUP_PAGES pages go to the
- * children that still read them through this set, in the same way, but a copy is made only if a block is free: this marks nothing,
- * and later writes of those pages need no copy for these children. SWEEP_FULL does not see such extra copies.
- * With k touched pages and c children of the set: it takes at most k own blocks and makes at most (k + 14) x c copies, together never
- * more than were free; with k + k x c blocks free it is not refused with SWEEP_FULL and marks no file.
- * Counts: own blocks taken, copies with the extra ones, files newly marked. */
+ * free for a copy, the child's file is marked, and its blocks are free. Then the other pages of each touched group of SWEEP_GROUP_PAGES
+ * pages go to the children that still read them through this set, in the same way, but a copy is made only if a block is free: this
+ * marks nothing, and later writes of those pages need no copy for these children. SWEEP_FULL does not see such extra copies.
+ * With k touched pages and c children of the set: it takes at most k own blocks and makes at most (k + 14) x c copies. Both together are
+ * never more than free + freed: the blocks free before the call, and those that its markings freed, a block as often as it was freed.
+ * Free afterwards are free + freed less both. With k + k x c blocks free it is not refused with SWEEP_FULL and marks no file.
+ * Counts: own blocks taken, copies with the extra ones and with those made for a file that it marked later, files newly marked. */
 sweep_answer sweep_write(uint8_t *tables, size_t tables_length, uint8_t *pages, size_t pages_length,
                          uint32_t set, uint32_t file, uint32_t offset, const uint8_t *data, size_t data_length);
 
 /* A narrow write: the same without the extra copies, so that no block is taken that this write does not need. (Only sweep_write goes
- * by groups.) With k touched pages and c children of the set it takes at most k + k x c blocks in all, never more than were free; with
- * k + k x c free it is not refused with SWEEP_FULL and marks no file.
+ * by groups.) With k touched pages and c children of the set it takes at most k + k x c blocks in all, never more than free + freed as
+ * above; with k + k x c free it is not refused with SWEEP_FULL and marks no file.
  * Counts: own blocks taken, copies, files newly marked. */
 sweep_answer sweep_write_narrow(uint8_t *tables, size_t tables_length, uint8_t *pages, size_t pages_length,
                                 uint32_t set, uint32_t file, uint32_t offset, const uint8_t *data, size_t data_length);
@@ -120,19 +130,23 @@ sweep_answer sweep_read(const uint8_t *tables, size_t tables_length, const uint8
 
 /* Cuts the file to size bytes, or fills it up with zeros. Of a page that is cut off whole, a block of the file's own map goes to the
  * first child that needs it, which counts as no copy; other children that need it get copies. So does every child that needs
- * a page which the file reads through its parent, or the page in which the cut ends. Blocks that no child needs are freed.
+ * a page which the file reads through its parent, or the page in which the cut ends. Where no block is free for a copy, that child's
+ * file is marked, and its blocks are free, those that it took over in this call too. Blocks that no child needs are freed, after all
+ * copies are made.
  * Counts: own blocks taken, copies, files newly marked. */
 sweep_answer sweep_truncate(uint8_t *tables, size_t tables_length, uint8_t *pages, size_t pages_length,
                             uint32_t set, uint32_t file, uint32_t size);
 
 /* Deletes the file. Each block of its own map goes to the first child that needs it, which counts as no copy; other children that
- * need it get copies, and so does every child that needs a page which the file reads through its parent. Blocks that no
- * child needs are freed. Counts: 0, copies, files newly marked. */
+ * need it get copies, and so does every child that needs a page which the file reads through its parent. Where no block is free for a
+ * copy, that child's file is marked, and its blocks are free, those that it took over in this call too. Blocks that no child needs are
+ * freed, after all copies are made. A marked file is made absent, and nothing is freed or copied.
+ * Counts: 0, copies, files newly marked. */
 sweep_answer sweep_delete(uint8_t *tables, size_t tables_length, uint8_t *pages, size_t pages_length,
                           uint32_t set, uint32_t file);
 
-/* Makes set a copy of parent; writeable 0 makes it read-only, any other value writeable. Its term is the longest there is, 0 to
- * SWEEP_END_DAY, whatever its parent's. */
+/* Makes set a copy of parent; writeable 0 makes it read-only, any other value writeable. What is marked in parent is marked in the
+ * copy. Its term is the longest there is, 0 to SWEEP_END_DAY, whatever its parent's. */
 sweep_answer sweep_make(uint8_t *tables, size_t tables_length, uint8_t *pages, size_t pages_length,
                         uint32_t parent, uint32_t set, uint32_t writeable);
 
@@ -179,21 +193,26 @@ sweep_answer sweep_set_term(uint8_t *tables, size_t tables_length, uint8_t *page
 sweep_answer sweep_current(const uint8_t *tables, size_t tables_length, const uint8_t *pages, size_t pages_length,
                            uint32_t set, uint32_t day);
 
-/* Takes a store of before the terms into this layout. Lend it the old tables, SWEEP_OLD_TABLES_BYTES of them, the store's pages, and a
- * second buffer for the new tables, SWEEP_TABLES_BYTES, which may hold anything and must not overlap the old tables. Where the old
- * tables are well formed by the rules of their time, the pages' length included, the second buffer gets the same store: each
- * used set with the term 0 to SWEEP_END_DAY, all else as it was. From then on lend the new tables with the same pages, whose bytes
- * stay; the old tables are not needed any more. Else SWEEP_BAD_TABLES, also for other lengths of the two tables, and not a byte of the
- * second buffer is written: so it is safe to try it on any image. Old tables and pages are only read.
- * A firmware that finds an image of the older length converts it once, when it starts, and saves the new one. */
+/* Takes an older store into the present layout and rules. Lend it the older tables, of one of two lengths, the store's pages, and a
+ * second buffer for the new tables, SWEEP_TABLES_BYTES, which may hold anything and must not overlap the older ones. The older tables:
+ *   SWEEP_OLD_TABLES_BYTES  from before sets had terms: each used set gets the term 0 to SWEEP_END_DAY;
+ *   SWEEP_TABLES_BYTES      from before marking freed blocks: each set keeps its term.
+ * Where they are well formed by the rules of their time, which let a marked file keep its size and blocks, the pages' length included, the
+ * second buffer gets the same store with its marked files cleared: size 0, all entries unmapped, the bits of the blocks that they held 0,
+ * so that sweep_free tells more by as many. All else is as it was, next start too; tables that are well formed already come out byte for
+ * byte. From then on lend the new tables with the same pages, whose bytes stay; the older tables are not needed any more. Else
+ * SWEEP_BAD_TABLES, also for any other length of the two tables, and not a byte of the second buffer is written: so it is safe to try it
+ * on any image. Older tables and pages are only read.
+ * A firmware that finds an older image, of either length, converts it once, when it starts, and saves the new one. Converting every image
+ * at the start does no harm. */
 sweep_answer sweep_convert(const uint8_t *old, size_t old_length, const uint8_t *pages, size_t pages_length,
                            uint8_t *tables, size_t tables_length);
 
 /* Pulls the used blocks together. They are renumbered from 0 up, by set number, then file, then page, and their pages move to suit: the
  * first stored page of the lowest set that has one is then in block 0, the next in block 1, and so on. So the stored pages of a file
  * stand one behind the other, and all free blocks behind all used ones. Next start becomes the number of used blocks modulo the block
- * count. Blocks of marked files are used blocks, and move too. Lend it a spare page of SWEEP_PAGE_BYTES, which may hold anything; pages
- * are exchanged through it.
+ * count. (A marked file has no block that could move.) Lend it a spare page of SWEEP_PAGE_BYTES, which may hold anything; pages are
+ * exchanged through it.
  * What a caller sees of the store stays: sets, files, states, sizes, contents, terms, the maps that a read looks at, how many blocks
  * are free. What changes is the block numbers in the tables, which a listing shows, the bitmap and next start: so later calls take
  * other blocks. Afterwards the pages of free blocks and the spare page may hold anything.

@@ -397,8 +397,8 @@ class HandedOver(unittest.TestCase):
         after = self.ROOT_LINE + child.replace("ext 2 -1", "ext 2 -2")
         found = self.counted("delete set 0 file 0", (0, 0, 0), ROOT_FILE + child, after)
         self.assertEqual(found, {"delete frees what its live children do not need"})
-        marked = after + "set 2 1 0 0\nfile 2 3 3 0\n"  # which may hold them, for all that is listed
-        self.assertEqual(self.counted("delete set 0 file 0", (0, 0, 0), ROOT_FILE + child, marked), set())
+        marked = after + "set 2 1 0 0\nfile 2 3 3 0\n"  # which has no blocks
+        self.assertEqual(self.counted("delete set 0 file 0", (0, 0, 0), ROOT_FILE + child, marked), found)
 
     def test_the_first_child_is_marked_and_the_next_takes_over(self):
         before = ROOT_FILE + self.VIRGIN + copy_file(2, 0, "ext 0 20\next 1 -1\n")

@@ -10,8 +10,8 @@ and a dot; its block has a thick frame and the number of sets that read it throu
 
 A listing has -1 for a hole of set 0. In any other set it has -2 for a hole and -1 for an unmapped page, which is read through
 the parent. A hole is 512 zeros, whatever the parent has: in a copy it is a white cell with a frame and a stroke in the copy's
-colour. A plain white cell is a hole of set 0, or an unmapped page that resolves to a hole of another set. Blocks of marked files
-are not in a listing.
+colour. A plain white cell is a hole of set 0, or an unmapped page that resolves to a hole of another set. A marked file has no
+blocks.
 Exit status: 0 well, 1 a bad listing (the line is named with what was expected), 2 bad usage.
 """
 import collections
@@ -349,8 +349,8 @@ def draw_key(drawing, y):
     drawing.box(x, y, CELL, STRIP_HEIGHT, "#FFFFFF", "none")
     draw_meaning(drawing, x, y, "a hole of set 0; in a copy, an unmapped page that is a hole further up the tree")
     notes = (
-        "Thick frame: the block is shared; +2 says that two more sets read it. Struck out: a marked file; its blocks are not in the listing.",
-        "White blocks are free, or held by a marked file. A listing has -2 for a hole of a copy, -1 for its unmapped pages and for holes of set 0.",
+        "Thick frame: the block is shared; +2 says that two more sets read it. Struck out: a marked file, which has no blocks.",
+        "White blocks are free. A listing has -2 for a hole of a copy, -1 for its unmapped pages and for holes of set 0.",
     )
     for place, words in enumerate(notes):
         drawing.text(MARGIN, y + 36 + 16 * place, words, "small")

@@ -83,7 +83,7 @@ static const struct function functions[CALLS] = {
     [SET_TERM] = {.name = "set_term", .run = run_set_term, .lends = {STORE_CHANGED},
                   .numbers = {SET, {32, year_of_date}, {32, month_of_date}, {32, day_of_date}, {32, count_of_months}}},
     [CURRENT] = {.name = "current", .run = run_current, .lends = {STORE_READ}, .numbers = {SET, {32, day_near_term}}},
-    /* the second tables are the old ones; what the new buffer holds does not matter */
+    /* the second tables are the older ones, of either length; what the new buffer holds does not matter */
     [CONVERT] = {.name = "convert", .run = run_convert,
                  .lends = {[TABLES] = CHANGED, [PAGES] = READ_ONLY, [SECOND] = READ_ONLY}, .unchecked = 1, .prepare = old_tables},
     [COMPACT] = {.name = "compact", .run = run_compact, .lends = {STORE_CHANGED, [SPARE] = CHANGED},
@@ -123,11 +123,57 @@ void put_term(uint8_t *tables, uint32_t set, uint32_t first, uint32_t end)
     memcpy(tables + SETS_AT + SET_BYTES * set + TERM_AT, days, sizeof days);
 }
 
+size_t record_at(size_t tables_length, uint32_t place)
+{
+    return tables_length - FILE_BYTES * (RECORDS - (size_t)place);
+}
+
+uint32_t state_in(const uint8_t *record)
+{
+    return record[0] >> 6;
+}
+
+void put_size(uint8_t *record, uint32_t size)
+{
+    record[0] = (uint8_t)((record[0] & 0xC0) | size >> 10);
+    record[1] = (uint8_t)(size >> 2);
+    record[2] = (uint8_t)((record[2] & 0x3F) | size << 6);
+}
+
+uint32_t kind_in(const uint8_t *record, uint32_t page)
+{
+    return record[HEAD_BYTES + ENTRY_BYTES * page] >> 6;
+}
+
+uint32_t block_in(const uint8_t *record, uint32_t page)
+{
+    const uint8_t *entry = record + HEAD_BYTES + ENTRY_BYTES * page;
+    return (uint32_t)(entry[0] & 63) << 8 | entry[1];
+}
+
+void put_entry(uint8_t *record, uint32_t page, uint32_t kind, uint32_t block)
+{
+    uint8_t *entry = record + HEAD_BYTES + ENTRY_BYTES * page;
+    entry[0] = (uint8_t)(kind << 6 | block >> 8);
+    entry[1] = (uint8_t)block;
+}
+
+int bit_of(const uint8_t *tables, uint32_t block)
+{
+    return tables[BITMAP_AT + block / 8] >> (7 - block % 8) & 1;
+}
+
+void put_bit(uint8_t *tables, uint32_t block, int bit)
+{
+    uint8_t one = (uint8_t)(0x80 >> block % 8), *byte = &tables[BITMAP_AT + block / 8];
+    *byte = (uint8_t)(bit ? *byte | one : *byte & ~one);
+}
+
 size_t used_blocks(const uint8_t *tables)
 {
     size_t used = 0;
-    for (size_t block = 0; block < SWEEP_BLOCKS_MAX; block++)
-        used += tables[BITMAP_AT + block / 8] >> (7 - block % 8) & 1;
+    for (uint32_t block = 0; block < SWEEP_BLOCKS_MAX; block++)
+        used += (size_t)bit_of(tables, block);
     return used;
 }
 
@@ -137,6 +183,22 @@ void narrow(uint8_t *old, const uint8_t *tables)
     for (size_t set = 0; set < SWEEP_SETS; set++)
         memmove(old + SETS_AT + OLD_SET_BYTES * set, tables + SETS_AT + SET_BYTES * set, OLD_SET_BYTES);
     memmove(old + OLD_FILES_AT, tables + FILES_AT, SWEEP_TABLES_BYTES - FILES_AT);
+}
+
+void load_record(uint8_t *tables, uint8_t *record, uint8_t byte)
+{
+    static const uint32_t sizes[] = {0, 1, 700, SWEEP_FILE_BYTES_MAX}, blocks[] = {0, 1, 2, 5}, holes[] = {0, 1, 2, 0};
+    uint32_t count = ((uint32_t)tables[0] << 5 | tables[1] >> 3) % (SWEEP_BLOCKS_MAX + 1), page = byte % SWEEP_FILE_PAGES;
+    uint32_t stored = blocks[byte >> 4 & 3], empty = holes[byte >> 6];
+    put_size(record, sizes[byte >> 2 & 3]);
+    for (uint32_t block = 0; block < count && stored > 0; block++)
+        if (!bit_of(tables, block)) {
+            put_bit(tables, block, 1);
+            put_entry(record, page++ % SWEEP_FILE_PAGES, STORED, block);
+            stored--;
+        }
+    for (; empty > 0; empty--)
+        put_entry(record, page++ % SWEEP_FILE_PAGES, HOLE, 0);
 }
 
 sweep_answer call_plainly(const struct call *call)

@@ -13,6 +13,11 @@ enum { FORMAT, CREATE, WRITE, READ, TRUNCATE, DELETE, MAKE, REMOVE, SIZE, FREE, 
 enum { BITMAP_AT = 4, SETS_AT = 516, SET_BYTES = 7, TERM_AT = 3, FILES_AT = 572, FILE_BYTES = 132 };
 enum { OLD_SET_BYTES = TERM_AT, OLD_FILES_AT = 540 };
 
+/* A file record: its head, which begins with the state in two bits and the size in 16, then its entries, each a kind in two bits and a block. */
+enum { RECORDS = SWEEP_SETS * SWEEP_FILES, HEAD_BYTES = 4, ENTRY_BYTES = 2 };
+enum { ABSENT, OWN, VIRGIN, MARKED };
+enum { UNMAPPED, HOLE, STORED };
+
 /* The exported functions with the second implementation (judge/). */
 extern struct suite exported;
 
@@ -28,8 +33,24 @@ void put_term(uint8_t *tables, uint32_t set, uint32_t first, uint32_t end);
 /* The ones of the bitmap: the used blocks, where the tables are well formed. */
 size_t used_blocks(const uint8_t *tables);
 
+/* Of tables of either length, the present one or that of before the terms: where a file record begins, which is the first byte of its head
+ * (places 0 to 127: 16 x set + file; they stand last); its state; its size, which is put beside its state. */
+size_t record_at(size_t tables_length, uint32_t place);
+uint32_t state_in(const uint8_t *record);
+void put_size(uint8_t *record, uint32_t size);
+
+/* An entry of a record, and a bit of the bitmap. */
+uint32_t kind_in(const uint8_t *record, uint32_t page);
+uint32_t block_in(const uint8_t *record, uint32_t page);
+void put_entry(uint8_t *record, uint32_t page, uint32_t kind, uint32_t block);
+int bit_of(const uint8_t *tables, uint32_t block);
+void put_bit(uint8_t *tables, uint32_t block, int bit);
+
 /* The tables as they were before the terms: what a store in the field has. The two may begin at the same byte. */
 void narrow(uint8_t *old, const uint8_t *tables);
+
+/* Gives a marked file what it could keep before marking freed blocks, as the byte says: a size, holes, blocks that are free. Tables of either length. */
+void load_record(uint8_t *tables, uint8_t *record, uint8_t byte);
 
 /* Does a call on the exported functions. */
 sweep_answer call_plainly(const struct call *call);

@@ -52,12 +52,12 @@ static void put_next_start(uint8_t *tables, size_t next)
 
 static void turn_over(uint8_t *tables, size_t block) { tables[BITMAP_AT + block / 8] ^= (uint8_t)(0x80 >> block % 8); }
 
-static void keep_next_start(struct done *done) { if (TOOK(COMPACT)) memcpy(START(TABLES), done->front, BITMAP_AT); }
+static void keep_next_start(struct done *done) { if (TOOK(COMPACT)) memcpy(START(TABLES), done->tables, BITMAP_AT); }
 static void put_next_start_at_0(struct done *done) { if (TOOK(COMPACT)) put_next_start(START(TABLES), 0); }
 static void reduce_no_next_start(struct done *done) { if (TOOK(COMPACT)) put_next_start(START(TABLES), USED); }
 static void keep_a_bit(struct done *done) { if (TOOK(COMPACT) && USED < BLOCKS) turn_over(START(TABLES), USED); }
 static void lose_a_bit(struct done *done) { if (TOOK(COMPACT) && USED) turn_over(START(TABLES), USED - 1); }
-static void keep_bits(struct done *done) { if (TOOK(COMPACT)) memcpy(START(TABLES) + BITMAP_AT, done->front + BITMAP_AT, 512); }
+static void keep_bits(struct done *done) { if (TOOK(COMPACT)) memcpy(START(TABLES) + BITMAP_AT, done->tables + BITMAP_AT, 512); }
 static void change_an_entry(struct done *done) { if (TOOK(COMPACT)) START(TABLES)[FILES_AT + 5] ^= 1; }
 static void change_a_term(struct done *done) { if (TOOK(COMPACT)) START(TABLES)[SETS_AT + TERM_AT + 1] ^= 1; }
 static void change_the_last_entry(struct done *done) { if (TOOK(COMPACT)) START(TABLES)[SWEEP_TABLES_BYTES - 1] ^= 1; }

@@ -24,7 +24,7 @@ static int is_used(const struct buffers *world, uint32_t set)
 
 static int is_present(const struct buffers *world, uint32_t set, uint32_t file)
 {
-    return set < SWEEP_SETS && world->of[TABLES][FILES_AT + FILE_BYTES * (SWEEP_FILES * set + file)] >> 6;
+    return set < SWEEP_SETS && state_in(world->of[TABLES] + record_at(SWEEP_TABLES_BYTES, SWEEP_FILES * set + file)) != ABSENT;
 }
 
 /* Numbers */
@@ -275,6 +275,21 @@ static void give_old_tables(struct buffers *world, struct cursor *cursor)
     world->length[TABLES] = SWEEP_OLD_TABLES_BYTES;
 }
 
+/* Gives marked files what they could keep before marking freed blocks, one byte of the list for each. */
+static void load_marked(uint8_t *tables, size_t length, struct cursor *cursor)
+{
+    for (uint32_t place = 0; place < RECORDS; place++)
+        if (state_in(tables + record_at(length, place)) == MARKED)
+            load_record(tables, tables + record_at(length, place), next(cursor));
+}
+
+/* Such tables in the place of the tables: no call but the converter takes them, unless the bytes were 0. */
+static void load_tables(struct buffers *world, struct cursor *cursor)
+{
+    size_t length = world->length[TABLES] == SWEEP_OLD_TABLES_BYTES ? SWEEP_OLD_TABLES_BYTES : SWEEP_TABLES_BYTES;
+    load_marked(world->of[TABLES], length, cursor);
+}
+
 static void change_a_page(struct buffers *world, struct cursor *cursor)
 {
     size_t at = (size_t)next(cursor) << 8;
@@ -317,29 +332,38 @@ static void choose_registers(struct buffers *world, struct cursor *cursor)
     world->length[REGISTERS] = PICK(lengths, next(cursor));
 }
 
-/* For the converter: the store's tables as they were before the terms. Sometimes the new buffer holds other bytes, and sometimes
- * something is wrong: a bit of the old tables, the length of the old ones, the new ones or the pages. */
+/* For the converter: the store's tables, as they are or as they were before the terms, mostly with marked files that hold something. Tables
+ * that are old already stay so. */
+static void older_tables(struct buffers *world, uint8_t byte, struct cursor *cursor)
+{
+    enum { OLD = SWEEP_OLD_TABLES_BYTES, NEW = SWEEP_TABLES_BYTES };
+    size_t length = world->length[TABLES] == OLD || byte % 2 ? OLD : NEW;
+    if (world->length[TABLES] != OLD && length == OLD)
+        narrow(world->of[SECOND], world->of[TABLES]);
+    else
+        memcpy(world->of[SECOND], world->of[TABLES], length);
+    world->length[SECOND] = length;
+    if (byte / 2 % 4)
+        load_marked(world->of[SECOND], length, cursor);
+}
+
+/* Sometimes the new buffer holds other bytes, and sometimes something is wrong: a bit of the older tables, the length of the older
+ * ones, the new ones or the pages. */
 void old_tables(struct buffers *world, const struct call *call, struct cursor *cursor)
 {
     enum { OLD = SWEEP_OLD_TABLES_BYTES, NEW = SWEEP_TABLES_BYTES };
-    static const uint32_t old_lengths[] = {NEW, 0, 1, SETS_AT, OLD - 1, OLD + 1, NEW, 32768};
+    static const uint32_t old_lengths[] = {NEW, OLD, 0, SETS_AT, OLD - 1, OLD + 1, NEW - 1, NEW + 1, 32768};
     static const uint32_t new_lengths[] = {OLD, 0, 1, FILES_AT, NEW - 1, NEW + 1, OLD, 32768};
     (void)call;
     uint8_t byte = next(cursor);
-    if (world->length[TABLES] == OLD)
-        memcpy(world->of[SECOND], world->of[TABLES], OLD);
-    else
-        narrow(world->of[SECOND], world->of[TABLES]);
-    world->length[SECOND] = OLD;
+    older_tables(world, byte, cursor);
     world->length[TABLES] = NEW;
     if (byte >= 88 && byte < 136)
         fill(world->of[TABLES], NEW, byte);
     if (byte >= 120 && byte < 168)
-        damage(world->of[SECOND], OLD, cursor);
+        damage(world->of[SECOND], world->length[SECOND], cursor);
     if (byte >= 168 && byte < 196)
         world->length[SECOND] = PICK(old_lengths, byte);
-    if (world->length[SECOND] == NEW) /* the store's tables as they are */
-        memcpy(world->of[SECOND], world->of[TABLES], NEW);
     if (byte >= 196 && byte < 224)
         world->length[TABLES] = PICK(new_lengths, byte);
     if (byte >= 224)
@@ -375,7 +399,7 @@ static const struct kind kinds[] = {
     {4, 0, change_a_page}, {2, 0, choose_lengths}, {1, FORMAT, 0},        {4, CHECK_BLOCKS, 0},   {4, CHECK, 0},
     {36, WRITE, 0}, {10, PANEL_WRITE, 0}, {4, PANEL_READ, 0}, {3, PANEL_LINE, 0}, {1, PANEL_RESET, 0},
     {16, COMMAND, 0}, {2, 0, change_registers}, {1, 0, choose_registers}, {14, SET_TERM, 0}, {8, CURRENT, 0}, {8, CONVERT, 0},
-    {3, 0, change_a_term}, {2, 0, give_old_tables}, {8, COMPACT, 0},
+    {3, 0, change_a_term}, {2, 0, give_old_tables}, {8, COMPACT, 0}, {4, 0, load_tables},
 };
 enum { KINDS = sizeof kinds / sizeof *kinds };
 

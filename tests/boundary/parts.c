@@ -1,8 +1,9 @@
 /* The two parts of the check, rule by rule: stores in which one rule is broken, and no other where that can be; the judge makes
  * them. A rule of the first part: both checks refuse. A rule of the second part: sweep_check_blocks accepts, sweep_check
  * refuses. Either way every other call on the store but a format refuses with 1, a compaction whatever the length of its spare
- * page, and so does a command of the front panel, in its register. The same tables without their terms are then refused by the
- * converter, unless only terms broke the rule. All calls are compared with the judge too.
+ * page, and so does a command of the front panel, in its register. Then the converter gets the same tables, as they are and without
+ * their terms: it refuses them, unless the rule is the one on marked files, which is none of their time, or, without their terms, only
+ * terms broke it. All calls are compared with the judge too.
  * Exit status: 0 all well, 1 not. */
 #include <stdbool.h>
 #include <stdio.h>
@@ -68,20 +69,30 @@ static int is_about_terms(const struct buffers *world, const char *rule)
     return !others;
 }
 
-/* The store as it was before the terms, converted into its own tables; the old ones are short where the tables' length is wrong. */
-static void expect_of_conversion(struct buffers *world, const struct broken *made, unsigned turn)
+/* The rule of document 02, Ask 10, which older tables need not meet. */
+static int is_about_marked_files(const char *rule)
+{
+    return !strcmp(rule, "marked-size") || !strcmp(rule, "marked-mapped");
+}
+
+/* The store converted into its own tables: of before the terms, or as it is; the older ones are short where the tables' length is wrong. */
+static void expect_of_conversion(struct buffers *world, const struct broken *made, int before_terms, unsigned turn)
 {
     const struct call call = {CONVERT, {0}, {{0, 0}}};
     int right = made->tables_length == SWEEP_TABLES_BYTES;
-    uint32_t number = right && is_about_terms(world, made->name) ? SWEEP_OK : SWEEP_BAD_TABLES;
-    narrow(world->of[SECOND], world->of[TABLES]);
-    world->length[SECOND] = SWEEP_OLD_TABLES_BYTES - (size_t)!right;
+    int taken = is_about_marked_files(made->name) || (before_terms && is_about_terms(world, made->name));
+    uint32_t number = right && taken ? SWEEP_OK : SWEEP_BAD_TABLES;
+    if (before_terms)
+        narrow(world->of[SECOND], world->of[TABLES]);
+    else
+        memcpy(world->of[SECOND], world->of[TABLES], SWEEP_TABLES_BYTES);
+    world->length[SECOND] = (before_terms ? SWEEP_OLD_TABLES_BYTES : SWEEP_TABLES_BYTES) - (size_t)!right;
     world->length[TABLES] = SWEEP_TABLES_BYTES;
     uint32_t given = number_of(world, &call, turn);
     world->length[SECOND] = 0;
     if (given == number)
         return;
-    printf("parts: %s is broken: convert gave %u, not %u\n", made->name, given, number);
+    printf("parts: %s is broken: convert%s gave %u, not %u\n", made->name, before_terms ? " of before the terms" : "", given, number);
     wrong = 1;
 }
 
@@ -95,7 +106,8 @@ static void try_store(struct buffers *world, const struct broken *made, unsigned
         uint32_t number = is_command(value) ? SWEEP_BAD_TABLES : SWEEP_OK;
         expect_of_command(world, made->name, value, number, turn);
     }
-    expect_of_conversion(world, made, turn);
+    expect_of_conversion(world, made, 1, turn);
+    expect_of_conversion(world, made, 0, turn);
 }
 
 int main(void)
@@ -119,6 +131,7 @@ int main(void)
     }
     printf("parts: rules broken in %d stores each: of the first part %u alone, %u with others; of the second %u and %u\n",
            STORES_OF_EACH_RULE, first[1], first[0], second[1], second[0]);
-    /* not broken alone: block-count, whose pages do not fit into a buffer, and set-0-not-used, which breaks another rule */
-    return wrong || first[1] == 0 || second[1] == 0 || first[0] > 1 || second[0] > 1;
+    /* not broken alone: block-count, whose pages do not fit into a buffer, and set-0-not-used and set-0-state, which break another rule:
+     * a virgin or marked file of set 0 has unmapped entries, or else other entries than it may have */
+    return wrong || first[1] == 0 || second[1] == 0 || first[0] > 1 || second[0] > 2;
 }

@@ -1,6 +1,6 @@
 /* Shows that the harness notices what it is there for: each fault is done after a right call, in a process of its own that has
  * to end badly. What a right store may do is done in the same way, and the process has to end well. The faults of compactions are
- * in compaction_faults.c. Exit status: 0 all noticed that have to be, and nothing else, 1 not. Built without sanitizers, so that
+ * in compaction_faults.c, those of marking and of marked files in marking_faults.c. Exit status: 0 all noticed that have to be, and nothing else, 1 not. Built without sanitizers, so that
  * they have no part in it. */
 #define _DEFAULT_SOURCE
 #include <stdio.h>
@@ -11,6 +11,7 @@
 #include "calls.h"
 #include "faults.h"
 #include "lists.h"
+#include "scenes.h"
 
 static volatile uint8_t sink;
 void look(const uint8_t *at) { sink = *at; }
@@ -136,8 +137,7 @@ static void check_tables_before_registers(struct done *done)
             done->answer.number = SWEEP_BAD_TABLES;
 }
 
-/* Terms and the converter: the set records before the call, where the tables had their length. */
-static uint8_t set_records[FILES_AT];
+/* Terms and the converter */
 #define LONG_ENOUGH (LENT(TABLES).length == SWEEP_TABLES_BYTES)
 #define HAS_TERM(set) (LONG_ENOUGH && (set) < SWEEP_SETS && set_is_used(START(TABLES), set))
 
@@ -235,7 +235,7 @@ static void make_with_the_parents_term(struct done *done)
 static void keep_the_term_of_a_removed_set(struct done *done)
 {
     if (TOOK(REMOVE))
-        put_term(START(TABLES), TOLD(0), first_day(set_records, TOLD(0)), end_day(set_records, TOLD(0)));
+        put_term(START(TABLES), TOLD(0), first_day(done->tables, TOLD(0)), end_day(done->tables, TOLD(0)));
 }
 
 static void format_without_a_term(struct done *done) { if (TOOK(FORMAT)) put_term(START(TABLES), 0, 0, 0); }
@@ -290,16 +290,7 @@ static void convert_without_terms(struct done *done)
 static void convert_and_keep_terms(struct done *done)
 {
     for (uint32_t set = 0; TOOK(CONVERT) && set < SWEEP_SETS; set++)
-        put_term(START(TABLES), set, first_day(set_records, set), end_day(set_records, set));
-}
-
-static void convert_tables_with_terms(struct done *done)
-{
-    if (!IS(CONVERT) || !LONG_ENOUGH || LENT(SECOND).length != SWEEP_TABLES_BYTES)
-        return;
-    done->answer = sweep_check(START(SECOND), LENT(SECOND).length, START(PAGES), LENT(PAGES).length);
-    if (done->answer.number == SWEEP_OK)
-        memcpy(START(TABLES), START(SECOND), SWEEP_TABLES_BYTES);
+        put_term(START(TABLES), set, first_day(done->tables, set), end_day(done->tables, set));
 }
 
 /* The pages' length is not looked at. */
@@ -339,7 +330,7 @@ static const struct fault faults[] = {
     FAULT(keep_the_term_of_a_removed_set), FAULT(format_without_a_term), FAULT(check_no_terms),
     FAULT(check_no_terms_of_unused_sets), FAULT(take_old_tables), FAULT(convert_before_checking),
     FAULT(convert_with_terms_in_unused_sets), FAULT(convert_without_terms), FAULT(convert_and_keep_terms),
-    FAULT(convert_tables_with_terms), FAULT(convert_without_pages),
+    FAULT(convert_without_pages),
 };
 enum { FAULTS = sizeof faults / sizeof *faults };
 static void (*fault)(struct done *done);
@@ -387,14 +378,18 @@ static struct call call_made(const struct call *call)
     return made;
 }
 
+/* What a call was lent, before it. */
+static uint8_t tables_before[SWEEP_TABLES_BYTES], pages_before[ROOM_BYTES];
+
 static sweep_answer call_with_fault(const struct call *call)
 {
     const struct call made = call_made(call);
     if (call->lent[REGISTERS].length == sizeof before)
         memcpy(before, call->lent[REGISTERS].at, sizeof before);
-    if (call->lent[TABLES].length == SWEEP_TABLES_BYTES)
-        memcpy(set_records, call->lent[TABLES].at, sizeof set_records);
-    struct done done = {call, call_plainly(&made), set_records};
+    if (call->lent[TABLES].length == sizeof tables_before)
+        memcpy(tables_before, call->lent[TABLES].at, sizeof tables_before);
+    memcpy(pages_before, call->lent[PAGES].at, call->lent[PAGES].length);
+    struct done done = {call, call_plainly(&made), tables_before, pages_before};
     if (fault)
         fault(&done);
     return done.answer;
@@ -402,6 +397,7 @@ static sweep_answer call_with_fault(const struct call *call)
 
 static void run_lists(void (*does)(struct done *done))
 {
+    static struct buffers world;
     uint8_t data[900];
     uint32_t state = 12345;
     fault = does;
@@ -412,6 +408,8 @@ static void run_lists(void (*does)(struct done *done))
         }
         run_list(data, sizeof data, call_with_fault);
     }
+    for (int i = 0; i < scene_count; i++)
+        run_scene(&scenes[i], &world, call_with_fault, (unsigned)i, 0);
 }
 
 /* Runs lists with each fault in a process of its own. Gives how many were not told from a right store, or taken for a fault where
@@ -449,11 +447,19 @@ static int to_notice(const struct fault *list, int count)
 
 int main(void)
 {
-    int others = missed(faults, FAULTS), compactions = missed(compaction_faults, compaction_fault_count);
-    if (others < 0 || compactions < 0)
-        return 2;
-    int all = to_notice(faults, FAULTS) + to_notice(compaction_faults, compaction_fault_count);
-    printf("selftest: %d faults and %d that are none, %d of all told wrongly\n", all, FAULTS + compaction_fault_count - all,
-           others + compactions);
-    return others || compactions;
+    const struct {
+        const struct fault *list;
+        int count;
+    } lists[] = {{faults, FAULTS}, {compaction_faults, compaction_fault_count}, {marking_faults, marking_fault_count}};
+    int all = 0, noticed = 0, wrong = 0;
+    for (int i = 0; i < 3; i++) {
+        int more = missed(lists[i].list, lists[i].count);
+        if (more < 0)
+            return 2;
+        wrong += more;
+        all += lists[i].count;
+        noticed += to_notice(lists[i].list, lists[i].count);
+    }
+    printf("selftest: %d faults and %d that are none, %d of all told wrongly\n", noticed, all - noticed, wrong);
+    return wrong != 0;
 }

@@ -3,7 +3,8 @@
  *                with months and days out of range among them
  *   days         each term asked at its edges, and on days that are none
  *   conversions  a store with terms as it was before them, converted; then with wrong lengths of each buffer, and with each bit of
- *                header, bitmap, set records and the first two file records turned over; and such tables under every other call
+ *                header, bitmap, set records and the first two file records turned over; the same store with its terms, which come
+ *                out as they are; and tables of before the terms under every other call. (Older tables with marked files: marking.c)
  * Exit status: 0 all well, 1 not. */
 #include <stdio.h>
 #include <string.h>
@@ -177,7 +178,7 @@ static void expect_conversion(const char *what, uint32_t number)
 
 static void try_lengths(void)
 {
-    static const uint32_t old[] = {0, 1, SETS_AT, OLD_FILES_AT, OLD - 1, OLD + 1, NEW, 32768};
+    static const uint32_t old[] = {0, 1, SETS_AT, OLD_FILES_AT, OLD - 1, OLD + 1, NEW, 32768}; /* NEW: these bytes are none of that length */
     static const uint32_t new[] = {0, 1, SETS_AT, FILES_AT, OLD, NEW - 1, NEW + 1, 32768};
     static const uint32_t pages[] = {0, 1, SWEEP_PAGE_BYTES, (BLOCKS - 1) * SWEEP_PAGE_BYTES, BLOCKS * SWEEP_PAGE_BYTES - 1,
                                      BLOCKS * SWEEP_PAGE_BYTES + 1, (BLOCKS + 1) * SWEEP_PAGE_BYTES};
@@ -196,10 +197,30 @@ static void try_lengths(void)
     }
     world.length[PAGES] = BLOCKS * SWEEP_PAGE_BYTES;
     expect_conversion("a conversion", SWEEP_OK);
-    /* tables with terms are none of before them */
-    memcpy(world.of[SECOND], world.of[TABLES], NEW);
+}
+
+/* Tables with terms, some of them not the default ones: they keep them, and all else. With a term that is not well formed they are refused. */
+static void try_long_tables(void)
+{
+    static const uint32_t lengths[] = {0, 1, SETS_AT, FILES_AT, NEW - 1, NEW + 1, OLD, 32768};
+    static uint8_t kept[NEW];
+    make_store();
+    expect("a term of a read-only set", DO(SET_TERM, READ_ONLY_SET, 2097, 12, 31, 120).number, SWEEP_OK);
+    memcpy(kept, world.of[TABLES], NEW);
+    memcpy(world.of[SECOND], kept, NEW);
+    for (int i = 0; i < 8; i++) {
+        world.length[SECOND] = lengths[i];
+        expect("long tables of another length", CALL(CONVERT).number, SWEEP_BAD_TABLES);
+    }
     world.length[SECOND] = NEW;
-    expect_conversion("tables with terms as the old ones", SWEEP_BAD_TABLES);
+    memset(world.of[TABLES], 0xE7, ROOM_BYTES);
+    expect("tables with terms, converted", CALL(CONVERT).number, SWEEP_OK);
+    expect("tables that did not come out as they are", memcmp(kept, world.of[TABLES], NEW) != 0, 0);
+    put_term(world.of[SECOND], READ_ONLY_SET, 5, 5);
+    expect("tables with an empty term", CALL(CONVERT).number, SWEEP_BAD_TABLES);
+    put_term(world.of[SECOND], READ_ONLY_SET, 0, SWEEP_END_DAY + 1);
+    expect("tables with a term that ends too late", CALL(CONVERT).number, SWEEP_BAD_TABLES);
+    expect("a refusal wrote something", memcmp(kept, world.of[TABLES], NEW) != 0, 0);
 }
 
 /* Each bit of header, bitmap and set records turned over, and some of the file records. What the check says of the tables with the
@@ -267,6 +288,7 @@ int main(void)
     try_every_date();
     try_tables();
     try_lengths();
+    try_long_tables();
     try_bits();
     try_reading();
     try_old_tables();
