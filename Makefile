@@ -1,24 +1,23 @@
 # For C callers:
-#   make dist      the package: headers, archive, pkg-config file and a note on licences, in dist/
+#   make dist      the package: header, archive, pkg-config file and a note on licences, in dist/
 #   make examples  the programs of examples/ against the package, run, their output compared
 #   make clean     removes dist/
 # The archive is made by the Rattle kit (rt); it is made again when the code of a crate has changed.
-# The version is that of the header that both profiles share.
-VERSION := $(shell sed -n 's/^.define SWEEP_VERSION "\(.*\)"$$/\1/p' include/sweep_common.h)
-HEADERS = include/sweep_common.h include/sweep.h include/sweep_bench.h
+# The version is the header's.
+VERSION := $(shell sed -n 's/^.define SWEEP_VERSION "\(.*\)"$$/\1/p' include/sweep.h)
 ARCHIVE = target/staticlib/libsweep.a
 WARNINGS = -std=c99 -Wall -Wextra -Wpedantic -Werror
 PACKAGE = $(CURDIR)/dist
 BUILT = target-gate/examples
 
-EXAMPLES = analyser_day two_images front_to_back front_panel room terms compaction marked bench_profile bench_beyond
+EXAMPLES = analyser_day two_images front_to_back front_panel room terms compaction marked
 
 .PHONY: dist examples clean
 
 dist: $(ARCHIVE)
 	rm -rf dist
 	mkdir -p dist/include dist/lib/pkgconfig
-	cp $(HEADERS) dist/include/
+	cp include/sweep.h dist/include/
 	cp $(ARCHIVE) dist/lib/
 	sed 's/@VERSION@/$(VERSION)/' include/sweep.pc.in >dist/lib/pkgconfig/sweep.pc
 	cp docs/LICENCES.md dist/

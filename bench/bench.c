@@ -1,10 +1,9 @@
 /*
  * Times the exported calls of the sweep store beside their hand-written twin (twin.c), in one run.
  *
- *   bench                     the table of times, then the calls under the Bench profile beside the same calls of the full
- *                             store, and the stack that each call uses
+ *   bench                     the table of times, then the stack that each call uses
  *   bench stack               the stack alone
- *   bench only CALL           the times of one call alone; bench: all calls under the Bench profile
+ *   bench only CALL           the times of one call alone
  *   bench list                the cases, numbered
  *   bench loop N store|twin COUNT   runs case N so often and prints nothing: for a profiler
  *
@@ -13,8 +12,7 @@
  * alone, is repeated in a row under one reading of the clock. A call that changes the tables is timed by itself: tables and
  * registers are put back before it, outside the time, and the cost of reading the clock is taken off. Pages are not put back:
  * what they hold decides nothing. Before the timing each case is done once by both, and answer, tables, pages, read buffer and
- * registers must be the same; of a compaction the pages of used blocks, as it leaves the others and the spare page free. A call
- * that the Bench profile takes is timed in turn with the same call of the full store, and both must do the same.
+ * registers must be the same; of a compaction the pages of used blocks, as it leaves the others and the spare page free.
  */
 #define _GNU_SOURCE
 #include "twin.h"
@@ -57,27 +55,13 @@ struct calls {
     sweep_answer (*current)(const uint8_t *, size_t, const uint8_t *, size_t, uint32_t, uint32_t);
     sweep_answer (*convert)(const uint8_t *, size_t, const uint8_t *, size_t, uint8_t *, size_t);
     sweep_answer (*compact)(uint8_t *, size_t, uint8_t *, size_t, uint8_t *, size_t);
-    sweep_answer (*bench_create)(uint8_t *, size_t, uint8_t *, size_t, uint32_t, uint32_t);
-    sweep_answer (*bench_write)(uint8_t *, size_t, uint8_t *, size_t, uint32_t, uint32_t, uint32_t, const uint8_t *, size_t);
-    sweep_answer (*bench_write_narrow)(uint8_t *, size_t, uint8_t *, size_t, uint32_t, uint32_t, uint32_t, const uint8_t *,
-                                       size_t);
-    sweep_answer (*bench_truncate)(uint8_t *, size_t, uint8_t *, size_t, uint32_t, uint32_t, uint32_t);
-    sweep_answer (*bench_delete)(uint8_t *, size_t, uint8_t *, size_t, uint32_t, uint32_t);
-    sweep_answer (*bench_make)(uint8_t *, size_t, uint8_t *, size_t, uint32_t, uint32_t, uint32_t);
-    sweep_answer (*bench_remove)(uint8_t *, size_t, uint8_t *, size_t, uint32_t);
-    sweep_answer (*bench_set_term)(uint8_t *, size_t, uint8_t *, size_t, uint32_t, uint32_t, uint32_t, uint32_t, uint32_t);
-    sweep_answer (*bench_compact)(uint8_t *, size_t, uint8_t *, size_t, uint8_t *, size_t);
-    sweep_answer (*bench_panel_write)(uint8_t *, size_t, uint8_t *, size_t, uint8_t *, size_t, uint32_t, uint8_t);
 };
 
 #define ALL(prefix)                                                                                                    \
     prefix##_format, prefix##_create, prefix##_write, prefix##_write_narrow, prefix##_read, prefix##_truncate,         \
         prefix##_delete, prefix##_make, prefix##_remove, prefix##_size, prefix##_free, prefix##_check_blocks,          \
         prefix##_check, prefix##_panel_reset, prefix##_panel_read, prefix##_panel_write, prefix##_panel_line,          \
-        prefix##_set_term, prefix##_current, prefix##_convert, prefix##_compact, prefix##_bench_create,                \
-        prefix##_bench_write, prefix##_bench_write_narrow, prefix##_bench_truncate, prefix##_bench_delete,             \
-        prefix##_bench_make, prefix##_bench_remove, prefix##_bench_set_term, prefix##_bench_compact,                   \
-        prefix##_bench_panel_write
+        prefix##_set_term, prefix##_current, prefix##_convert, prefix##_compact
 static const struct calls store = { "store", ALL(sweep) };
 static const struct calls twin = { "twin", ALL(twin) };
 
@@ -332,20 +316,6 @@ static void full_file(unsigned blocks) { one_file(blocks, 64, 0); }
 static void one_child(unsigned blocks) { one_file(blocks, 64, 1); }
 static void seven_children(unsigned blocks) { one_file(blocks, 64, 7); }
 
-/* As much as the Bench profile holds, but for one file: 15 files of 64 pages in set 0, and a read-only copy that has each page in a
- * block of its own. */
-static void full_copy(unsigned blocks)
-{
-    empty(blocks);
-    for (unsigned f = 0; f < 15; f++) {
-        must(twin_create(LENT, 0, f));
-        must(twin_write_narrow(LENT, 0, f, 0, data, FILE_BYTES));
-    }
-    must(twin_make(LENT, 0, 1, 0));
-    for (unsigned f = 0; f < 15; f++)
-        must(twin_write_narrow(LENT, 0, f, 0, data, FILE_BYTES));
-}
-
 /* Other files of the used sets are written, one after the other, until only so many blocks are free. No set reads them through another. */
 static void fill_up(unsigned sets, unsigned left)
 {
@@ -527,7 +497,6 @@ CASE(panel_nothing, panel_write(PANEL, LENT, SWEEP_PANEL_COMMAND, 0x11))
 COMMAND(panel_create, SWEEP_PANEL_CREATE)
 COMMAND(panel_delete, SWEEP_PANEL_DELETE)
 COMMAND(panel_make, SWEEP_PANEL_MAKE_WRITEABLE)
-COMMAND(panel_make_copy, SWEEP_PANEL_MAKE_READ_ONLY)
 COMMAND(panel_remove, SWEEP_PANEL_REMOVE)
 
 CASE(term_root, set_term(LENT, 0, 1998, 1, 31, 12))
@@ -537,27 +506,6 @@ CASE(current_root, current(LENT, 0, 10547))
 CASE(current_far, current(LENT, 7, 10547))
 CASE(convert_it, convert(old, old_length, pages, length, tables, TABLES))
 CASE(compact_it, compact(LENT, spare, PAGE))
-CASE(create_15, create(LENT, 0, 15))
-CASE(make_copy, make(LENT, 0, 1, 0))
-
-/* The same calls under the Bench profile, and one that is beyond it. */
-#define BENCH(name, call) CASE(bench_##name, bench_##call)
-BENCH(create_15, create(LENT, 0, 15))
-BENCH(write_1, write(LENT, 0, 0, 700, data, 1))
-BENCH(write_all, write(LENT, 0, 0, 0, data, FILE_BYTES))
-BENCH(narrow_1, write_narrow(LENT, 0, 0, 700, data, 1))
-BENCH(truncate_to_100, truncate(LENT, 0, 0, 100))
-BENCH(delete_it, delete(LENT, 0, 0))
-BENCH(make_copy, make(LENT, 0, 1, 0))
-BENCH(make_second, make(LENT, 0, 2, 0))
-BENCH(remove_1, remove(LENT, 1))
-BENCH(term_root, set_term(LENT, 0, 1998, 1, 31, 12))
-BENCH(compact_it, compact(LENT, spare, PAGE))
-#define BENCH_COMMAND(name, value) BENCH(name, panel_write(PANEL, LENT, SWEEP_PANEL_COMMAND, value))
-BENCH_COMMAND(panel_create, SWEEP_PANEL_CREATE)
-BENCH_COMMAND(panel_delete, SWEEP_PANEL_DELETE)
-BENCH_COMMAND(panel_make_copy, SWEEP_PANEL_MAKE_READ_ONLY)
-BENCH_COMMAND(panel_remove, SWEEP_PANEL_REMOVE)
 
 /* File 0 of set 0 rewritten from front to back, a page a call; gives the counts of all, and the first number that is not 0. */
 #define REWRITE(name, call)                                                                                            \
@@ -710,62 +658,8 @@ static const struct bench_case cases[] = {
     { "compact", "", "turned by one", compact_it, turned, true, 0, { 64, 4096 }, { 0, 0 } },
     { "compact", "", "reversed", compact_it, reversed, true, 0, { 64, 4096 }, { 0, 0 } },
     { "compact", "", "scattered", compact_it, scattered, true, 0, { 64, 4096 }, { 0, 0 } },
-    { "bench", "create", "empty", bench_create_15, empty, true, 0, { 4096, 0 }, { 0, 0 } },
-    { "bench", "create", "one child", bench_create_15, one_child, true, 0, { 4096, 0 }, { 0, 0 } },
-    { "bench", "create", "full copy", bench_create_15, full_copy, true, 0, { 4096, 0 }, { 0, 0 } },
-    { "bench", "write, 8 copies", "one child", bench_write_1, one_child, true, 0, { 4096, 0 }, { 0, 0 } },
-    { "bench", "write, 64 copies", "one child", bench_write_all, one_child, true, 0, { 4096, 0 }, { 0, 0 } },
-    { "bench", "write, stored page", "full copy", bench_write_1, full_copy, true, 0, { 4096, 0 }, { 0, 0 } },
-    { "bench", "narrow, new page", "one file", bench_narrow_1, lean, true, 0, { 4096, 0 }, { 0, 0 } },
-    { "bench", "narrow, 1 copy", "one child", bench_narrow_1, one_child, true, 0, { 4096, 0 }, { 0, 0 } },
-    { "bench", "truncate, 63 handed", "one child", bench_truncate_to_100, one_child, true, 0, { 4096, 0 }, { 0, 0 } },
-    { "bench", "delete, 64 handed", "one child", bench_delete_it, one_child, true, 0, { 4096, 0 }, { 0, 0 } },
-    { "bench", "make", "one file", bench_make_copy, full_file, true, 0, { 4096, 0 }, { 0, 0 } },
-    { "bench", "remove", "one child", bench_remove_1, one_child, true, 0, { 4096, 0 }, { 0, 0 } },
-    { "bench", "remove", "full copy", bench_remove_1, full_copy, true, 0, { 4096, 0 }, { 0, 0 } },
-    { "bench", "set_term", "one child", bench_term_root, one_child, true, 0, { 4096, 0 }, { 0, 0 } },
-    { "bench", "set_term", "full copy", bench_term_root, full_copy, true, 0, { 4096, 0 }, { 0, 0 } },
-    { "bench", "compact", "empty", bench_compact_it, empty, true, 0, { 4096, 0 }, { 0, 0 } },
-    { "bench", "compact", "full copy", bench_compact_it, full_copy, true, 0, { 4096, 0 }, { 0, 0 } },
-    { "bench", "panel: create", "one file", bench_panel_create, file_1, true, 0, { 4096, 0 }, { 0, 0 } },
-    { "bench", "panel: make", "one file", bench_panel_make_copy, set_1, true, 0, { 4096, 0 }, { 0, 0 } },
-    { "bench", "panel: remove", "one child", bench_panel_remove, child_1, true, 0, { 4096, 0 }, { 0, 0 } },
-    { "bench", "create, refused", "seven children", bench_create_15, seven_children, false, SWEEP_BEYOND_PROFILE, { 4096, 0 }, { 0, 0 } },
-    { "bench", "write, refused", "typical", bench_write_1, typical, false, SWEEP_BEYOND_PROFILE, { 4096, 0 }, { 0, 0 } },
-    { "bench", "make, refused", "one child", bench_make_second, one_child, false, SWEEP_BEYOND_PROFILE, { 4096, 0 }, { 0, 0 } },
-    { "bench", "remove, refused", "typical", bench_remove_1, typical, false, SWEEP_BEYOND_PROFILE, { 4096, 0 }, { 0, 0 } },
-    { "bench", "compact, refused", "typical", bench_compact_it, typical, false, SWEEP_BEYOND_PROFILE, { 4096, 0 }, { 0, 0 } },
-    { "bench", "panel: refused", "typical", bench_panel_delete, typical, false, 0, { 4096, 0 }, { 0, 0 } },
 };
 enum { CASES = sizeof cases / sizeof cases[0] };
-
-/* The calls under the Bench profile, and the same calls of the full store. */
-static const struct pair {
-    sweep_answer (*bench)(const struct calls *), (*full)(const struct calls *);
-} pairs[] = {
-    { bench_create_15, create_15 },
-    { bench_write_1, write_1 },
-    { bench_write_all, write_all },
-    { bench_narrow_1, narrow_1 },
-    { bench_truncate_to_100, truncate_to_100 },
-    { bench_delete_it, delete_it },
-    { bench_make_copy, make_copy },
-    { bench_remove_1, remove_1 },
-    { bench_term_root, term_root },
-    { bench_compact_it, compact_it },
-    { bench_panel_create, panel_create },
-    { bench_panel_make_copy, panel_make_copy },
-    { bench_panel_remove, panel_remove },
-};
-
-/* The same call of the full store, of a case under the Bench profile that is accepted; else none. */
-static sweep_answer (*full_of(const struct bench_case *k))(const struct calls *)
-{
-    for (size_t i = 0; k->changes && i < sizeof pairs / sizeof pairs[0]; i++)
-        if (pairs[i].bench == k->run)
-            return pairs[i].full;
-    return NULL;
-}
 
 static void build(const struct bench_case *k, unsigned blocks)
 {
@@ -779,16 +673,15 @@ static void build(const struct bench_case *k, unsigned blocks)
 /* The bytes of the pages that are compared: all, or after a compaction those of the used blocks, which are the first. */
 static size_t compared(const struct bench_case *k)
 {
-    return k->run == compact_it || k->run == bench_compact_it ? length - (size_t)free_now() * PAGE : length;
+    return k->run == compact_it ? length - (size_t)free_now() * PAGE : length;
 }
 
-/* One call is done by the store and another by the twin, once each; answer and every byte that is not left free must be the same. */
-static void compare_calls(const struct bench_case *k, sweep_answer (*stores)(const struct calls *),
-                          sweep_answer (*twins)(const struct calls *))
+/* Both do the case once; answer and every byte that is not left free must be the same. */
+static void compare(const struct bench_case *k)
 {
     static uint8_t after[TABLES], read[FILE_BYTES], panel[REGISTERS];
     memset(buffer, 0xaa, FILE_BYTES);
-    sweep_answer a = stores(&store);
+    sweep_answer a = k->run(&store);
     memcpy(after, tables, TABLES);
     memcpy(other, pages, length);
     memcpy(read, buffer, FILE_BYTES);
@@ -797,7 +690,7 @@ static void compare_calls(const struct bench_case *k, sweep_answer (*stores)(con
     if (k->changes)
         memcpy(pages, pages_kept, length);
     memset(buffer, 0xaa, FILE_BYTES);
-    sweep_answer b = twins(&twin);
+    sweep_answer b = k->run(&twin);
     if (a.number != k->number || a.number != b.number || a.first != b.first || a.second != b.second || a.third != b.third)
         fail("store and twin give different answers");
     if (memcmp(after, tables, TABLES) || memcmp(other, pages, compared(k)) || memcmp(read, buffer, FILE_BYTES) ||
@@ -806,15 +699,6 @@ static void compare_calls(const struct bench_case *k, sweep_answer (*stores)(con
     if (k->changes && registers[SWEEP_PANEL_NUMBER] != 0)
         fail("a command of the front panel was refused");
     put_back();
-    if (k->changes)
-        memcpy(pages, pages_kept, length);
-}
-
-static void compare(const struct bench_case *k)
-{
-    compare_calls(k, k->run, k->run);
-    if (full_of(k))
-        compare_calls(k, k->run, full_of(k));
 }
 
 /* ---- time ---- */
@@ -858,20 +742,20 @@ static void learn_clock(void)
     }
 }
 
-/* Ticks of one run of the call, in a batch of n. */
-static double batch(sweep_answer (*run)(const struct calls *), bool changes, const struct calls *c, unsigned n)
+/* Ticks of one run of the case, in a batch of n. */
+static double batch(const struct bench_case *k, const struct calls *c, unsigned n)
 {
-    if (!changes) {
+    if (!k->changes) {
         uint64_t t = begin_time();
         for (unsigned i = 0; i < n; i++)
-            run(c);
+            k->run(c);
         return ((double)(end_time() - t) - clock_cost) / n;
     }
     double sum = 0;
     for (unsigned i = 0; i < n; i++) {
         put_back();
         uint64_t t = begin_time();
-        run(c);
+        k->run(c);
         sum += (double)(end_time() - t) - clock_cost;
     }
     return sum / n;
@@ -890,7 +774,7 @@ static double copy_batch(unsigned n)
 static double least(double a, double b) { return a < b ? a : b; }
 
 struct times {
-    double store, twin, copy, full_store, full_twin; /* ticks; full: of the same call of the full store */
+    double store, twin, copy; /* ticks */
 };
 
 /* Batches last about 100 microseconds. */
@@ -902,17 +786,12 @@ static unsigned batch_size(double one)
 
 static void measure(const struct bench_case *k, struct times *m)
 {
-    sweep_answer (*full)(const struct calls *) = full_of(k);
-    unsigned n = batch_size(least(batch(k->run, k->changes, &store, 3), batch(k->run, k->changes, &store, 3)));
+    unsigned n = batch_size(least(batch(k, &store, 3), batch(k, &store, 3)));
     unsigned c = batch_size(least(copy_batch(100), copy_batch(100)));
     for (unsigned r = 0; r < ROUNDS; r++) {
-        m->store = least(m->store, batch(k->run, k->changes, &store, n));
-        m->twin = least(m->twin, batch(k->run, k->changes, &twin, n));
+        m->store = least(m->store, batch(k, &store, n));
+        m->twin = least(m->twin, batch(k, &twin, n));
         m->copy = least(m->copy, copy_batch(c));
-        if (full) {
-            m->full_store = least(m->full_store, batch(full, k->changes, &store, n));
-            m->full_twin = least(m->full_twin, batch(full, k->changes, &twin, n));
-        }
     }
     put_back();
 }
@@ -933,28 +812,6 @@ static void print_row(const struct bench_case *k, unsigned j, struct times m, do
         printf("%5s\n", "-");
 }
 
-/* The calls under the Bench profile beside the same calls of the full store, and what they take more. */
-static void print_pairs(const struct times *best, const char *only)
-{
-    unsigned all = 0;
-    double most = -1e18;
-    for (unsigned i = 0; i < 2 * CASES; i++) {
-        const struct bench_case *k = &cases[i / 2];
-        const struct times *m = &best[i];
-        if (!wanted(i, only) || !full_of(k))
-            continue;
-        if (all++ == 0)
-            printf("\n%-20s %-15s %6s %9s %9s %7s %9s %9s %7s\n", "Bench call", "store", "blocks", "full ns", "Bench ns", "more",
-                   "twin full", "Bench", "more");
-        printf("%-20s %-15s %6u %9.1f %9.1f %7.1f %9.1f %9.1f %7.1f\n", k->what, k->store, k->blocks[i % 2], m->full_store * tick,
-               m->store * tick, (m->store - m->full_store) * tick, m->full_twin * tick, m->twin * tick,
-               (m->twin - m->full_twin) * tick);
-        most = (m->store - m->full_store) * tick > most ? (m->store - m->full_store) * tick : most;
-    }
-    if (all > 0)
-        printf("\n%u pairs; a Bench call takes at most %.1f ns more than the same call of the full store\n", all, most);
-}
-
 /* The rows of one call, or of all. */
 static void print_times(const char *only)
 {
@@ -967,7 +824,7 @@ static void print_times(const char *only)
             build(&cases[i / 2], cases[i / 2].blocks[i % 2]);
             if (pass == 0) {
                 compare(&cases[i / 2]);
-                best[i] = (struct times){ 1e18, 1e18, 1e18, 1e18, 1e18 };
+                best[i] = (struct times){ 1e18, 1e18, 1e18 };
             }
             measure(&cases[i / 2], &best[i]);
             copy = least(copy, best[i].copy);
@@ -986,7 +843,6 @@ static void print_times(const char *only)
         all++;
     }
     printf("\n%u rows; %u with a ratio above 1.3 (*), %u above 4 times the expert's memcpys (*)\n", all, slow, far);
-    print_pairs(best, only);
 }
 
 /* ---- stack ---- */

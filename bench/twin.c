@@ -1,8 +1,7 @@
 /*
- * The hand-written C twin of the sweep store: the calls of include/ under the prefix twin_, written from the scope
- * document, the change requests and the layout of the tables, with the same checks. It is there to be measured beside the
- * exported calls (bench/run) and is held to the second implementation by bench/run --check-twin. A call that both profiles
- * have is one function, which is told whether it is under the Bench profile.
+ * The hand-written C twin of the sweep store: the calls of include/sweep.h under the prefix twin_, written from the
+ * scope document and the layout of the tables, with the same checks. It is there to be measured beside the exported
+ * calls (bench/run) and is held to the second implementation by bench/run --check-twin.
  *
  * Plain C for gcc -O2: 64-bit words, four entries at a time, no vector intrinsics, no allocation.
  */
@@ -474,13 +473,6 @@ static inline unsigned place_number(const struct store *x, uint32_t set, uint32_
     return x->writeable[set] ? SWEEP_OK : SWEEP_READ_ONLY;
 }
 
-/* Number 17 of a change under the Bench profile: there are more sets than one beside the root, or that one is writeable. */
-static inline unsigned profile_number(const struct store *x, bool bench)
-{
-    bool beyond = x->count > 2 || (x->count == 2 && x->writeable[x->order[1]]);
-    return bench && beyond ? SWEEP_BEYOND_PROFILE : SWEEP_OK;
-}
-
 sweep_answer twin_size(const uint8_t *t, size_t tl, const uint8_t *p, size_t pl, uint32_t set, uint32_t file)
 {
     (void)p;
@@ -553,8 +545,9 @@ sweep_answer twin_format(uint8_t *t, size_t tl, uint8_t *p, size_t pl)
     return refused(0);
 }
 
-static sweep_answer create_under(bool bench, uint8_t *t, size_t tl, size_t pl, uint32_t set, uint32_t file)
+sweep_answer twin_create(uint8_t *t, size_t tl, uint8_t *p, size_t pl, uint32_t set, uint32_t file)
 {
+    (void)p;
     struct store x;
     if (!well_formed(t, tl, pl, &x))
         return refused(SWEEP_BAD_TABLES);
@@ -564,29 +557,15 @@ static sweep_answer create_under(bool bench, uint8_t *t, size_t tl, size_t pl, u
     uint8_t *r = t + record_at(set, file);
     if (state_of(load32(r)) != ABSENT)
         return refused(SWEEP_PRESENT);
-    number = profile_number(&x, bench);
-    if (number)
-        return refused(number);
     store32(r, head_of(OWN, 0));
     for (unsigned i = 0; i < PAGES / 4; i++)
         store64(r + 4 + i * 8, LANES(HOLE));
     return refused(0);
 }
 
-sweep_answer twin_create(uint8_t *t, size_t tl, uint8_t *p, size_t pl, uint32_t set, uint32_t file)
+sweep_answer twin_make(uint8_t *t, size_t tl, uint8_t *p, size_t pl, uint32_t parent, uint32_t set, uint32_t writeable)
 {
     (void)p;
-    return create_under(false, t, tl, pl, set, file);
-}
-
-sweep_answer twin_bench_create(uint8_t *t, size_t tl, uint8_t *p, size_t pl, uint32_t set, uint32_t file)
-{
-    (void)p;
-    return create_under(true, t, tl, pl, set, file);
-}
-
-static sweep_answer make_under(bool bench, uint8_t *t, size_t tl, size_t pl, uint32_t parent, uint32_t set, bool writeable)
-{
     struct store x;
     if (!well_formed(t, tl, pl, &x))
         return refused(SWEEP_BAD_TABLES);
@@ -596,10 +575,8 @@ static sweep_answer make_under(bool bench, uint8_t *t, size_t tl, size_t pl, uin
         return refused(SWEEP_PRESENT);
     if (x.level[parent] == LEVELS)
         return refused(SWEEP_TOO_DEEP);
-    if (bench && (writeable || x.count > 1)) /* else the parent is set 0 */
-        return refused(SWEEP_BEYOND_PROFILE);
     store24(t + set_at(set),
-            1u << 23 | (uint32_t)writeable << 22 | (x.level[parent] + 1u) << 19 | parent << 15 | NONE << 11 | NONE << 7);
+            1u << 23 | (uint32_t)(writeable != 0) << 22 | (x.level[parent] + 1u) << 19 | parent << 15 | NONE << 11 | NONE << 7);
     store32(t + set_at(set) + 3, END_DAY);
     if (x.first[parent] == NONE) {
         uint8_t *r = t + set_at(parent);
@@ -616,18 +593,6 @@ static sweep_answer make_under(bool bench, uint8_t *t, size_t tl, size_t pl, uin
         store32(t + record_at(set, f), head_of(made[state_of(head_at(t, parent, f))], 0));
     }
     return refused(0);
-}
-
-sweep_answer twin_make(uint8_t *t, size_t tl, uint8_t *p, size_t pl, uint32_t parent, uint32_t set, uint32_t writeable)
-{
-    (void)p;
-    return make_under(false, t, tl, pl, parent, set, writeable != 0);
-}
-
-sweep_answer twin_bench_make(uint8_t *t, size_t tl, uint8_t *p, size_t pl, uint32_t parent, uint32_t set, uint32_t writeable)
-{
-    (void)p;
-    return make_under(true, t, tl, pl, parent, set, writeable != 0);
 }
 
 static inline void free_block(uint8_t *t, unsigned b) { t[BITMAP + b / 8] &= (uint8_t) ~(0x80u >> b % 8); }
@@ -659,16 +624,14 @@ static unsigned clear_marked(uint8_t *t, uint8_t *record)
     return n;
 }
 
-static sweep_answer remove_under(bool bench, uint8_t *t, size_t tl, size_t pl, uint32_t set)
+sweep_answer twin_remove(uint8_t *t, size_t tl, uint8_t *p, size_t pl, uint32_t set)
 {
+    (void)p;
     struct store x;
     if (!well_formed(t, tl, pl, &x))
         return refused(SWEEP_BAD_TABLES);
     if (!is_used(&x, set))
         return refused(SWEEP_NO_SET);
-    unsigned number = profile_number(&x, bench);
-    if (number)
-        return refused(number);
     if (x.first[set] != NONE)
         return refused(SWEEP_HAS_CHILDREN);
     if (set == 0)
@@ -692,18 +655,6 @@ static sweep_answer remove_under(bool bench, uint8_t *t, size_t tl, size_t pl, u
     return refused(0);
 }
 
-sweep_answer twin_remove(uint8_t *t, size_t tl, uint8_t *p, size_t pl, uint32_t set)
-{
-    (void)p;
-    return remove_under(false, t, tl, pl, set);
-}
-
-sweep_answer twin_bench_remove(uint8_t *t, size_t tl, uint8_t *p, size_t pl, uint32_t set)
-{
-    (void)p;
-    return remove_under(true, t, tl, pl, set);
-}
-
 /* ---- terms ---- */
 
 /* Dates from 1998 to 2097, where every fourth year is a leap year: y counts the years from 1998, m the months from 1. */
@@ -715,17 +666,15 @@ static inline unsigned day_number(unsigned y, unsigned m, unsigned day)
     return (1461 * y + 1) / 4 + 275 * m / 9 - (m > 2 ? 2 - leap(y) : 0) + day - 31;
 }
 
-static sweep_answer set_term_under(bool bench, uint8_t *t, size_t tl, size_t pl, uint32_t set, uint32_t year, uint32_t month,
-                                   uint32_t day, uint32_t months)
+sweep_answer twin_set_term(uint8_t *t, size_t tl, uint8_t *p, size_t pl, uint32_t set, uint32_t year, uint32_t month,
+                           uint32_t day, uint32_t months)
 {
+    (void)p;
     struct store x;
     if (!well_formed(t, tl, pl, &x))
         return refused(SWEEP_BAD_TABLES);
     if (!is_used(&x, set))
         return refused(SWEEP_NO_SET);
-    unsigned number = profile_number(&x, bench);
-    if (number)
-        return refused(number);
     unsigned y = year - 1998;
     if (y >= 100 || month - 1 >= 12 || day - 1 >= month_length(y, month))
         return refused(SWEEP_NO_DATE);
@@ -738,20 +687,6 @@ static sweep_answer set_term_under(bool bench, uint8_t *t, size_t tl, size_t pl,
     }
     store32(t + set_at(set) + 3, day_number(y, month, day) << 16 | end);
     return refused(0);
-}
-
-sweep_answer twin_set_term(uint8_t *t, size_t tl, uint8_t *p, size_t pl, uint32_t set, uint32_t year, uint32_t month,
-                           uint32_t day, uint32_t months)
-{
-    (void)p;
-    return set_term_under(false, t, tl, pl, set, year, month, day, months);
-}
-
-sweep_answer twin_bench_set_term(uint8_t *t, size_t tl, uint8_t *p, size_t pl, uint32_t set, uint32_t year, uint32_t month,
-                                 uint32_t day, uint32_t months)
-{
-    (void)p;
-    return set_term_under(true, t, tl, pl, set, year, month, day, months);
 }
 
 sweep_answer twin_current(const uint8_t *t, size_t tl, const uint8_t *p, size_t pl, uint32_t set, uint32_t day)
@@ -967,8 +902,8 @@ static inline void lay(struct change *c, unsigned page, unsigned b, bool taken, 
 }
 
 /* A write by aligned groups of so many pages. */
-static sweep_answer write_by(unsigned group, bool bench, uint8_t *t, size_t tl, uint8_t *p, size_t pl, uint32_t set,
-                             uint32_t file, uint32_t offset, const uint8_t *data, size_t length)
+static sweep_answer write_by(unsigned group, uint8_t *t, size_t tl, uint8_t *p, size_t pl, uint32_t set, uint32_t file,
+                             uint32_t offset, const uint8_t *data, size_t length)
 {
     struct store x;
     if (!well_formed(t, tl, pl, &x))
@@ -980,9 +915,8 @@ static sweep_answer write_by(unsigned group, bool bench, uint8_t *t, size_t tl, 
         return refused(number);
     if (offset > MAX_SIZE || length > MAX_SIZE - offset)
         return refused(SWEEP_TOO_LONG);
-    unsigned barred = profile_number(&x, bench); /* after 8 */
     if (length == 0)
-        return refused(barred);
+        return refused(0);
 
     uint8_t *r = t + record_at(set, file);
     unsigned first = offset / PAGE, end = (unsigned)((offset + length - 1) / PAGE + 1), need = 0;
@@ -990,8 +924,6 @@ static sweep_answer write_by(unsigned group, bool bench, uint8_t *t, size_t tl, 
         need += !(load16(r + 4 + q * 2) & STORED);
     if (need > count_free(t, &x))
         return refused(SWEEP_FULL);
-    if (barred)
-        return refused(barred);
 
     struct change c = begin(t, p, &x, set, file);
     settle(&c, set);
@@ -1019,25 +951,13 @@ static sweep_answer write_by(unsigned group, bool bench, uint8_t *t, size_t tl, 
 sweep_answer twin_write(uint8_t *t, size_t tl, uint8_t *p, size_t pl, uint32_t set, uint32_t file, uint32_t offset,
                         const uint8_t *data, size_t length)
 {
-    return write_by(8, false, t, tl, p, pl, set, file, offset, data, length);
-}
-
-sweep_answer twin_bench_write(uint8_t *t, size_t tl, uint8_t *p, size_t pl, uint32_t set, uint32_t file, uint32_t offset,
-                              const uint8_t *data, size_t length)
-{
-    return write_by(8, true, t, tl, p, pl, set, file, offset, data, length);
+    return write_by(8, t, tl, p, pl, set, file, offset, data, length);
 }
 
 sweep_answer twin_write_narrow(uint8_t *t, size_t tl, uint8_t *p, size_t pl, uint32_t set, uint32_t file, uint32_t offset,
                                const uint8_t *data, size_t length)
 {
-    return write_by(1, false, t, tl, p, pl, set, file, offset, data, length);
-}
-
-sweep_answer twin_bench_write_narrow(uint8_t *t, size_t tl, uint8_t *p, size_t pl, uint32_t set, uint32_t file,
-                                     uint32_t offset, const uint8_t *data, size_t length)
-{
-    return write_by(1, true, t, tl, p, pl, set, file, offset, data, length);
+    return write_by(1, t, tl, p, pl, set, file, offset, data, length);
 }
 
 /* The pages from `from` up to `to` become holes, their blocks free. */
@@ -1048,8 +968,7 @@ static void drop_pages(uint8_t *t, uint8_t *map, unsigned from, unsigned to)
         store16(map + q * 2, HOLE);
 }
 
-static sweep_answer truncate_under(bool bench, uint8_t *t, size_t tl, uint8_t *p, size_t pl, uint32_t set, uint32_t file,
-                                   uint32_t size)
+sweep_answer twin_truncate(uint8_t *t, size_t tl, uint8_t *p, size_t pl, uint32_t set, uint32_t file, uint32_t size)
 {
     struct store x;
     if (!well_formed(t, tl, pl, &x))
@@ -1062,14 +981,12 @@ static sweep_answer truncate_under(bool bench, uint8_t *t, size_t tl, uint8_t *p
     if (size > MAX_SIZE)
         return refused(SWEEP_TOO_LONG);
 
-    unsigned barred = profile_number(&x, bench), old = size_by_reading(t, &x, set, file);
+    unsigned old = size_by_reading(t, &x, set, file);
     if (size == old)
-        return refused(barred);
+        return refused(0);
     uint8_t *r = t + record_at(set, file);
     struct change c = begin(t, p, &x, set, file);
     if (size > old) {
-        if (barred)
-            return refused(barred);
         settle(&c, set);
         settle_children(&c);
         store32(r, head_of(OWN, size));
@@ -1087,8 +1004,6 @@ static sweep_answer truncate_under(bool bench, uint8_t *t, size_t tl, uint8_t *p
     bool needs = part && keeps != HOLE && !own;
     if (needs && count_free(t, &x) == 0)
         return refused(SWEEP_FULL);
-    if (barred)
-        return refused(barred);
     settle(&c, set);
     settle_children(&c);
     unsigned b = keeps & BLOCK;
@@ -1109,17 +1024,7 @@ static sweep_answer truncate_under(bool bench, uint8_t *t, size_t tl, uint8_t *p
     return finish(&c);
 }
 
-sweep_answer twin_truncate(uint8_t *t, size_t tl, uint8_t *p, size_t pl, uint32_t set, uint32_t file, uint32_t size)
-{
-    return truncate_under(false, t, tl, p, pl, set, file, size);
-}
-
-sweep_answer twin_bench_truncate(uint8_t *t, size_t tl, uint8_t *p, size_t pl, uint32_t set, uint32_t file, uint32_t size)
-{
-    return truncate_under(true, t, tl, p, pl, set, file, size);
-}
-
-static sweep_answer delete_under(bool bench, uint8_t *t, size_t tl, uint8_t *p, size_t pl, uint32_t set, uint32_t file)
+sweep_answer twin_delete(uint8_t *t, size_t tl, uint8_t *p, size_t pl, uint32_t set, uint32_t file)
 {
     struct store x;
     if (!well_formed(t, tl, pl, &x))
@@ -1131,9 +1036,6 @@ static sweep_answer delete_under(bool bench, uint8_t *t, size_t tl, uint8_t *p, 
     unsigned state = state_of(load32(r));
     if (state == ABSENT)
         return refused(SWEEP_ABSENT);
-    number = profile_number(&x, bench);
-    if (number)
-        return refused(number);
     struct change c = begin(t, p, &x, set, file);
     if (live(state)) {
         settle_children(&c);
@@ -1143,16 +1045,6 @@ static sweep_answer delete_under(bool bench, uint8_t *t, size_t tl, uint8_t *p, 
         free_blocks(t, r + 4, 0, PAGES);
     zero_bytes(r, RECORD);
     return finish(&c);
-}
-
-sweep_answer twin_delete(uint8_t *t, size_t tl, uint8_t *p, size_t pl, uint32_t set, uint32_t file)
-{
-    return delete_under(false, t, tl, p, pl, set, file);
-}
-
-sweep_answer twin_bench_delete(uint8_t *t, size_t tl, uint8_t *p, size_t pl, uint32_t set, uint32_t file)
-{
-    return delete_under(true, t, tl, p, pl, set, file);
 }
 
 /* ---- compaction ---- */
@@ -1237,29 +1129,16 @@ static __attribute__((noinline)) unsigned pull_together(uint8_t *t, uint8_t *p, 
     return c.k;
 }
 
-static sweep_answer compact_under(bool bench, uint8_t *t, size_t tl, uint8_t *p, size_t pl, uint8_t *spare, size_t sl)
+sweep_answer twin_compact(uint8_t *t, size_t tl, uint8_t *p, size_t pl, uint8_t *spare, size_t sl)
 {
     struct store x;
     if (!well_formed(t, tl, pl, &x))
         return refused(SWEEP_BAD_TABLES);
-    unsigned number = profile_number(&x, bench);
-    if (number)
-        return refused(number);
     if (sl != PAGE)
         return refused(SWEEP_BAD_SPARE);
     unsigned used = pull_together(t, p, spare);
     store32(t, x.blocks << 19 | (used == x.blocks ? 0 : used) << 7);
     return refused(0);
-}
-
-sweep_answer twin_compact(uint8_t *t, size_t tl, uint8_t *p, size_t pl, uint8_t *spare, size_t sl)
-{
-    return compact_under(false, t, tl, p, pl, spare, sl);
-}
-
-sweep_answer twin_bench_compact(uint8_t *t, size_t tl, uint8_t *p, size_t pl, uint8_t *spare, size_t sl)
-{
-    return compact_under(true, t, tl, p, pl, spare, sl);
 }
 
 /* ---- the front panel ---- */
@@ -1292,25 +1171,24 @@ sweep_answer twin_panel_line(const uint8_t *r, size_t rl)
 
 static inline uint8_t shown(uint32_t count) { return count > 255 ? 255 : (uint8_t)count; }
 
-/* Runs the command, under the profile of the write, and shows what it gave; a value that is no command leaves all but the
- * cause. */
-static void run_command(bool bench, uint8_t *r, uint8_t *t, size_t tl, uint8_t *p, size_t pl, uint8_t value)
+/* Runs the command and shows what it gave; a value that is no command leaves all but the cause. */
+static void run_command(uint8_t *r, uint8_t *t, size_t tl, uint8_t *p, size_t pl, uint8_t value)
 {
     uint32_t set = r[SWEEP_PANEL_SET], file = r[SWEEP_PANEL_FILE], other = r[SWEEP_PANEL_OTHER];
     sweep_answer a;
     switch (value) {
     case SWEEP_PANEL_CREATE:
-        a = create_under(bench, t, tl, pl, set, file);
+        a = twin_create(t, tl, p, pl, set, file);
         break;
     case SWEEP_PANEL_DELETE:
-        a = delete_under(bench, t, tl, p, pl, set, file);
+        a = twin_delete(t, tl, p, pl, set, file);
         break;
     case SWEEP_PANEL_MAKE_READ_ONLY:
     case SWEEP_PANEL_MAKE_WRITEABLE:
-        a = make_under(bench, t, tl, pl, set, other, value == SWEEP_PANEL_MAKE_WRITEABLE);
+        a = twin_make(t, tl, p, pl, set, other, value == SWEEP_PANEL_MAKE_WRITEABLE);
         break;
     case SWEEP_PANEL_REMOVE:
-        a = remove_under(bench, t, tl, pl, set);
+        a = twin_remove(t, tl, p, pl, set);
         break;
     default:
         r[SWEEP_PANEL_CAUSE] |= SWEEP_PANEL_REFUSED;
@@ -1325,29 +1203,17 @@ static void run_command(bool bench, uint8_t *r, uint8_t *t, size_t tl, uint8_t *
         r[SWEEP_PANEL_CAUSE] |= SWEEP_PANEL_MARKED;
 }
 
-static sweep_answer panel_write_under(bool bench, uint8_t *r, size_t rl, uint8_t *t, size_t tl, uint8_t *p, size_t pl,
-                                      uint32_t offset, uint8_t value)
+sweep_answer twin_panel_write(uint8_t *r, size_t rl, uint8_t *t, size_t tl, uint8_t *p, size_t pl, uint32_t offset,
+                              uint8_t value)
 {
     if (rl != REGISTERS || offset >= REGISTERS)
         return refused(SWEEP_NO_REGISTER);
     uint8_t mask = writable[offset];
     if (offset == SWEEP_PANEL_COMMAND)
-        run_command(bench, r, t, tl, p, pl, value);
+        run_command(r, t, tl, p, pl, value);
     else if (offset == SWEEP_PANEL_CAUSE)
         r[offset] &= (uint8_t) ~(value & mask);
     else
         r[offset] = (uint8_t)((r[offset] & ~mask) | (value & mask));
     return refused(0);
-}
-
-sweep_answer twin_panel_write(uint8_t *r, size_t rl, uint8_t *t, size_t tl, uint8_t *p, size_t pl, uint32_t offset,
-                              uint8_t value)
-{
-    return panel_write_under(false, r, rl, t, tl, p, pl, offset, value);
-}
-
-sweep_answer twin_bench_panel_write(uint8_t *r, size_t rl, uint8_t *t, size_t tl, uint8_t *p, size_t pl, uint32_t offset,
-                                    uint8_t value)
-{
-    return panel_write_under(true, r, rl, t, tl, p, pl, offset, value);
 }

@@ -1,9 +1,8 @@
-/* The calls of the twin: those of include/ under another prefix. */
+/* The calls of the twin: those of include/sweep.h under another prefix. */
 #ifndef TWIN_H
 #define TWIN_H
 
 #include "../include/sweep.h"
-#include "../include/sweep_bench.h"
 
 sweep_answer twin_format(uint8_t *tables, size_t tables_length, uint8_t *pages, size_t pages_length);
 sweep_answer twin_create(uint8_t *tables, size_t tables_length, uint8_t *pages, size_t pages_length, uint32_t set,
@@ -39,24 +38,5 @@ sweep_answer twin_convert(const uint8_t *old, size_t old_length, const uint8_t *
                           size_t tables_length);
 sweep_answer twin_compact(uint8_t *tables, size_t tables_length, uint8_t *pages, size_t pages_length, uint8_t *spare,
                           size_t spare_length);
-sweep_answer twin_bench_create(uint8_t *tables, size_t tables_length, uint8_t *pages, size_t pages_length, uint32_t set,
-                               uint32_t file);
-sweep_answer twin_bench_write(uint8_t *tables, size_t tables_length, uint8_t *pages, size_t pages_length, uint32_t set,
-                              uint32_t file, uint32_t offset, const uint8_t *data, size_t data_length);
-sweep_answer twin_bench_write_narrow(uint8_t *tables, size_t tables_length, uint8_t *pages, size_t pages_length,
-                                     uint32_t set, uint32_t file, uint32_t offset, const uint8_t *data, size_t data_length);
-sweep_answer twin_bench_truncate(uint8_t *tables, size_t tables_length, uint8_t *pages, size_t pages_length, uint32_t set,
-                                 uint32_t file, uint32_t size);
-sweep_answer twin_bench_delete(uint8_t *tables, size_t tables_length, uint8_t *pages, size_t pages_length, uint32_t set,
-                               uint32_t file);
-sweep_answer twin_bench_make(uint8_t *tables, size_t tables_length, uint8_t *pages, size_t pages_length, uint32_t parent,
-                             uint32_t set, uint32_t writeable);
-sweep_answer twin_bench_remove(uint8_t *tables, size_t tables_length, uint8_t *pages, size_t pages_length, uint32_t set);
-sweep_answer twin_bench_set_term(uint8_t *tables, size_t tables_length, uint8_t *pages, size_t pages_length, uint32_t set,
-                                 uint32_t year, uint32_t month, uint32_t day, uint32_t months);
-sweep_answer twin_bench_compact(uint8_t *tables, size_t tables_length, uint8_t *pages, size_t pages_length, uint8_t *spare,
-                                size_t spare_length);
-sweep_answer twin_bench_panel_write(uint8_t *registers, size_t registers_length, uint8_t *tables, size_t tables_length,
-                                    uint8_t *pages, size_t pages_length, uint32_t offset, uint8_t value);
 
 #endif

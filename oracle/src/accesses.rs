@@ -78,20 +78,20 @@ impl Access<'_> {
     }
 
     fn writes_at(&self, offsets: std::ops::Range<u32>) -> bool {
-        matches!(self.call.full(), Call::PanelWrite { offset, .. } if offsets.contains(&offset))
+        matches!(self.call, Call::PanelWrite { offset, .. } if offsets.contains(offset))
     }
 
     /// The value of a write to the command that runs nothing.
     fn no_command(&self) -> Option<u8> {
-        match (self.call.full(), self.ran) {
-            (Call::PanelWrite { offset: 0, value }, None) => Some(value),
+        match (self.call, self.ran) {
+            (Call::PanelWrite { offset: 0, value }, None) => Some(*value),
             _ => None,
         }
     }
 
     /// A write of another value than it has to a register that ignores writes.
     fn is_ignored(&self) -> bool {
-        match self.call.full() {
+        match *self.call {
             Call::PanelWrite { offset, value } if offset == 1 || offset >= 7 => {
                 self.before[offset as usize] != value
             }
@@ -128,12 +128,12 @@ impl Accesses {
         if access.answer.number != 0 {
             return;
         }
-        match (access.call.full(), access.ran) {
-            (Call::PanelRead { offset }, _) => self.by_offset[offset as usize][0] += 1,
+        match (access.call, access.ran) {
+            (Call::PanelRead { offset }, _) => self.by_offset[*offset as usize][0] += 1,
             (Call::PanelWrite { offset, value }, ran) => {
-                self.by_offset[offset as usize][1] += 1;
+                self.by_offset[*offset as usize][1] += 1;
                 if let Some(answer) = ran {
-                    *self.commands.entry((value, answer.number)).or_default() += 1;
+                    *self.commands.entry((*value, answer.number)).or_default() += 1;
                 }
             }
             _ => {}

@@ -2,8 +2,7 @@
 //! ("Demand 3"), with what the panel's registers must show since a reset, with
 //! the promise that a refused call changes nothing, and with another
 //! implementation where there is one, byte for byte. Every write is judged by the
-//! room it takes, every conversion and every compaction by its bytes, and every call of the
-//! Bench profile (which has nothing else to do with this bench) by the full store's call.
+//! room it takes, and every conversion and every compaction by its bytes.
 
 use crate::accesses::{Access, Accesses};
 use crate::agree::agree;
@@ -17,9 +16,6 @@ use crate::lent::{check_unchanged, Buffer::*, Buffers, Guarded, Lending};
 use crate::markings::{self, Freeing};
 use crate::panel::REGISTERS;
 use crate::panel_judge::{self, Since};
-use crate::profile::BARRED;
-use crate::profile_cases;
-use crate::profile_judge::Benched;
 use crate::room::{self, Judged, Taken};
 use crate::state::State;
 use crate::store;
@@ -124,8 +120,6 @@ pub struct Counts {
     pub compactions: compactions::Met,
     /// The cases of Ask 10 that calls met.
     pub markings: markings::Met,
-    /// The numbers and cases of Ask 11 that calls of the Bench profile met.
-    pub profile: profile_cases::Met,
     /// Blocks that markings freed, a block as often as it was freed.
     pub freed: u64,
     pub damages: BTreeMap<Rule, u64>,
@@ -262,22 +256,20 @@ impl Bench {
         let answer = store::run(call.index(), &call.numbers(), after.lend());
         self.counts.calls[call.index()] += 1;
         self.counts.numbers[answer.number as usize] += 1;
-        let counted = counted(call, answer);
-        self.count_terms(&counted, answer, &before, other.has(call.index()));
+        self.count_terms(call, answer, &before, other.has(call.index()));
         check_unchanged(call.row(), &answer, &before, &after)?;
         let done = listed(call, answer, &before, &after)?;
         if let Some(done) = &done {
             self.count(done, &before);
         }
         self.count_markings(call, answer, &done, &before, other.has(call.index()));
-        let full = full_run(call, &before);
-        self.compare_other(call, &answer, (&before, &mut after), &full, other)?;
+        self.compare_other(call, &answer, &before, &mut after, other)?;
         if let Some(done) = &done {
             self.compare_beside(done, &before, &after)?;
         }
-        match call.full() {
+        match call {
             Call::Convert {} => self.compare_conversion(answer, &before, &after)?,
-            Call::Compact {} => self.compare_compaction(call, answer, &before, &after)?,
+            Call::Compact {} => self.compare_compaction(&before, &after)?,
             _ => {}
         }
         if call.is_of_panel() {
@@ -288,11 +280,7 @@ impl Bench {
         if call.as_write().is_some() && answer.number == 0 {
             self.count_write(call, &answer, [&before, &after], other.has(call.index()));
         }
-        self.count_compaction(&counted, answer, [&before, &after], other.has(call.index()));
-        if let Some(full) = &full {
-            let benched = full.beside(call, answer, &before, &after);
-            self.counts.profile.count(benched, other.has(call.index()));
-        }
+        self.count_compaction(call, answer, [&before, &after], other.has(call.index()));
         // The buffer of a refused format is not the store's.
         if !matches!(call, Call::Format { .. }) || answer.number == 0 {
             // With other pages, the second tables hold another store.
@@ -327,7 +315,6 @@ impl Bench {
 
     /// Counts what a listed call did to the store.
     fn count(&mut self, Done { call, answer }: &Done, before: &Buffers) {
-        let call = &call.full();
         let drops = matches!(call, Call::Truncate { .. } | Call::Delete { .. });
         if answer.number != 0 || !(drops || call.as_write().is_some()) {
             return;
@@ -356,21 +343,15 @@ impl Bench {
         is_linked: bool,
     ) {
         let (call, answer) = match done {
-            Some(done) => (done.call.full(), done.answer),
-            None => (call.full(), answer),
+            Some(done) => (&done.call, done.answer),
+            None => (call, answer),
         };
-        self.counts.markings.count(&Freeing { call: &call, answer, before }, is_linked);
+        self.counts.markings.count(&Freeing { call, answer, before }, is_linked);
     }
 
     /// Counts the cases of Ask 8 that a call met. Accesses of the panel are left out.
-    fn count_terms(
-        &mut self,
-        counted: &Option<Call>,
-        answer: Answer,
-        before: &Buffers,
-        is_linked: bool,
-    ) {
-        if let Some(call) = counted.as_ref().filter(|call| !call.is_of_panel()) {
+    fn count_terms(&mut self, call: &Call, answer: Answer, before: &Buffers, is_linked: bool) {
+        if !call.is_of_panel() {
             self.counts.terms.count(&Asked { call, answer, before }, is_linked);
         }
     }
@@ -398,12 +379,11 @@ impl Bench {
     /// as an accepted compaction left it.
     fn count_compaction(
         &mut self,
-        counted: &Option<Call>,
+        call: &Call,
         answer: Answer,
         [before, after]: [&Buffers; 2],
         is_linked: bool,
     ) {
-        let Some(call) = counted else { return };
         let after_compaction = self.after_compaction;
         let pulled = Pulled { call, answer, before, after, after_compaction };
         self.counts.compactions.count(&pulled, is_linked);
@@ -439,20 +419,9 @@ impl Bench {
     }
 
     /// Plain store and tally are not fed a compaction, which is no call at all for them:
-    /// "a reader of any file sees no difference". They agree with what it left. That it is
-    /// answered with 17 is told from their sets.
-    fn compare_compaction(
-        &self,
-        call: &Call,
-        answer: Answer,
-        before: &Buffers,
-        after: &Buffers,
-    ) -> Result<(), String> {
+    /// "a reader of any file sees no difference". They agree with what it left.
+    fn compare_compaction(&self, before: &Buffers, after: &Buffers) -> Result<(), String> {
         let Some(beside) = &self.beside else { return Ok(()) };
-        if (answer.number == BARRED) != (beside.number(call) == BARRED) {
-            let due = if answer.number == BARRED { "not due" } else { "due" };
-            return Err(format!("the answer is {answer}; by the plain store's sets 17 is {due}"));
-        }
         agree_if_changed(before, after, beside)
     }
 
@@ -525,14 +494,13 @@ impl Bench {
         &mut self,
         call: &Call,
         answer: &Answer,
-        (before, after): (&Buffers, &mut Buffers),
-        full: &Option<FullRun>,
+        before: &Buffers,
+        after: &mut Buffers,
         other: &mut dyn Other,
     ) -> Result<(), String> {
         let (index, numbers) = (call.index(), call.numbers());
         if !other.has(index) {
             self.judge_room(call, answer, before, &after[Tables], false)?;
-            judge_profile(full, call, *answer, before, || after.clone())?;
             let run = &mut |lent: Lent| store::run(index, &numbers, lent);
             return judge_compaction(call, *answer, before, || after.clone(), run);
         }
@@ -542,12 +510,11 @@ impl Bench {
         let room = self.judge_room(call, &found, before, lent.found(Tables), true);
         let run = &mut |lent: Lent| other.run(index, &numbers, lent);
         let compaction = judge_compaction(call, found, before, || lent.left(), run);
-        let profile = judge_profile(full, call, found, before, || lent.left());
         let same = compare_answers(answer, &found).and_then(|_| {
             self.counts.reads_linked.count(call, answer);
             lent.compare(call.row(), answer.number == 0, after)
         });
-        both(both(both(same, room), compaction), profile)
+        both(both(same, room), compaction)
     }
 
     /// Ask 7 of document 02, "How much room a write can take", for one write.
@@ -582,7 +549,7 @@ fn judge_compaction(
     left: impl FnOnce() -> Buffers,
     run: &mut dyn FnMut(Lent) -> Answer,
 ) -> Result<(), String> {
-    if counted(call, answer) != Some(Call::Compact {}) {
+    if *call != (Call::Compact {}) {
         return Ok(());
     }
     let after = left();
@@ -594,56 +561,6 @@ fn judge_compaction(
     let answer = run(again.lend());
     again.check_guards()?;
     Compacted { answer, before: &after, after: &again.left() }.outcome_of_second()
-}
-
-/// What the full store's call answers and leaves.
-struct FullRun {
-    answer: Answer,
-    after: Buffers,
-}
-
-impl FullRun {
-    /// A call of the Bench profile beside it.
-    fn beside<'a>(
-        &'a self,
-        call: &'a Call,
-        answer: Answer,
-        before: &'a Buffers,
-        after: &'a Buffers,
-    ) -> Benched<'a> {
-        let (full_answer, full_after) = (self.answer, &self.after);
-        Benched { call, answer, before, after, full_answer, full_after }
-    }
-}
-
-/// Does the full store's call of a call of the Bench profile, on a copy of its buffers.
-fn full_run(call: &Call, before: &Buffers) -> Option<FullRun> {
-    if !call.is_under_bench() {
-        return None;
-    }
-    let (full, mut after) = (call.full(), before.clone());
-    let answer = store::run(full.index(), &full.numbers(), after.lend());
-    Some(FullRun { answer, after })
-}
-
-/// Ask 11 of document 02, "The Bench profile", for one call of it.
-fn judge_profile(
-    full: &Option<FullRun>,
-    call: &Call,
-    answer: Answer,
-    before: &Buffers,
-    left: impl FnOnce() -> Buffers,
-) -> Result<(), String> {
-    match full {
-        Some(full) => full.beside(call, answer, before, &left()).outcome(),
-        None => Ok(()),
-    }
-}
-
-/// The full store's call that a call counts as: a call of the Bench profile that is answered
-/// with 17 runs none.
-fn counted(call: &Call, answer: Answer) -> Option<Call> {
-    (answer.number != BARRED).then(|| call.full())
 }
 
 /// The store is well formed, and agrees with plain store and tally.
@@ -681,7 +598,7 @@ fn listed(
     before: &Buffers,
     after: &Buffers,
 ) -> Result<Option<Done>, String> {
-    if matches!(call.full(), Call::Convert {} | Call::Compact {}) {
+    if matches!(call, Call::Convert {} | Call::Compact {}) {
         return Ok(None);
     }
     if !call.is_of_panel() {

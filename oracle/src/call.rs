@@ -9,8 +9,8 @@ use std::ops::Range;
 
 /// How many calls there are.
 pub const CALLS: usize = CALL_NAMES.len();
-/// How many numbers an answer can have: 0 to 17.
-pub const NUMBERS: usize = 18;
+/// How many numbers an answer can have: 0 to 16.
+pub const NUMBERS: usize = 17;
 
 /// "Largest: 8 sets, 16 files a set, 64 pages of 512 bytes a file (32,768
 /// bytes), 4,096 blocks of 512 bytes."
@@ -202,73 +202,9 @@ calls! {
     Convert {} told [] lends CONVERTED, leaves None;
     /// Compaction: pulls the blocks together.
     Compact {} told [] lends COMPACTED, leaves Some(left_by_compaction);
-    // The same under the Bench profile.
-    BenchCreate { set: u32, file: u32 } told [set, file] lends STORE_CHANGED, leaves None;
-    BenchWrite { set: u32, file: u32, offset: u32, length: usize, seed: u32 }
-        told [set, file, offset] lends lends(Changed, ReadOnly), leaves None;
-    BenchWriteNarrow { set: u32, file: u32, offset: u32, length: usize, seed: u32 }
-        told [set, file, offset] lends lends(Changed, ReadOnly), leaves None;
-    BenchTruncate { set: u32, file: u32, size: u32 }
-        told [set, file, size] lends STORE_CHANGED, leaves None;
-    BenchDelete { set: u32, file: u32 } told [set, file] lends STORE_CHANGED, leaves None;
-    BenchMake { parent: u32, set: u32, writeable: u32 }
-        told [parent, set, writeable] lends STORE_CHANGED, leaves None;
-    BenchRemove { set: u32 } told [set] lends STORE_CHANGED, leaves None;
-    BenchSetTerm { set: u32, year: u32, month: u32, day: u32, months: u32 }
-        told [set, year, month, day, months] lends STORE_CHANGED, leaves None;
-    BenchCompact {} told [] lends COMPACTED, leaves Some(left_by_compaction);
-    /// A command that it runs is run under the Bench profile too.
-    BenchPanelWrite { offset: u32, value: u8 }
-        told [offset, value] lends lends_registers(Changed, Changed), leaves None;
     /// A write by groups of any size.
     WriteGroups { group: Group, set: u32, file: u32, offset: u32, length: usize, seed: u32 }
         told [group, set, file, offset] lends lends(Changed, ReadOnly), leaves None;
-}
-
-/// Makes of a table of pairs how one profile's call becomes the other's, with the same
-/// arguments.
-macro_rules! profiles {
-    ($($full:ident $bench:ident { $($field:ident),* };)*) => {
-        impl Call {
-            /// The call of the full store: "Every call gives what the full store gives". A
-            /// call that is the same in both profiles is its own.
-            pub fn full(&self) -> Call {
-                match *self {
-                    $(Call::$bench { $($field),* } => Call::$full { $($field),* },)*
-                    _ => self.clone(),
-                }
-            }
-
-            /// The call of the Bench profile; none of a call that is the same in both
-            /// profiles.
-            pub fn under_bench(&self) -> Option<Call> {
-                match *self {
-                    $(Call::$full { $($field),* } | Call::$bench { $($field),* } => {
-                        Some(Call::$bench { $($field),* })
-                    })*
-                    _ => None,
-                }
-            }
-
-            /// Whether it is a call of the Bench profile.
-            pub fn is_under_bench(&self) -> bool {
-                matches!(self, $(Call::$bench { .. })|*)
-            }
-        }
-    };
-}
-
-profiles! {
-    Create BenchCreate { set, file };
-    Write BenchWrite { set, file, offset, length, seed };
-    WriteNarrow BenchWriteNarrow { set, file, offset, length, seed };
-    Truncate BenchTruncate { set, file, size };
-    Delete BenchDelete { set, file };
-    Make BenchMake { parent, set, writeable };
-    Remove BenchRemove { set };
-    SetTerm BenchSetTerm { set, year, month, day, months };
-    Compact BenchCompact {};
-    PanelWrite BenchPanelWrite { offset, value };
 }
 
 /// How many pages a group has. Document 02: "any group size from 1 to 64".
@@ -307,7 +243,7 @@ impl std::str::FromStr for Group {
     }
 }
 
-/// A write of any of the three kinds, under either profile.
+/// A write of any of the three kinds.
 #[derive(Clone, Copy, PartialEq, Eq, Debug)]
 pub struct AnyWrite {
     /// The pages of a group.
@@ -324,10 +260,9 @@ impl Call {
         &ROWS[self.index()]
     }
 
-    /// The call as a write with the size of its groups, if it is a write, under either
-    /// profile.
+    /// The call as a write with the size of its groups, if it is a write.
     pub fn as_write(&self) -> Option<AnyWrite> {
-        Some(match self.full() {
+        Some(match *self {
             Call::Write { set, file, offset, length, seed } => {
                 AnyWrite { group: WRITE_GROUP, set, file, offset, length, seed }
             }

@@ -1,10 +1,9 @@
 //! Random calls, histories, well-formed states and damages. Those of the panel are
 //! in `gen::panel`, those of terms and conversions in `gen::terms`, those of compactions
-//! in `gen::compact`, those of the Bench profile in `gen::profile`.
+//! in `gen::compact`.
 
 pub mod compact;
 pub mod panel;
-pub mod profile;
 pub mod terms;
 
 use crate::bits::put_field;
@@ -19,7 +18,6 @@ use crate::state::*;
 use crate::store;
 use crate::tally::{Condition, TallyKind};
 use std::collections::BTreeSet;
-use std::ops::Range;
 
 /// Places in `CALL_NAMES`: the calls that panel commands run, and the panel's own.
 const CREATE: usize = 1;
@@ -36,12 +34,10 @@ pub const CURRENT: usize = 18;
 pub const CONVERT: usize = 19;
 /// The place of compaction.
 pub const COMPACT: usize = 20;
-/// The places of the calls of the Bench profile: bench-create to bench-panel-write.
-pub const BENCH_CALLS: Range<usize> = 21..31;
 /// The places of the three kinds of write.
 const WRITE: usize = 2;
 const WRITE_NARROW: usize = 12;
-const WRITE_GROUPS: usize = 31;
+const WRITE_GROUPS: usize = 21;
 const WRITES: [usize; 3] = [WRITE, WRITE_NARROW, WRITE_GROUPS];
 
 /// Group sizes that are used most: some divide 64, with others the last group is
@@ -64,12 +60,8 @@ pub struct Style {
     /// Percent of arguments out of range.
     pub wild: usize,
     /// How often each call of `CALL_NAMES` comes. Those of the panel come by
-    /// `panel` alone, conversions by `convert` alone, those of the Bench profile by `bench`
-    /// alone.
+    /// `panel` alone, conversions by `convert` alone.
     pub weights: [usize; CALLS],
-    /// Percent of the calls of a history's turns that are made under the Bench profile, of
-    /// those that it has a call for.
-    pub bench: usize,
     /// Percent of turns that are conversions.
     pub convert: usize,
     /// Percent of turns that are accesses of the panel.
@@ -102,14 +94,14 @@ fn style(rng: &mut Rng, block_count: usize) -> Style {
     let fond_files = rng.between(1, 3);
     let fond_pages = rng.between(1, 4);
     // format create write read trunc delete make remove size free check-blocks
-    // check write-narrow, the panel's four, set-term current convert compact; then
+    // check write-narrow, the panel's four, set-term current convert compact,
     // write-groups
-    let (weights, write_groups) = rng.pick(&[
-        ([1, 30, 80, 60, 80, 30, 110, 40, 15, 10, 5, 5, 70, 0, 0, 0, 0, 20, 15, 0, 10], 70),
-        ([1, 40, 60, 40, 120, 50, 90, 40, 10, 10, 5, 5, 60, 0, 0, 0, 0, 20, 10, 0, 20], 40),
-        ([2, 30, 50, 60, 60, 30, 200, 60, 20, 10, 5, 5, 50, 0, 0, 0, 0, 40, 30, 0, 10], 50),
-        ([0, 60, 90, 20, 60, 70, 80, 20, 5, 5, 3, 3, 80, 0, 0, 0, 0, 5, 5, 0, 5], 80),
-        ([0, 70, 50, 10, 100, 100, 120, 20, 5, 5, 3, 3, 50, 0, 0, 0, 0, 5, 5, 0, 10], 40),
+    let weights = rng.pick(&[
+        [1, 30, 80, 60, 80, 30, 110, 40, 15, 10, 5, 5, 70, 0, 0, 0, 0, 20, 15, 0, 10, 70],
+        [1, 40, 60, 40, 120, 50, 90, 40, 10, 10, 5, 5, 60, 0, 0, 0, 0, 20, 10, 0, 20, 40],
+        [2, 30, 50, 60, 60, 30, 200, 60, 20, 10, 5, 5, 50, 0, 0, 0, 0, 40, 30, 0, 10, 50],
+        [0, 60, 90, 20, 60, 70, 80, 20, 5, 5, 3, 3, 80, 0, 0, 0, 0, 5, 5, 0, 5, 80],
+        [0, 70, 50, 10, 100, 100, 120, 20, 5, 5, 3, 3, 50, 0, 0, 0, 0, 5, 5, 0, 10, 40],
     ]);
     Style {
         block_count,
@@ -118,22 +110,12 @@ fn style(rng: &mut Rng, block_count: usize) -> Style {
         deep: rng.pick(&[0, 10, 30, 60, 90]),
         wide: rng.pick(&[0, 50, 80]),
         wild: rng.pick(&[0, 2, 5, 12]),
-        weights: all_weights(weights, write_groups),
-        bench: 0,
+        weights,
         convert: rng.pick(&[0, 0, 1, 3]),
         panel: rng.pick(&[0, 5, 10, 20]),
         long: rng.pick(&[5, 20, 60]),
         filling: rng.pick(&[0, 0, 5, 20]),
     }
-}
-
-/// The weights of all calls, from those of the full store's with a function, which stand
-/// first, and that of write-groups.
-fn all_weights(weights: [usize; BENCH_CALLS.start], write_groups: usize) -> [usize; CALLS] {
-    let mut all = [0; CALLS];
-    all[..BENCH_CALLS.start].copy_from_slice(&weights);
-    all[WRITE_GROUPS] = write_groups;
-    all
 }
 
 /// A format, and often calls that make a family (see `family_calls`,
@@ -922,10 +904,6 @@ fn possible(rng: &mut Rng, beside: &Beside, index: usize) -> usize {
 
 /// A random call of the kind at this place in `CALL_NAMES`.
 pub fn call_of(rng: &mut Rng, style: &Style, beside: &Beside, index: usize) -> Call {
-    if let Some(full) = profile::full_place(index) {
-        let call = call_of(rng, style, beside, full);
-        return call.under_bench().expect("a call that the Bench profile has");
-    }
     match index {
         0 => Call::Format { pages_length: format_length(rng, style) },
         CREATE => {

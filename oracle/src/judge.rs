@@ -31,20 +31,8 @@ const NOT_LISTED: &str = "a panel access is fed as the call that it runs";
 /// its place: see `conversion` and `Beside::converted`.
 const NOT_OF_THIS_STORE: &str = "a conversion is judged by the older tables";
 
-/// A call of the Bench profile is looked up as the full store's.
-const NOT_FULL: &str = "a call of the full store";
-
 /// One line of the table of numbers: the number, and whether it applies.
 type Lines = Vec<(u32, bool)>;
-
-/// When a number is looked at. Ask 11: "with 17, after 10 and before 11, 12 and 14 to 16".
-fn turn(number: u32) -> u32 {
-    match number {
-        0..=10 => number,
-        17 => 11,
-        _ => number + 1,
-    }
-}
 
 impl Beside {
     pub fn format(block_count: usize) -> Beside {
@@ -62,34 +50,9 @@ impl Beside {
     /// The number that the table gives, for tables that are well formed and
     /// of the right length (and, in format, of the right length). Each line's
     /// condition is judged where its words make sense, and the lowest number
-    /// that applies is taken, but for 17, which has a turn of its own.
+    /// that applies is taken.
     pub fn number(&self, call: &Call) -> u32 {
-        let mut lines = self.lines(&call.full());
-        lines.push((17, call.is_under_bench() && self.is_barred(&call.full())));
-        let applying = lines.iter().filter(|line| line.1).map(|line| line.0);
-        applying.min_by_key(|number| turn(*number)).unwrap_or(0)
-    }
-
-    /// Ask 11: "It refuses a making beyond this", which is "one set beside the root,
-    /// read-only and made from set 0", "and on such tables every create, write, truncate,
-    /// delete, making, removal, term or compaction, even one that would alter nothing".
-    /// Such tables are those "with more sets, or with a writeable one beside the root".
-    fn is_barred(&self, call: &Call) -> bool {
-        let beside_root: Vec<_> = self.plain.sets[1..].iter().flatten().collect();
-        let more_sets = beside_root.len() >= 2;
-        let with_writeable = beside_root.iter().any(|set| set.writeable);
-        let making_beyond = match *call {
-            Call::Make { parent, writeable, .. } => {
-                parent != 0 || writeable != 0 || !beside_root.is_empty()
-            }
-            _ => false,
-        };
-        more_sets || with_writeable || making_beyond
-    }
-
-    /// The lines of the table for a call of the full store.
-    fn lines(&self, call: &Call) -> Lines {
-        match *call {
+        let lines = match *call {
             Call::Format { pages_length } => vec![(1, format_blocks(pages_length).is_none())],
             Call::Create { set, file } => {
                 let mut lines = self.file_lines(set, file, true);
@@ -140,8 +103,8 @@ impl Beside {
             | Call::PanelRead { .. }
             | Call::PanelWrite { .. }
             | Call::PanelLine {} => unreachable!("{NOT_LISTED}"),
-            _ => unreachable!("{NOT_FULL}"),
-        }
+        };
+        lines.iter().filter(|line| line.1).map(|line| line.0).min().unwrap_or(0)
     }
 
     fn is_used(&self, set: u32) -> bool {
@@ -206,15 +169,14 @@ impl Beside {
     }
 
     /// Does the call, which is no panel access, on plain store and tally. Gives the
-    /// answer they demand, and the bytes that a read must give. A call of the Bench profile
-    /// that is not answered with 17 is the call of the full store; else it runs none.
+    /// answer they demand, and the bytes that a read must give.
     pub fn step(&mut self, call: &Call) -> (Answer, Vec<u8>) {
         let number = self.number(call);
         if number != 0 {
             return (Answer::refused(number), Vec::new());
         }
         let mut bytes = Vec::new();
-        let counts = match call.full() {
+        let counts = match *call {
             Call::Format { pages_length } => {
                 let block_count = format_blocks(pages_length).expect("an accepted format");
                 *self = Beside::format(block_count);
@@ -280,7 +242,6 @@ impl Beside {
             | Call::PanelRead { .. }
             | Call::PanelWrite { .. }
             | Call::PanelLine {} => unreachable!("{NOT_LISTED}"),
-            _ => unreachable!("{NOT_FULL}"),
         };
         (Answer::accepted(counts), bytes)
     }

@@ -1,12 +1,12 @@
 //! A second implementation of the sweep store, written from document 01, Asks 1
-//! to 11 of document 02 and their readings (docs/DECISIONS.md) alone. Clarity
+//! to 10 of document 02 and their readings (docs/DECISIONS.md) alone. Clarity
 //! goes before speed: each call unpacks the tables to a plain state, does the
 //! paper's steps, and packs.
 //!
 //! The words are those of the documents: set, file, page, block, own, virgin,
 //! marked, hole, stored, unmapped, next start, needs, hand over, group, extra
 //! page, register, command, cause, mask, line, room, term, first day, end day,
-//! current, compaction, spare page, profile.
+//! current, compaction, spare page.
 
 // The remainder is what document 01 speaks of.
 #![allow(clippy::manual_is_multiple_of)]
@@ -34,9 +34,6 @@ pub mod names;
 pub mod panel;
 pub mod panel_judge;
 pub mod plain;
-pub mod profile;
-pub mod profile_cases;
-pub mod profile_judge;
 pub mod rng;
 pub mod room;
 pub mod rows;

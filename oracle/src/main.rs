@@ -145,7 +145,6 @@ fn show_counts(counts: &Counts) {
     println!("calls of terms {}", counts.terms);
     println!("compactions {}", counts.compactions);
     println!("blocks freed by marking {} in calls {}", counts.freed, counts.markings);
-    println!("calls of the Bench profile {}", counts.profile);
     writes::show("plain store and tally", &counts.writes_beside);
     accesses::show("what is demanded", &counts.panel_judged);
 }

@@ -4,7 +4,7 @@
 /// library has a function for, in the order in which they came, so that none of
 /// them changes its place; a new one stands at their end. Those that the oracle
 /// does alone stand last.
-pub const CALL_NAMES: [&str; 32] = [
+pub const CALL_NAMES: [&str; 22] = [
     "format",
     "create",
     "write",
@@ -26,16 +26,6 @@ pub const CALL_NAMES: [&str; 32] = [
     "current",
     "convert",
     "compact",
-    "bench-create",
-    "bench-write",
-    "bench-write-narrow",
-    "bench-truncate",
-    "bench-delete",
-    "bench-make",
-    "bench-remove",
-    "bench-set-term",
-    "bench-compact",
-    "bench-panel-write",
     "write-groups",
 ];
 

@@ -3,8 +3,7 @@
 //! made is taken as it stands.
 
 use crate::call::*;
-use crate::profile::Profile;
-use crate::store::{answer, try_create, try_delete, try_make, try_remove, Outcome};
+use crate::store::{self, answer, Outcome};
 use std::ops::Range;
 
 /// "The panel processor sees sixteen byte-wide registers, offsets 0 to 15".
@@ -55,28 +54,7 @@ pub fn write(
     offset: u32,
     value: u8,
 ) -> Answer {
-    write_under(Profile::Full, registers, tables, pages, offset, value)
-}
-
-/// Ask 11: "A store called under this profile, by a panel command too". The command is
-/// run under the profile; all else is the same.
-pub fn write_under(
-    profile: Profile,
-    registers: &mut [u8],
-    tables: &mut [u8],
-    pages: &mut [u8],
-    offset: u32,
-    value: u8,
-) -> Answer {
-    let store = Store { profile, tables, pages };
-    answer(try_write(registers, store, offset, value))
-}
-
-/// What a command is run on.
-struct Store<'a> {
-    profile: Profile,
-    tables: &'a mut [u8],
-    pages: &'a mut [u8],
+    answer(try_write(registers, tables, pages, offset, value))
 }
 
 pub fn line(registers: &[u8]) -> Answer {
@@ -121,11 +99,17 @@ fn try_read(registers: &[u8], offset: u32) -> Outcome {
 
 /// "a write gives 0 and zeros, even where its command is refused". "only a command
 /// looks at the store".
-fn try_write(registers: &mut [u8], store: Store, offset: u32, value: u8) -> Outcome {
+fn try_write(
+    registers: &mut [u8],
+    tables: &mut [u8],
+    pages: &mut [u8],
+    offset: u32,
+    value: u8,
+) -> Outcome {
     let register = register_at(registers, offset)?;
     let (old, written) = (registers[register], value & WRITABLE[register]);
     match register {
-        COMMAND => command(registers, store, value),
+        COMMAND => command(registers, tables, pages, value),
         // "writing ones to the cause clears those bits"
         CAUSE => registers[CAUSE] = old & !written,
         _ => registers[register] = old & !WRITABLE[register] | written,
@@ -142,8 +126,8 @@ fn try_line(registers: &[u8]) -> Outcome {
 }
 
 /// "Offset 0 is the command: a session op 1, 4, 5, 6 or 7, run when written".
-fn command(registers: &mut [u8], store: Store, value: u8) {
-    let Some(answer) = run(registers, store, value) else {
+fn command(registers: &mut [u8], tables: &mut [u8], pages: &mut [u8], value: u8) {
+    let Some(answer) = run(registers, tables, pages, value) else {
         // "any other value runs nothing, sets cause bit 1 and leaves the other
         // registers"
         registers[CAUSE] |= REFUSED;
@@ -167,17 +151,16 @@ fn shown(count: u32) -> u8 {
 /// The answer of the op's call with the whole bytes of set, file and other, none
 /// for a value that is no command. "Registers that the op does not use are
 /// ignored".
-fn run(registers: &[u8], store: Store, op: u8) -> Option<Answer> {
-    let Store { profile, tables, pages } = store;
+fn run(registers: &[u8], tables: &mut [u8], pages: &mut [u8], op: u8) -> Option<Answer> {
     let [set, file, other] = [SET, FILE, OTHER].map(|register| u32::from(registers[register]));
     // Document 01: "Ops: 1 create, ... 4 delete, 5 make read-only set `other` from
     // set, 6 same, writeable, 7 remove."
-    Some(answer(match op {
-        1 => try_create(profile, tables, pages, set, file),
-        4 => try_delete(profile, tables, pages, set, file),
-        5 => try_make(profile, tables, pages, set, other, 0),
-        6 => try_make(profile, tables, pages, set, other, 1),
-        7 => try_remove(profile, tables, pages, set),
+    Some(match op {
+        1 => store::create(tables, pages, set, file),
+        4 => store::delete(tables, pages, set, file),
+        5 => store::make(tables, pages, set, other, 0),
+        6 => store::make(tables, pages, set, other, 1),
+        7 => store::remove(tables, pages, set),
         _ => return None,
-    }))
+    })
 }

@@ -8,8 +8,8 @@ use crate::call::{Answer, Call};
 /// another length, with 13". All other calls of the panel are accepted, on any
 /// store.
 pub fn number(call: &Call, registers_length: usize) -> u32 {
-    let offset_over_15 = match call.full() {
-        Call::PanelRead { offset } | Call::PanelWrite { offset, .. } => offset > 15,
+    let offset_over_15 = match call {
+        Call::PanelRead { offset } | Call::PanelWrite { offset, .. } => *offset > 15,
         _ => false,
     };
     if offset_over_15 || registers_length != 16 {
@@ -20,18 +20,9 @@ pub fn number(call: &Call, registers_length: usize) -> u32 {
 }
 
 /// The call that a panel access runs, registers being lent that hold these bytes.
-/// "Sequences through the panel count as the calls they run." Ask 11: "A store called under
-/// this profile, by a panel command too".
+/// "Sequences through the panel count as the calls they run."
 pub fn call_run(call: &Call, registers: &[u8]) -> Option<Call> {
-    let full = full_call_run(call, registers)?;
-    match call.is_under_bench() {
-        true => full.under_bench(),
-        false => Some(full),
-    }
-}
-
-fn full_call_run(call: &Call, registers: &[u8]) -> Option<Call> {
-    let Call::PanelWrite { offset: 0, value } = call.full() else { return None };
+    let Call::PanelWrite { offset: 0, value } = *call else { return None };
     if number(call, registers.len()) != 0 {
         return None;
     }
@@ -89,13 +80,13 @@ impl Since {
     /// Takes an accepted call of the panel, with what the call that it ran
     /// answered, if it ran one. Gives the answer that is demanded.
     pub fn step(&mut self, call: &Call, ran: Option<Answer>) -> Answer {
-        let first = match (call.full(), ran) {
+        let first = match (call, ran) {
             (Call::PanelReset {}, _) => {
                 self.events.clear();
                 0
             }
             // "A read gives the value as the first count".
-            (Call::PanelRead { offset }, _) => u32::from(self.shows(offset)),
+            (Call::PanelRead { offset }, _) => u32::from(self.shows(*offset)),
             // "Asking for the line gives 1 as the first count exactly when cause
             // and mask share a one, else 0."
             (Call::PanelLine {}, _) => {
@@ -112,7 +103,7 @@ impl Since {
                 0
             }
             (Call::PanelWrite { offset, value }, None) => {
-                self.events.push(Event::Wrote { offset, value });
+                self.events.push(Event::Wrote { offset: *offset, value: *value });
                 0
             }
             _ => unreachable!("the call is not one of the panel's"),

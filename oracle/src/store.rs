@@ -1,17 +1,12 @@
 //! The calls over bytes. Each works on any bytes and any lengths. A
 //! refused call changes nothing and gives counts of 0; "The lowest number
 //! that applies is given", so the checks stand in the order of the numbers.
-//!
-//! What can change the store is told the profile that it is called under, which has a
-//! number of its own: "with 17, after 10 and before 11, 12 and 14 to 16". So this check
-//! stands after those of 1 to 10, whatever the call does then.
 
 use crate::call::*;
 use crate::check::{check_older, check_state};
 use crate::dates::{self, Date};
 use crate::maps::*;
 use crate::panel;
-use crate::profile::Profile::{self, Bench, Full};
 use crate::state::*;
 
 /// Three counts, or the number of a refusal.
@@ -29,7 +24,7 @@ pub fn format(tables: &mut [u8], pages: &mut [u8]) -> Answer {
 }
 
 pub fn create(tables: &mut [u8], pages: &mut [u8], set: u32, file: u32) -> Answer {
-    answer(try_create(Full, tables, pages, set, file))
+    answer(try_create(tables, pages, set, file))
 }
 
 /// Document 02: "A write now copies by aligned groups of eight unless the caller
@@ -42,7 +37,7 @@ pub fn write(
     offset: u32,
     data: &[u8],
 ) -> Answer {
-    answer(try_write(BY_EIGHTS, tables, pages, set, file, offset, data))
+    answer(try_write(tables, pages, WRITE_GROUP, set, file, offset, data))
 }
 
 /// The narrow write: each page is a group, so no touched group has another page.
@@ -54,7 +49,7 @@ pub fn write_narrow(
     offset: u32,
     data: &[u8],
 ) -> Answer {
-    answer(try_write(NARROW, tables, pages, set, file, offset, data))
+    answer(try_write(tables, pages, NARROW_GROUP, set, file, offset, data))
 }
 
 /// A write by groups of `group` pages, 1 to 64.
@@ -68,7 +63,7 @@ pub fn write_groups(
     data: &[u8],
 ) -> Answer {
     assert!((1..=PAGES).contains(&group), "a group has 1 to 64 pages");
-    answer(try_write(Manner { profile: Full, group }, tables, pages, set, file, offset, data))
+    answer(try_write(tables, pages, group, set, file, offset, data))
 }
 
 pub fn read(
@@ -83,20 +78,20 @@ pub fn read(
 }
 
 pub fn truncate(tables: &mut [u8], pages: &mut [u8], set: u32, file: u32, size: u32) -> Answer {
-    answer(try_truncate(Full, tables, pages, set, file, size))
+    answer(try_truncate(tables, pages, set, file, size))
 }
 
 pub fn delete(tables: &mut [u8], pages: &mut [u8], set: u32, file: u32) -> Answer {
-    answer(try_delete(Full, tables, pages, set, file))
+    answer(try_delete(tables, pages, set, file))
 }
 
 /// `writeable` 0 makes a read-only set, any other value a writeable one.
 pub fn make(tables: &mut [u8], pages: &mut [u8], parent: u32, set: u32, writeable: u32) -> Answer {
-    answer(try_make(Full, tables, pages, parent, set, writeable))
+    answer(try_make(tables, pages, parent, set, writeable))
 }
 
 pub fn remove(tables: &mut [u8], pages: &mut [u8], set: u32) -> Answer {
-    answer(try_remove(Full, tables, pages, set))
+    answer(try_remove(tables, pages, set))
 }
 
 pub fn size(tables: &[u8], pages: &[u8], set: u32, file: u32) -> Answer {
@@ -125,7 +120,7 @@ pub fn set_term(
     day: u32,
     months: u32,
 ) -> Answer {
-    answer(try_set_term(Full, tables, pages, set, Date { year, month, day }, months))
+    answer(try_set_term(tables, pages, set, Date { year, month, day }, months))
 }
 
 pub fn current(tables: &[u8], pages: &[u8], set: u32, day: u32) -> Answer {
@@ -139,7 +134,7 @@ pub fn convert(older: &[u8], pages: &[u8], tables: &mut [u8]) -> Answer {
 
 /// Document 02: "Pull the blocks together."
 pub fn compact(tables: &mut [u8], pages: &mut [u8], spare: &mut [u8]) -> Answer {
-    answer(try_compact(Full, tables, pages, spare))
+    answer(try_compact(tables, pages, spare))
 }
 
 /// Each call with its numbers on the buffers it is lent, in the order of
@@ -166,27 +161,6 @@ const DOES: [fn(&Numbers, Lent) -> Answer; CALLS] = [
     |n, lent| current(lent.tables, lent.pages, n[0], n[1]),
     |_, lent| convert(lent.second, lent.pages, lent.tables),
     |_, lent| compact(lent.tables, lent.pages, lent.spare),
-    // The same under the Bench profile.
-    |n, lent| answer(try_create(Bench, lent.tables, lent.pages, n[0], n[1])),
-    |n, lent| {
-        let Lent { tables, pages, bytes, .. } = lent;
-        answer(try_write(BENCH_BY_EIGHTS, tables, pages, n[0], n[1], n[2], bytes))
-    },
-    |n, lent| {
-        let Lent { tables, pages, bytes, .. } = lent;
-        answer(try_write(BENCH_NARROW, tables, pages, n[0], n[1], n[2], bytes))
-    },
-    |n, lent| answer(try_truncate(Bench, lent.tables, lent.pages, n[0], n[1], n[2])),
-    |n, lent| answer(try_delete(Bench, lent.tables, lent.pages, n[0], n[1])),
-    |n, lent| answer(try_make(Bench, lent.tables, lent.pages, n[0], n[1], n[2])),
-    |n, lent| answer(try_remove(Bench, lent.tables, lent.pages, n[0])),
-    |n, lent| {
-        let date = Date { year: n[1], month: n[2], day: n[3] };
-        answer(try_set_term(Bench, lent.tables, lent.pages, n[0], date, n[4]))
-    },
-    |_, lent| answer(try_compact(Bench, lent.tables, lent.pages, lent.spare)),
-    |n, lent| panel::write_under(Bench, lent.registers, lent.tables, lent.pages, n[0], n[1] as u8),
-    // A write by groups of any size has no function.
     |n, lent| write_groups(lent.tables, lent.pages, n[0] as usize, n[1], n[2], n[3], lent.bytes),
 ];
 
@@ -292,13 +266,7 @@ fn try_format(tables: &mut [u8], pages: &mut [u8]) -> Outcome {
 }
 
 /// "Create leaves an own file, size 0, all holes."
-pub(crate) fn try_create(
-    profile: Profile,
-    tables: &mut [u8],
-    pages: &[u8],
-    set: u32,
-    file: u32,
-) -> Outcome {
+fn try_create(tables: &mut [u8], pages: &[u8], set: u32, file: u32) -> Outcome {
     let mut state = open(tables, pages)?;
     let set = used_set(&state, set)?;
     let file = file_number(file)?;
@@ -307,29 +275,17 @@ pub(crate) fn try_create(
     if state.files[set][file].is_present() {
         return Err(9);
     }
-    profile.takes_change(&state)?;
     state.files[set][file] =
         FileRecord { state: FileState::Own, entries: [HOLE; PAGES], ..ABSENT_FILE };
     state.pack(tables);
     Ok([0, 0, 0])
 }
 
-/// How a write is made: under which profile, and by groups of how many pages.
-#[derive(Clone, Copy)]
-struct Manner {
-    profile: Profile,
-    group: usize,
-}
-
-const BY_EIGHTS: Manner = Manner { profile: Full, group: WRITE_GROUP };
-const NARROW: Manner = Manner { profile: Full, group: NARROW_GROUP };
-const BENCH_BY_EIGHTS: Manner = Manner { profile: Bench, group: WRITE_GROUP };
-const BENCH_NARROW: Manner = Manner { profile: Bench, group: NARROW_GROUP };
-
+/// A write by groups of `group` pages.
 fn try_write(
-    Manner { profile, group }: Manner,
     tables: &mut [u8],
     pages: &mut [u8],
+    group: usize,
     set: u32,
     file: u32,
     offset: u32,
@@ -346,20 +302,18 @@ fn try_write(
     if end > LARGEST_SIZE as u64 {
         return Err(7);
     }
+    // "A write of length 0 passes checks 1 to 7 and changes nothing."
+    if data.is_empty() {
+        return Ok([0, 0, 0]);
+    }
     let (offset, end) = (offset as usize, end as usize);
-    let touched = touched_pages(offset, data.len());
+    let touched: Vec<usize> = (offset / PAGE_BYTES..=(end - 1) / PAGE_BYTES).collect();
 
     // Step 1: "Own need is the touched pages not stored in this file's map."
     // Extra pages are not in it.
     let own_pages: Vec<usize> =
         touched.iter().copied().filter(|page| !state.is_stored(set, file, *page)).collect();
     room_for(&state, own_pages.len())?;
-    profile.takes_change(&state)?;
-    // "A write of length 0 passes checks 1 to 7 and changes nothing." It touches no page,
-    // so it needs no block; the Bench profile's check has it "even" so.
-    if data.is_empty() {
-        return Ok([0, 0, 0]);
-    }
     state.step_2(set, file);
     // Step 3: "Own blocks are taken, pages ascending; they enter the map in
     // step 5."
@@ -381,14 +335,6 @@ fn try_write(
     record.size = record.size.max(end);
     state.pack(tables);
     Ok([own.len() as u32, copies + extra_copies, marked])
-}
-
-/// "touching the pages that hold its bytes", none of a write of length 0.
-fn touched_pages(offset: usize, length: usize) -> Vec<usize> {
-    if length == 0 {
-        return Vec::new();
-    }
-    (offset / PAGE_BYTES..=(offset + length - 1) / PAGE_BYTES).collect()
 }
 
 /// The other pages of the groups that a write touches, ascending. Group n of g
@@ -485,14 +431,7 @@ pub fn read_bytes(
     maps
 }
 
-fn try_truncate(
-    profile: Profile,
-    tables: &mut [u8],
-    pages: &mut [u8],
-    set: u32,
-    file: u32,
-    size: u32,
-) -> Outcome {
+fn try_truncate(tables: &mut [u8], pages: &mut [u8], set: u32, file: u32, size: u32) -> Outcome {
     let mut state = open(tables, pages)?;
     let set = used_set(&state, set)?;
     let file = file_number(file)?;
@@ -505,9 +444,6 @@ fn try_truncate(
     }
     let new_size = size as usize;
     let old_size = state.size_by_reading(set, file);
-    let needs_own = new_size < old_size && needs_own_block(&state, set, file, new_size);
-    room_for(&state, usize::from(needs_own))?;
-    profile.takes_change(&state)?;
     let counts = match new_size.cmp(&old_size) {
         // "At t equal to the size, nothing changes."
         std::cmp::Ordering::Equal => return Ok([0, 0, 0]),
@@ -517,7 +453,7 @@ fn try_truncate(
             [0, 0, 0]
         }
         std::cmp::Ordering::Less => {
-            truncate_below(&mut state, pages, set, file, new_size, old_size)
+            truncate_below(&mut state, pages, set, file, new_size, old_size)?
         }
     };
     state.files[set][file].size = new_size;
@@ -525,16 +461,7 @@ fn try_truncate(
     Ok(counts)
 }
 
-/// Of a truncate below the size: "Own need is 1 if t is no multiple of 512 and its page
-/// resolves to stored but is not stored in this map, else 0."
-fn needs_own_block(state: &State, set: usize, file: usize, new_size: usize) -> bool {
-    let page = new_size / PAGE_BYTES;
-    new_size % PAGE_BYTES != 0
-        && state.resolve(set, file, page) != Resolved::Hole
-        && !state.is_stored(set, file, page)
-}
-
-/// Truncate below the size, after step 1: all but the new size itself.
+/// Truncate below the size: all but the new size itself.
 fn truncate_below(
     state: &mut State,
     pages: &mut [u8],
@@ -542,18 +469,23 @@ fn truncate_below(
     file: usize,
     new_size: usize,
     old_size: usize,
-) -> [u32; 3] {
+) -> Outcome {
     // "touched pages run from t divided by 512, rounded down, to the old last
     // page"
     let first = new_size / PAGE_BYTES;
     let touched: Vec<usize> = (first..=(old_size - 1) / PAGE_BYTES).collect();
     let has_part_page = new_size % PAGE_BYTES != 0;
-    let needs_own = needs_own_block(state, set, file, new_size);
+    // "Own need is 1 if t is no multiple of 512 and its page resolves to
+    // stored but is not stored in this map, else 0."
+    let needs_own = has_part_page
+        && state.resolve(set, file, first) != Resolved::Hole
+        && !state.is_stored(set, file, first);
     // "All other touched pages become holes in this map": the call drops them
     // whole, the old last page too, wherever in it the size ends.
     let dropped: Vec<usize> =
         touched.iter().copied().filter(|page| !(has_part_page && *page == first)).collect();
     // "Steps 1 to 4 follow."
+    room_for(state, usize::from(needs_own))?;
     state.step_2(set, file);
     let own_block = needs_own.then(|| take_own(state));
     let (copies, marked) = state.step_4(pages, set, file, &touched, &dropped);
@@ -565,7 +497,7 @@ fn truncate_below(
         zero_from(state, pages, set, file, new_size);
     }
     turn_to_holes(state, set, file, &dropped);
-    [u32::from(needs_own), copies, marked]
+    Ok([u32::from(needs_own), copies, marked])
 }
 
 /// "All other touched pages become holes in this map, their blocks free."
@@ -592,19 +524,12 @@ fn zero_from(state: &State, pages: &mut [u8], set: usize, file: usize, size: usi
 /// "Delete does step 2 for the children and step 4 for all 64 pages, frees
 /// the file's blocks, leaves it absent. A marked file is only freed and made
 /// absent."
-pub(crate) fn try_delete(
-    profile: Profile,
-    tables: &mut [u8],
-    pages: &mut [u8],
-    set: u32,
-    file: u32,
-) -> Outcome {
+fn try_delete(tables: &mut [u8], pages: &mut [u8], set: u32, file: u32) -> Outcome {
     let mut state = open(tables, pages)?;
     let set = used_set(&state, set)?;
     let file = file_number(file)?;
     in_writeable_set(&state, set)?;
     present(&state, set, file)?;
-    profile.takes_change(&state)?;
     let (mut copies, mut marked) = (0, 0);
     if state.files[set][file].state != FileState::Marked {
         state.virgin_children_to_own(set, file);
@@ -621,14 +546,7 @@ pub(crate) fn try_delete(
 
 /// "Making a set appends it to the parent's chain; own and virgin files
 /// become virgin in it, marked ones marked, all entries unmapped, size 0."
-pub(crate) fn try_make(
-    profile: Profile,
-    tables: &mut [u8],
-    pages: &[u8],
-    parent: u32,
-    set: u32,
-    writeable: u32,
-) -> Outcome {
+fn try_make(tables: &mut [u8], pages: &[u8], parent: u32, set: u32, writeable: u32) -> Outcome {
     let mut state = open(tables, pages)?;
     let parent = used_set(&state, parent)?;
     let set = set_number(set)?;
@@ -640,8 +558,6 @@ pub(crate) fn try_make(
     if state.sets[parent].level == HIGHEST_LEVEL {
         return Err(10);
     }
-    let writeable = writeable != 0;
-    profile.takes_making(&state, parent, writeable)?;
     match state.children(parent).last() {
         Some(last) => state.sets[*last].next_sibling = set,
         None => state.sets[parent].first_child = set,
@@ -650,7 +566,7 @@ pub(crate) fn try_make(
     // one."
     state.sets[set] = SetRecord {
         used: true,
-        writeable,
+        writeable: writeable != 0,
         level: state.sets[parent].level + 1,
         parent,
         first_child: NONE,
@@ -674,15 +590,9 @@ pub(crate) fn try_make(
 }
 
 /// "Removing frees its blocks and unlinks it."
-pub(crate) fn try_remove(
-    profile: Profile,
-    tables: &mut [u8],
-    pages: &[u8],
-    set: u32,
-) -> Outcome {
+fn try_remove(tables: &mut [u8], pages: &[u8], set: u32) -> Outcome {
     let mut state = open(tables, pages)?;
     let set = used_set(&state, set)?;
-    profile.takes_change(&state)?;
     // 11: "removing a set with children"
     if state.sets[set].first_child != NONE {
         return Err(11);
@@ -748,17 +658,9 @@ fn try_check(tables: &[u8], pages: &[u8]) -> Outcome {
 /// Document 02: "It refuses a date that does not exist or lies outside these years with
 /// 14, and a month count of 0 or over 120 with 15, both after 2, with 14 first." Any used
 /// set has a term, set 0 and read-only ones too.
-fn try_set_term(
-    profile: Profile,
-    tables: &mut [u8],
-    pages: &[u8],
-    set: u32,
-    date: Date,
-    months: u32,
-) -> Outcome {
+fn try_set_term(tables: &mut [u8], pages: &[u8], set: u32, date: Date, months: u32) -> Outcome {
     let mut state = open(tables, pages)?;
     let set = used_set(&state, set)?;
-    profile.takes_change(&state)?;
     let first_day = dates::day_number(date).ok_or(14u32)?;
     if months == 0 || months > dates::MOST_MONTHS {
         return Err(15);
@@ -808,14 +710,8 @@ fn try_convert(older: &[u8], pages: &[u8], tables: &mut [u8]) -> Outcome {
 /// then page, and moves the pages to suit, with one spare page of 512 bytes lent for it."
 /// The new pages are built from a copy of the old ones, so the spare page is not needed
 /// here.
-fn try_compact(
-    profile: Profile,
-    tables: &mut [u8],
-    pages: &mut [u8],
-    spare: &mut [u8],
-) -> Outcome {
+fn try_compact(tables: &mut [u8], pages: &mut [u8], spare: &mut [u8]) -> Outcome {
     let mut state = open(tables, pages)?;
-    profile.takes_change(&state)?;
     // "It refuses a spare page of other than 512 bytes with 16, after 1; any refusal
     // leaves the spare page too."
     if spare.len() != PAGE_BYTES {

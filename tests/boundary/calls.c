@@ -3,12 +3,11 @@
 #include <string.h>
 #include "calls.h"
 #include "lists.h"
-#include "sweep_bench.h"
 
 /* The second implementation. */
 extern sweep_answer judge(uint32_t name, const uint32_t *n, const struct slice *lent);
 
-/* How each is called: its arguments in the order of sweep.h and sweep_bench.h. */
+/* How each is called: its arguments in the order of sweep.h. */
 
 #define SLICE(buffer) call->lent[buffer].at, call->lent[buffer].length
 #define STORE SLICE(TABLES), SLICE(PAGES)
@@ -37,16 +36,6 @@ RUN(set_term, sweep_set_term(STORE, N(0), N(1), N(2), N(3), N(4)))
 RUN(current, sweep_current(STORE, N(0), N(1)))
 RUN(convert, sweep_convert(SLICE(SECOND), SLICE(PAGES), SLICE(TABLES)))
 RUN(compact, sweep_compact(STORE, SLICE(SPARE)))
-RUN(bench_create, sweep_bench_create(STORE, N(0), N(1)))
-RUN(bench_write, sweep_bench_write(STORE, N(0), N(1), N(2), SLICE(BYTES)))
-RUN(bench_write_narrow, sweep_bench_write_narrow(STORE, N(0), N(1), N(2), SLICE(BYTES)))
-RUN(bench_truncate, sweep_bench_truncate(STORE, N(0), N(1), N(2)))
-RUN(bench_delete, sweep_bench_delete(STORE, N(0), N(1)))
-RUN(bench_make, sweep_bench_make(STORE, N(0), N(1), N(2)))
-RUN(bench_remove, sweep_bench_remove(STORE, N(0)))
-RUN(bench_set_term, sweep_bench_set_term(STORE, N(0), N(1), N(2), N(3), N(4)))
-RUN(bench_compact, sweep_bench_compact(STORE, SLICE(SPARE)))
-RUN(bench_panel_write, sweep_bench_panel_write(SLICE(REGISTERS), STORE, N(0), (uint8_t)N(1)))
 
 /* What an accepted compaction leaves free: the pages of free blocks, which are the last ones, and the spare page. */
 static void free_after_compaction(const struct call *after, enum buffer buffer, uint8_t *free)
@@ -66,7 +55,6 @@ static void free_after_compaction(const struct call *after, enum buffer buffer, 
 #define A_FILE {32, present_file}
 #define A_PLACE {32, place_in_file}
 #define A_REGISTER {32, panel_offset}
-#define A_DATE {32, year_of_date}, {32, month_of_date}, {32, day_of_date}
 
 static const struct function functions[CALLS] = {
     [FORMAT] = {.name = "format", .run = run_format, .lends = {STORE_CHANGED}, .prepare = pages_for_format},
@@ -93,52 +81,16 @@ static const struct function functions[CALLS] = {
                      .numbers = {A_REGISTER, {8, panel_value}}, .unchecked = 1},
     [PANEL_LINE] = {.name = "panel_line", .run = run_panel_line, .lends = {[REGISTERS] = READ_ONLY}, .unchecked = 1},
     [SET_TERM] = {.name = "set_term", .run = run_set_term, .lends = {STORE_CHANGED},
-                  .numbers = {SET, A_DATE, {32, count_of_months}}},
+                  .numbers = {SET, {32, year_of_date}, {32, month_of_date}, {32, day_of_date}, {32, count_of_months}}},
     [CURRENT] = {.name = "current", .run = run_current, .lends = {STORE_READ}, .numbers = {SET, {32, day_near_term}}},
     /* the second tables are the older ones, of either length; what the new buffer holds does not matter */
     [CONVERT] = {.name = "convert", .run = run_convert,
                  .lends = {[TABLES] = CHANGED, [PAGES] = READ_ONLY, [SECOND] = READ_ONLY}, .unchecked = 1, .prepare = old_tables},
     [COMPACT] = {.name = "compact", .run = run_compact, .lends = {STORE_CHANGED, [SPARE] = CHANGED},
                  .leaves = free_after_compaction, .prepare = spare_page},
-    /* under the Bench profile, each as the one without it */
-    [BENCH_CREATE] = {.name = "bench_create", .run = run_bench_create, .lends = {STORE_CHANGED}, .numbers = {SET, {32, absent_file}}},
-    [BENCH_WRITE] = {.name = "bench_write", .run = run_bench_write, .lends = {STORE_CHANGED, [BYTES] = READ_ONLY},
-                     .numbers = {SET, A_FILE, A_PLACE}, .copies = 1, .prepare = data_to_write},
-    [BENCH_WRITE_NARROW] = {.name = "bench_write_narrow", .run = run_bench_write_narrow,
-                            .lends = {STORE_CHANGED, [BYTES] = READ_ONLY}, .numbers = {SET, A_FILE, A_PLACE}, .copies = 1,
-                            .prepare = data_to_write},
-    [BENCH_TRUNCATE] = {.name = "bench_truncate", .run = run_bench_truncate, .lends = {STORE_CHANGED},
-                        .numbers = {SET, A_FILE, A_PLACE}, .copies = 1},
-    [BENCH_DELETE] = {.name = "bench_delete", .run = run_bench_delete, .lends = {STORE_CHANGED}, .numbers = {SET, A_FILE}, .copies = 1},
-    [BENCH_MAKE] = {.name = "bench_make", .run = run_bench_make, .lends = {STORE_CHANGED},
-                    .numbers = {SET, {32, unused_set}, {32, yes_or_no}}},
-    [BENCH_REMOVE] = {.name = "bench_remove", .run = run_bench_remove, .lends = {STORE_CHANGED}, .numbers = {SET}},
-    [BENCH_SET_TERM] = {.name = "bench_set_term", .run = run_bench_set_term, .lends = {STORE_CHANGED},
-                        .numbers = {SET, A_DATE, {32, count_of_months}}},
-    [BENCH_COMPACT] = {.name = "bench_compact", .run = run_bench_compact, .lends = {STORE_CHANGED, [SPARE] = CHANGED},
-                       .leaves = free_after_compaction, .prepare = spare_page},
-    [BENCH_PANEL_WRITE] = {.name = "bench_panel_write", .run = run_bench_panel_write, .lends = {STORE_CHANGED, [REGISTERS] = CHANGED},
-                           .numbers = {A_REGISTER, {8, panel_value}}, .unchecked = 1},
 };
 
 struct suite exported = {functions, CALLS, judge, {{{0}}, 0, 0}};
-
-/* The calls of the full store that have one under the Bench profile, in the order of these. */
-static const unsigned profiled[] = {CREATE, WRITE, WRITE_NARROW, TRUNCATE, DELETE, MAKE, REMOVE, SET_TERM, COMPACT, PANEL_WRITE};
-enum { PROFILED = sizeof profiled / sizeof *profiled };
-
-unsigned under_profile(unsigned name)
-{
-    for (unsigned i = 0; i < PROFILED; i++)
-        if (profiled[i] == name)
-            return BENCH_CREATE + i;
-    return name;
-}
-
-unsigned of_full_store(unsigned name)
-{
-    return name - BENCH_CREATE < PROFILED ? profiled[name - BENCH_CREATE] : name;
-}
 
 int is_command(uint32_t value)
 {
@@ -148,19 +100,6 @@ int is_command(uint32_t value)
 int set_is_used(const uint8_t *tables, uint32_t set)
 {
     return tables[SETS_AT + SET_BYTES * set] >> 7;
-}
-
-int set_is_writeable(const uint8_t *tables, uint32_t set)
-{
-    return tables[SETS_AT + SET_BYTES * set] >> 6 & 1;
-}
-
-uint32_t used_sets(const uint8_t *tables)
-{
-    uint32_t used = 0;
-    for (uint32_t set = 0; set < SWEEP_SETS; set++)
-        used += (uint32_t)set_is_used(tables, set);
-    return used;
 }
 
 static const uint8_t *term_of(const uint8_t *tables, uint32_t set)

@@ -6,9 +6,7 @@
 
 /* The places of their rows; the judge has the same (oracle/src/names.rs). */
 enum { FORMAT, CREATE, WRITE, READ, TRUNCATE, DELETE, MAKE, REMOVE, SIZE, FREE, CHECK_BLOCKS, CHECK, WRITE_NARROW,
-       PANEL_RESET, PANEL_READ, PANEL_WRITE, PANEL_LINE, SET_TERM, CURRENT, CONVERT, COMPACT,
-       BENCH_CREATE, BENCH_WRITE, BENCH_WRITE_NARROW, BENCH_TRUNCATE, BENCH_DELETE, BENCH_MAKE, BENCH_REMOVE, BENCH_SET_TERM,
-       BENCH_COMPACT, BENCH_PANEL_WRITE, CALLS };
+       PANEL_RESET, PANEL_READ, PANEL_WRITE, PANEL_LINE, SET_TERM, CURRENT, CONVERT, COMPACT, CALLS };
 
 /* Places in the tables: the bitmap from BITMAP_AT on; set records from SETS_AT on, each with its term, first day and end day, TERM_AT bytes behind its start; then
  * file records. Before the terms set records ended there. */
@@ -23,18 +21,11 @@ enum { UNMAPPED, HOLE, STORED };
 /* The exported functions with the second implementation (judge/). */
 extern struct suite exported;
 
-/* The same call under the Bench profile, and the same call of the full store; itself, where there is none. */
-unsigned under_profile(unsigned name);
-unsigned of_full_store(unsigned name);
-
 /* Whether a value written to the command register of the front panel is a command. */
 int is_command(uint32_t value);
 
-/* What the tables say, whatever they hold: whether a set, from 0 to 7, is used, whether it is writeable, how many are used, and the
- * days of its term. */
+/* What the tables say, whatever they hold: whether a set, from 0 to 7, is used, and the days of its term. */
 int set_is_used(const uint8_t *tables, uint32_t set);
-int set_is_writeable(const uint8_t *tables, uint32_t set);
-uint32_t used_sets(const uint8_t *tables);
 uint32_t first_day(const uint8_t *tables, uint32_t set);
 uint32_t end_day(const uint8_t *tables, uint32_t set);
 void put_term(uint8_t *tables, uint32_t set, uint32_t first, uint32_t end);

@@ -8,7 +8,7 @@
 struct done {
     const struct call *call;
     sweep_answer answer;
-    const uint8_t *tables, *pages, *registers; /* before the call; tables and registers where they had their length */
+    const uint8_t *tables, *pages; /* before the call; the tables where they had their length */
 };
 
 struct fault {
@@ -34,9 +34,8 @@ void touch(uint8_t *at);
 void change_before(struct slice lent);
 void change_past(struct slice lent);
 
-/* Those of a compaction (compaction_faults.c), those of marking and of the converter with marked files (marking_faults.c), and those of
- * the Bench profile (profile_faults.c). */
-extern const struct fault compaction_faults[], marking_faults[], profile_faults[];
-extern const int compaction_fault_count, marking_fault_count, profile_fault_count;
+/* Those of a compaction (compaction_faults.c), and those of marking and of the converter with marked files (marking_faults.c). */
+extern const struct fault compaction_faults[], marking_faults[];
+extern const int compaction_fault_count, marking_fault_count;
 
 #endif

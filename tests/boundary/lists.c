@@ -384,51 +384,34 @@ typedef void changes(struct buffers *world, struct cursor *cursor);
 
 /* Lists */
 
-/* What a byte of a list asks for: a change from outside, or a call. Each has so many of the values of a byte; there is a row for every
- * value. A new row takes some of the values of an old one and stands behind it: in corpus.txt only these change their meaning. A call
- * under the Bench profile reads the same bytes of a list as the one without it, whose values it has taken, so that what comes after it
- * stays too. */
+/* What a byte of a list asks for: a change from outside, or a call. Each has so many of the values of a byte; those behind the
+ * last are those from 128 less on. New rows stand at the end: in corpus.txt only the values that a new row takes change their
+ * meaning. */
 struct kind {
     unsigned slots;
-    unsigned name;   /* of a call, COMMAND or BENCH_COMMAND */
+    unsigned name;   /* of a call, or COMMAND */
     changes *change; /* or 0 */
 };
-enum { COMMAND = CALLS, BENCH_COMMAND }; /* a command of the front panel, with the registers that it takes */
+enum { COMMAND = CALLS }; /* a command of the front panel, with the registers that it takes */
 static const struct kind kinds[] = {
-    {30, WRITE_NARROW, 0}, {6, BENCH_WRITE_NARROW, 0}, {10, CREATE, 0}, {2, BENCH_CREATE, 0}, {12, MAKE, 0}, {4, BENCH_MAKE, 0},
-    {6, DELETE, 0}, {2, BENCH_DELETE, 0}, {12, TRUNCATE, 0}, {4, BENCH_TRUNCATE, 0}, {5, REMOVE, 0}, {3, BENCH_REMOVE, 0},
-    {12, READ, 0}, {4, SIZE, 0}, {4, FREE, 0}, {5, 0, damage_tables}, {4, 0, change_a_page}, {2, 0, choose_lengths}, {1, FORMAT, 0},
-    {4, CHECK_BLOCKS, 0}, {4, CHECK, 0}, {30, WRITE, 0}, {6, BENCH_WRITE, 0}, {8, PANEL_WRITE, 0}, {2, BENCH_PANEL_WRITE, 0},
-    {4, PANEL_READ, 0}, {3, PANEL_LINE, 0}, {1, PANEL_RESET, 0}, {11, COMMAND, 0}, {5, BENCH_COMMAND, 0}, {2, 0, change_registers},
-    {1, 0, choose_registers}, {10, SET_TERM, 0}, {4, BENCH_SET_TERM, 0}, {8, CURRENT, 0}, {8, CONVERT, 0}, {3, 0, change_a_term},
-    {2, 0, give_old_tables}, {5, COMPACT, 0}, {3, BENCH_COMPACT, 0}, {4, 0, load_tables},
+    {36, WRITE_NARROW, 0}, {12, CREATE, 0}, {16, MAKE, 0},         {8, DELETE, 0},         {16, TRUNCATE, 0},
+    {8, REMOVE, 0}, {12, READ, 0},         {4, SIZE, 0},          {4, FREE, 0},           {5, 0, damage_tables},
+    {4, 0, change_a_page}, {2, 0, choose_lengths}, {1, FORMAT, 0},        {4, CHECK_BLOCKS, 0},   {4, CHECK, 0},
+    {36, WRITE, 0}, {10, PANEL_WRITE, 0}, {4, PANEL_READ, 0}, {3, PANEL_LINE, 0}, {1, PANEL_RESET, 0},
+    {16, COMMAND, 0}, {2, 0, change_registers}, {1, 0, choose_registers}, {14, SET_TERM, 0}, {8, CURRENT, 0}, {8, CONVERT, 0},
+    {3, 0, change_a_term}, {2, 0, give_old_tables}, {8, COMPACT, 0}, {4, 0, load_tables},
 };
 enum { KINDS = sizeof kinds / sizeof *kinds };
 
 static const struct kind *some_kind(struct cursor *cursor)
 {
-    unsigned kind = 0, rest = next(cursor);
-    while (kind < KINDS - 1 && rest >= kinds[kind].slots)
+    unsigned all = 0, kind = 0;
+    for (unsigned i = 0; i < KINDS; i++)
+        all += kinds[i].slots;
+    unsigned byte = next(cursor), rest = byte < all ? byte : byte - 128;
+    while (rest >= kinds[kind].slots)
         rest -= kinds[kind++].slots;
     return &kinds[kind];
-}
-
-/* Lists would soon have more sets than the Bench profile takes. So the first byte, which chooses the blocks, says too how far a list is
- * held to the profile: as its bytes ask; all calls that change the store under the profile; or these too but for removals and every
- * fourth call, so that the store goes beyond it and comes back. */
-enum hold { AS_LISTED, HELD, NEARLY_HELD };
-
-static enum hold hold_of(uint8_t byte)
-{
-    return byte < 128 ? AS_LISTED : byte < 192 ? HELD : NEARLY_HELD;
-}
-
-static unsigned held_to(enum hold hold, unsigned name, unsigned turn)
-{
-    int full = hold == AS_LISTED || (hold == NEARLY_HELD && (name == REMOVE || turn % 4 == 0));
-    if (name == COMMAND)
-        return full ? COMMAND : BENCH_COMMAND;
-    return full || name == BENCH_COMMAND ? name : under_profile(name);
 }
 
 /* Does a call. After a 13 the registers have their length again. */
@@ -452,16 +435,15 @@ static sweep_answer one_call(struct buffers *world, unsigned name, struct cursor
     return try_call(world, &call, how, turn);
 }
 
-/* A command of the front panel that can be accepted: its set, file and other are written to their registers before it, by the same
- * function. */
-static void one_command(struct buffers *world, unsigned name, struct cursor *cursor, caller how, unsigned turn)
+/* A command of the front panel that can be accepted: its set, file and other are written to their registers before it. */
+static void one_command(struct buffers *world, struct cursor *cursor, caller how, unsigned turn)
 {
     uint32_t command = PICK(commands, next(cursor)), set = some_set(world, cursor, 1);
     uint32_t file = some_file(world, cursor, set, command != SWEEP_PANEL_CREATE), other = some_set(world, cursor, 0);
     const uint32_t writes[][2] = {{SWEEP_PANEL_SET, set}, {SWEEP_PANEL_FILE, file}, {SWEEP_PANEL_OTHER, other},
                                   {SWEEP_PANEL_COMMAND, command}};
     for (int i = 0; i < 4; i++) {
-        const struct call call = {name, {writes[i][0], writes[i][1]}, {{0, 0}}};
+        const struct call call = {PANEL_WRITE, {writes[i][0], writes[i][1]}, {{0, 0}}};
         try_call(world, &call, how, turn);
     }
 }
@@ -485,7 +467,6 @@ void run_list(const uint8_t *data, size_t length, caller how)
 {
     static struct buffers world, kept;
     struct cursor cursor = {data, data + length};
-    enum hold hold = hold_of(length ? data[0] : 0);
     begin(&world, &cursor, how);
     copy_buffers(&kept, &world);
     for (unsigned turn = 2; cursor.at < cursor.end; turn++) {
@@ -494,16 +475,15 @@ void run_list(const uint8_t *data, size_t length, caller how)
             kind->change(&world, &cursor);
             continue;
         }
-        unsigned name = held_to(hold, kind->name, turn);
-        if (name >= CALLS) { /* accepted writes, whatever the tables hold: the store is not put back, and not kept */
-            one_command(&world, name == COMMAND ? PANEL_WRITE : BENCH_PANEL_WRITE, &cursor, how, turn);
+        if (kind->name == COMMAND) { /* accepted writes, whatever the tables hold: the store is not put back, and not kept */
+            one_command(&world, &cursor, how, turn);
             continue;
         }
-        sweep_answer answer = one_call(&world, name, &cursor, how, turn);
+        sweep_answer answer = one_call(&world, kind->name, &cursor, how, turn);
         /* a store that was damaged, or told with wrong lengths, is put back */
         if (answer.number == SWEEP_BAD_TABLES)
             copy_buffers(&world, &kept);
-        else if (!exported.functions[name].unchecked)
+        else if (!exported.functions[kind->name].unchecked)
             copy_buffers(&kept, &world);
     }
 }

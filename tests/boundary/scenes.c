@@ -121,7 +121,7 @@ void run_scene(const struct scene *scene, struct buffers *world, caller how, uns
         const struct step *step = &scene->steps[i];
         struct call call = {step->name, {0}, {{0, 0}}};
         memcpy(call.n, step->n, sizeof call.n);
-        world->length[BYTES] = world->length[SPARE] = step->bytes;
+        world->length[BYTES] = step->bytes;
         memset(world->of[BYTES], i + 1, step->bytes);
         sweep_answer given = do_call(&exported, how, world, &call, turn + (unsigned)i);
         if (look)

@@ -1,5 +1,4 @@
-/* Short lists of calls with what each call gives: files marked in nearly full stores (scenes.c), and calls under the Bench profile
- * (profile_scenes.c). */
+/* Short lists of calls in which files are marked in nearly full stores, with what each call gives. */
 #ifndef SCENES_H
 #define SCENES_H
 
@@ -7,7 +6,7 @@
 
 enum { SCENE_STEPS = 24 };
 
-/* A call: its numbers, and how many bytes its data, its read buffer or its spare page has. */
+/* A call: its numbers, and how many bytes its data or its read buffer has. */
 struct step {
     unsigned name;
     uint32_t n[MOST_NUMBERS];
@@ -21,8 +20,8 @@ struct scene {
     uint32_t blocks;
     struct step steps[SCENE_STEPS];
 };
-extern const struct scene scenes[], profile_scenes[];
-extern const int scene_count, profile_scene_count;
+extern const struct scene scenes[];
+extern const int scene_count;
 
 /* Looks at what a call gave and left. */
 typedef void looks(const struct scene *scene, const struct step *step, sweep_answer given, const struct buffers *after);

@@ -1,8 +1,7 @@
 /* Shows that the harness notices what it is there for: each fault is done after a right call, in a process of its own that has
  * to end badly. What a right store may do is done in the same way, and the process has to end well. The faults of compactions are
- * in compaction_faults.c, those of marking and of marked files in marking_faults.c: each is noticed in random lists or in the scenes.
- * Those of the Bench profile are in profile_faults.c: each is noticed in random lists alone, and in the scenes of the profile alone.
- * Exit status: 0 all noticed that have to be, and nothing else, 1 not. Built without sanitizers, so that they have no part in it. */
+ * in compaction_faults.c, those of marking and of marked files in marking_faults.c. Exit status: 0 all noticed that have to be, and nothing else, 1 not. Built without sanitizers, so that
+ * they have no part in it. */
 #define _DEFAULT_SOURCE
 #include <stdio.h>
 #include <stdlib.h>
@@ -390,16 +389,18 @@ static sweep_answer call_with_fault(const struct call *call)
     if (call->lent[TABLES].length == sizeof tables_before)
         memcpy(tables_before, call->lent[TABLES].at, sizeof tables_before);
     memcpy(pages_before, call->lent[PAGES].at, call->lent[PAGES].length);
-    struct done done = {call, call_plainly(&made), tables_before, pages_before, before};
+    struct done done = {call, call_plainly(&made), tables_before, pages_before};
     if (fault)
         fault(&done);
     return done.answer;
 }
 
-static void run_lists(void)
+static void run_lists(void (*does)(struct done *done))
 {
+    static struct buffers world;
     uint8_t data[900];
     uint32_t state = 12345;
+    fault = does;
     for (int list = 0; list < 400; list++) {
         for (size_t i = 0; i < sizeof data; i++) {
             state = state * 1664525u + 1013904223u;
@@ -407,26 +408,13 @@ static void run_lists(void)
         }
         run_list(data, sizeof data, call_with_fault);
     }
+    for (int i = 0; i < scene_count; i++)
+        run_scene(&scenes[i], &world, call_with_fault, (unsigned)i, 0);
 }
 
-static void run_scenes(const struct scene *list, int count)
-{
-    static struct buffers world;
-    for (int i = 0; i < count; i++)
-        run_scene(&list[i], &world, call_with_fault, (unsigned)i, 0);
-}
-
-static void run_lists_and_scenes(void)
-{
-    run_lists();
-    run_scenes(scenes, scene_count);
-}
-
-static void run_profile_scenes(void) { run_scenes(profile_scenes, profile_scene_count); }
-
-/* Runs this with each fault in a process of its own. Gives how many were not told from a right store, or taken for a fault where
+/* Runs lists with each fault in a process of its own. Gives how many were not told from a right store, or taken for a fault where
  * they are none, or -1. */
-static int missed(const struct fault *list, int count, void (*run)(void), const char *where)
+static int missed(const struct fault *list, int count)
 {
     int missed = 0;
     for (int i = 0; i < count; i++) {
@@ -434,8 +422,7 @@ static int missed(const struct fault *list, int count, void (*run)(void), const 
         if (child == 0) {
             if (!freopen("/dev/null", "w", stderr))
                 _exit(2);
-            fault = list[i].does;
-            run();
+            run_lists(list[i].does);
             _exit(0);
         }
         int status = 0;
@@ -443,7 +430,7 @@ static int missed(const struct fault *list, int count, void (*run)(void), const 
             return -1;
         int noticed = WIFSIGNALED(status);
         if (noticed != list[i].noticed) {
-            printf("selftest: %s was %s in %s\n", list[i].name, noticed ? "taken for a fault" : "not noticed", where);
+            printf("selftest: %s was %s\n", list[i].name, noticed ? "taken for a fault" : "not noticed");
             missed++;
         }
     }
@@ -463,27 +450,16 @@ int main(void)
     const struct {
         const struct fault *list;
         int count;
-        void (*run)(void);
-        const char *where;
-    } lists[] = {
-        {faults, FAULTS, run_lists_and_scenes, "lists and scenes"},
-        {compaction_faults, compaction_fault_count, run_lists_and_scenes, "lists and scenes"},
-        {marking_faults, marking_fault_count, run_lists_and_scenes, "lists and scenes"},
-        {profile_faults, profile_fault_count, run_lists, "lists"},
-    };
+    } lists[] = {{faults, FAULTS}, {compaction_faults, compaction_fault_count}, {marking_faults, marking_fault_count}};
     int all = 0, noticed = 0, wrong = 0;
-    for (int i = 0; i < 4; i++) {
-        int more = missed(lists[i].list, lists[i].count, lists[i].run, lists[i].where);
+    for (int i = 0; i < 3; i++) {
+        int more = missed(lists[i].list, lists[i].count);
         if (more < 0)
             return 2;
         wrong += more;
         all += lists[i].count;
         noticed += to_notice(lists[i].list, lists[i].count);
     }
-    int again = missed(profile_faults, profile_fault_count, run_profile_scenes, "the scenes of the profile");
-    if (again < 0)
-        return 2;
-    wrong += again;
     printf("selftest: %d faults and %d that are none, %d of all told wrongly\n", noticed, all - noticed, wrong);
     return wrong != 0;
 }

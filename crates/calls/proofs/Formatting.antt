@@ -11,7 +11,7 @@ use Rattle.base.specs.Tabulate.{tab_of}
 use Rattle.calls.specs.Outcomes.{answer_meant, outcome}
 use Rattle.pages.specs.Run.{length_zeroed, zeroed, zeroed_in}
 use Rattle.rules.specs.Calls.{accepted, blank_memory, formatted, tables_of}
-use Rattle.rules.specs.Numbers.{Answer, conditions, first_applying, format, no_counts, number_of, refusal}
+use Rattle.rules.specs.Numbers.{Answer, conditions, format, lowest, no_counts, number_of, refusal}
 use Rattle.rules.specs.Storage.{real}
 use Rattle.tables.specs.Calls.{accepted_on, call_on, format_lengths, looked_at, outcome_of, pack_pages}
 use Rattle.tables.specs.Layout.{table_bytes}
@@ -21,7 +21,7 @@ use Rattle.tables.proofs.Lengths.{lengths_in}
 
 -- lengths that do not fit: number 1, and nothing changed
 format_refused : (t p : List ℕ) → format_lengths (length t) (length p) ≡ false → call_on format t p ≡ looked_at (refusal 1) t p []
-unfolding call_on outcome_of number_of conditions first_applying
+unfolding call_on outcome_of number_of conditions lowest
 format_refused t p h = ap (λ (b : Bool). outcome_of (cond (not b) 1 0) format t p) h
 
 -- every page zero
@@ -52,7 +52,7 @@ lengths_most n m a b h = rw (eq-eqb n table_bytes a) (rw (eq-eqb (m % 512) 0 b) 
 format_accepted : (t p t' : List ℕ) → format_lengths (length t) (length p) ≡ true
     → t' ≡ pack (tables_of (formatted real (blank_memory (length p / 512))))
     → call_on format t p ≡ looked_at no_counts t' (zeroed p 0 (length p)) []
-unfolding call_on outcome_of number_of conditions first_applying accepted_on accepted formatted
+unfolding call_on outcome_of number_of conditions lowest accepted_on accepted formatted
 format_accepted t p t' h e =
     let w = (lengths_in (length t) (length p) h).1 in
     ap (λ (b : Bool). outcome_of (cond (not b) 1 0) format t p) h

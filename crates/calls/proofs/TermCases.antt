@@ -10,7 +10,7 @@ use Rattle.base.specs.Logic.{digit}
 use Rattle.calls.specs.Outcomes.{answer_meant, outcome}
 use Rattle.packing.specs.Words.{Bytes}
 use Rattle.rules.specs.Calls.{view_of}
-use Rattle.rules.specs.Numbers.{Answer, first_applying, refusal}
+use Rattle.rules.specs.Numbers.{Answer, lowest, refusal}
 use Rattle.rules.specs.State.{SetRecord, Term}
 use Rattle.rules.specs.Storage.{real}
 use Rattle.rules.specs.Terms.{count_fits, date_exists, is_current, term_from}
@@ -34,18 +34,18 @@ module _ (r : declared.Answer) (t p : List ℕ) (s y m d k : ℕ) where
   pub term_unformed_as : (b : Bool) → answer_meant r ≡ refusal 1 → b ≡ well_formed t (length p) → not b ≡ true → outcome r t p [] ≡ set_term_on s y m d k t p
   term_unformed_as b a e h = ap (λ (x : Answer). looked_at x t p []) a ∙ sym (term_unformed s y m d k t p (not_formed b t p e h))
 
-  pub term_refused_as : (n : ℕ) → well_formed t (length p) ≡ true → answer_meant r ≡ refusal n → n ≡ first_applying (term_in t p s y m d k) → (n ≡ 0 → ⊥)
+  pub term_refused_as : (n : ℕ) → well_formed t (length p) ≡ true → answer_meant r ≡ refusal n → n ≡ lowest (term_in t p s y m d k) → (n ≡ 0 → ⊥)
       → outcome r t p [] ≡ set_term_on s y m d k t p
   term_refused_as n f a e h = ap (λ (x : Answer). looked_at x t p []) a ∙ sym (term_refused s y m d k t p f n e h)
 
-  pub term_set_as : (t' : List ℕ) (x : Term) → well_formed t (length p) ≡ true → answer_meant r ≡ refusal 0 → Bytes t' → 0 ≡ first_applying (term_in t p s y m d k)
+  pub term_set_as : (t' : List ℕ) (x : Term) → well_formed t (length p) ≡ true → answer_meant r ≡ refusal 0 → Bytes t' → 0 ≡ lowest (term_in t p s y m d k)
       → x ≡ term_from y m d k → Turns t t' (put_term_in s x) → outcome r t' p [] ≡ set_term_on s y m d k t p
   term_set_as t' x f a bs z e w =
       (λ i. looked_at (a i) ((turns_pack t t' (put_term_in s x) bs w ∙ ap (λ (q : Term). pack (put_term_in s q (unpack t))) e) i) p [])
       ∙ sym (term_accepted s y m d k t p f z)
 
 -- what a setting that is accepted asks for
-module _ (t p : List ℕ) (s y m d k : ℕ) (f : well_formed t (length p) ≡ true) (z : 0 ≡ first_applying (term_in t p s y m d k)) where
+module _ (t p : List ℕ) (s y m d k : ℕ) (f : well_formed t (length p) ≡ true) (z : 0 ≡ lowest (term_in t p s y m d k)) where
   pub from_requires : (date_exists y m d ≡ true) × (count_fits k ≡ true)
   from_requires = let q = term_passed (view_of real true true (store_of t p)) s y m d k (sym z) in (q.exists, q.fits)
 
@@ -57,18 +57,18 @@ module _ (r : declared.Answer) (t p : List ℕ) (s day : ℕ) where
   pub current_unformed_as : (b : Bool) → answer_meant r ≡ refusal 1 → b ≡ well_formed t (length p) → not b ≡ true → outcome r t p [] ≡ current_on s day t p
   current_unformed_as b a e h = ap (λ (x : Answer). looked_at x t p []) a ∙ sym (current_unformed s day t p (not_formed b t p e h))
 
-  pub current_refused_as : (n : ℕ) → well_formed t (length p) ≡ true → answer_meant r ≡ refusal n → n ≡ first_applying (current_in t p s) → (n ≡ 0 → ⊥)
+  pub current_refused_as : (n : ℕ) → well_formed t (length p) ≡ true → answer_meant r ≡ refusal n → n ≡ lowest (current_in t p s) → (n ≡ 0 → ⊥)
       → outcome r t p [] ≡ current_on s day t p
   current_refused_as n f a e h = ap (λ (x : Answer). looked_at x t p []) a ∙ sym (current_refused s day t p f n e h)
 
-  pub current_as : (x : SetRecord) (n : ℕ) → well_formed t (length p) ≡ true → 0 ≡ first_applying (current_in t p s) → x ≡ (unpack t).sets s → n ≡ digit (is_current x.term day)
+  pub current_as : (x : SetRecord) (n : ℕ) → well_formed t (length p) ≡ true → 0 ≡ lowest (current_in t p s) → x ≡ (unpack t).sets s → n ≡ digit (is_current x.term day)
       → answer_meant r ≡ record { number = 0; first = n; second = 0; third = 0 } → outcome r t p [] ≡ current_on s day t p
   unfolding told_or_refused
   current_as x n f z e q a =
       ap (λ (w : Answer). looked_at w t p []) (a ∙ ap (λ v. record { number = 0; first = v; second = 0; third = 0 }) (q ∙ ap (λ (w : SetRecord). digit (is_current w.term day)) e))
       ∙ sym (current_told s day t p f z)
 
-pub current_requires : (t p : List ℕ) (s : ℕ) → 0 ≡ first_applying (current_in t p s) → s < 8
+pub current_requires : (t p : List ℕ) (s : ℕ) → 0 ≡ lowest (current_in t p s) → s < 8
 current_requires t p s z = current_passed (view_of real true true (store_of t p)) s (sym z)
 
 -- the days of a term

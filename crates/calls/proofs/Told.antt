@@ -12,7 +12,7 @@ use Rattle.looking.specs.Read.{ReadDone}
 use Rattle.packing.specs.Bitmap.{number}
 use Rattle.rules.proofs.Whole.Accepted.{passed_size}
 use Rattle.rules.specs.Calls.{Store, view_of}
-use Rattle.rules.specs.Numbers.{Answer, conditions, first_applying, number_of, read, tell_free, tell_size}
+use Rattle.rules.specs.Numbers.{Answer, conditions, lowest, number_of, read, tell_free, tell_size}
 use Rattle.rules.specs.Reading.{size_by_reading}
 use Rattle.rules.specs.State.{tree_of}
 use Rattle.rules.specs.Storage.{real}
@@ -22,7 +22,7 @@ use Rattle.calls.specs.declared.answer.Answer as declared
 
 -- telling the free blocks is never refused on well-formed tables
 free_number : (st : Store real) → 0 ≡ number_of (view_of real true true st) tell_free
-unfolding number_of conditions first_applying
+unfolding number_of conditions lowest
 free_number st = refl
 
 module _ (r : declared.Answer) (t p : List ℕ) (formed : well_formed t (length p) ≡ true) where

@@ -1,25 +1,24 @@
-// The calls that change a file: write, truncate, delete, in the full store or under the Bench profile (`bench`).
+// The calls that change a file: write, truncate, delete.
 ghost use Rattle.std.specs.Prelude.{[], ◌≡◌, ◌<◌, ◌≤◌};
 ghost use Rattle.rules.specs.Numbers;
+ghost use Rattle.tables.specs.Calls.{call_on};
 ghost use Rattle.calls.specs.Outcomes.{outcome};
-ghost use Rattle.calls.specs.Profiles.{call_under};
 
 use crate::answer::{Answer, counts_0};
 use changing::deleting::delete_file;
 use cutting::truncate_file;
 use formed::well_formed;
-use numbers::profile::under_bench;
 use numbers::{of_delete, of_truncate, of_write};
 use writing::write_file;
 
 // "Delete … leaves it absent."
-pub fn delete(t: &mut [u8], p: &mut [u8], bench: bool, set: u32, file: u32) -> Answer
-    ensures { outcome result t.new p.new [] ≡ call_under bench (Numbers.delete set file) t.old p.old }
+pub fn delete(t: &mut [u8], p: &mut [u8], set: u32, file: u32) -> Answer
+    ensures { outcome result t.new p.new [] ≡ call_on (Numbers.delete set file) t.old p.old }
 {
     if !well_formed(&*t, p.len()) {
         return counts_0(1);
     }
-    let n = under_bench(&*t, bench, of_delete(&*t, &*p, set, file));
+    let n = of_delete(&*t, &*p, set, file);
     if n != 0 {
         return counts_0(n);
     }
@@ -33,13 +32,13 @@ pub fn delete(t: &mut [u8], p: &mut [u8], bench: bool, set: u32, file: u32) -> A
 }
 
 // "Truncate to size t": below the size, at it, or above it.
-pub fn truncate(t: &mut [u8], p: &mut [u8], bench: bool, set: u32, file: u32, size: u32) -> Answer
-    ensures { outcome result t.new p.new [] ≡ call_under bench (Numbers.truncate set file size) t.old p.old }
+pub fn truncate(t: &mut [u8], p: &mut [u8], set: u32, file: u32, size: u32) -> Answer
+    ensures { outcome result t.new p.new [] ≡ call_on (Numbers.truncate set file size) t.old p.old }
 {
     if !well_formed(&*t, p.len()) {
         return counts_0(1);
     }
-    let n = under_bench(&*t, bench, of_truncate(&*t, &*p, set, file, size));
+    let n = of_truncate(&*t, &*p, set, file, size);
     if n != 0 {
         return counts_0(n);
     }
@@ -56,7 +55,6 @@ pub fn truncate(t: &mut [u8], p: &mut [u8], bench: bool, set: u32, file: u32, si
 pub fn write(
     t: &mut [u8],
     p: &mut [u8],
-    bench: bool,
     group: usize,
     set: u32,
     file: u32,
@@ -64,12 +62,12 @@ pub fn write(
     data: &[u8],
 ) -> Answer
     requires { (0 < group) × (group ≤ 64) }
-    ensures { outcome result t.new p.new [] ≡ call_under bench (Numbers.write group set file offset «data».now) t.old p.old }
+    ensures { outcome result t.new p.new [] ≡ call_on (Numbers.write group set file offset «data».now) t.old p.old }
 {
     if !well_formed(&*t, p.len()) {
         return counts_0(1);
     }
-    let n = under_bench(&*t, bench, of_write(&*t, &*p, set, file, offset, data));
+    let n = of_write(&*t, &*p, set, file, offset, data);
     if n != 0 {
         return counts_0(n);
     }

@@ -1,24 +1,19 @@
-// Compaction, in the full store or under the Bench profile (`bench`).
+// Compaction.
 ghost use Rattle.std.specs.Prelude.{◌≡◌};
-ghost use Rattle.compaction.specs.Call.{free_in};
+ghost use Rattle.compaction.specs.Call.{compact_on, free_in};
 ghost use Rattle.calls.specs.Outcomes.{outcome};
-ghost use Rattle.calls.specs.Profiles.{compact_under};
 
 use crate::answer::{Answer, counts_0};
 use compacting::compact::compact_store;
 use formed::well_formed;
-use numbers::profile::is_beyond;
 
 // "refuses a spare page of other than 512 bytes with 16, after 1". What free pages and the spare page hold afterwards is
 // free: the contract takes it as it is.
-pub fn compact(t: &mut [u8], p: &mut [u8], bench: bool, spare: &mut [u8]) -> Answer
-    ensures { outcome result t.new p.new spare.new ≡ compact_under bench spare.old (free_in p.new spare.new) t.old p.old }
+pub fn compact(t: &mut [u8], p: &mut [u8], spare: &mut [u8]) -> Answer
+    ensures { outcome result t.new p.new spare.new ≡ compact_on spare.old (free_in p.new spare.new) t.old p.old }
 {
     if !well_formed(&*t, p.len()) {
         return counts_0(1);
-    }
-    if is_beyond(&*t, bench) {
-        return counts_0(17);
     }
     if spare.len() != 512 {
         return counts_0(16);

@@ -1,16 +1,13 @@
-// The calls on reference terms: a term set, in the full store or under the Bench profile (`bench`), and whether a set is
-// current. No page changes.
+// The calls on reference terms: a term set, and whether a set is current. No page changes.
 ghost use Rattle.std.specs.Prelude.{[], ◌≡◌};
 ghost use Rattle.base.specs.Logic.{digit};
 ghost use Rattle.rules.specs.Terms.{is_current};
-ghost use Rattle.tables.specs.Terms.{current_on};
+ghost use Rattle.tables.specs.Terms.{current_on, set_term_on};
 ghost use Rattle.calls.specs.Outcomes.{outcome};
-ghost use Rattle.calls.specs.Profiles.{set_term_under};
 
 use crate::answer::{Answer, counts_0};
 use dates::term_from;
 use formed::well_formed;
-use numbers::profile::under_bench;
 use numbers::{of_current, of_set_term};
 use tables::sets::{put_term, set_at};
 
@@ -18,20 +15,18 @@ use tables::sets::{put_term, set_at};
 pub fn set_term(
     t: &mut [u8],
     p: &[u8],
-    bench: bool,
     set: u32,
     year: u32,
     month: u32,
     day: u32,
     months: u32,
 ) -> Answer
-    ensures { outcome result t.new p.now [] ≡ set_term_under bench set year month day months t.old p.now }
+    ensures { outcome result t.new p.now [] ≡ set_term_on set year month day months t.old p.now }
 {
     if !well_formed(&*t, p.len()) {
         return counts_0(1);
     }
-    let full = of_set_term(&*t, p, set, year, month, day, months);
-    let n = under_bench(&*t, bench, full);
+    let n = of_set_term(&*t, p, set, year, month, day, months);
     if n != 0 {
         return counts_0(n);
     }

@@ -5,4 +5,3 @@ pub mod Counted
 pub mod Compacted
 pub mod Again
 pub mod Cases
-pub mod Bench

@@ -1,9 +1,8 @@
 -- COMPACTION ON BYTES: what the exported function does. Document 02, Ask 9.
 use Rattle.std.specs.Prelude.{Bool, not, List, ◌∷◌, [], suc, zero, ℕ, eqb, length}
 use Rattle.compaction.specs.Compact.{compacted}
-use Rattle.rules.specs.Bench.{beyond_bench, with17}
 use Rattle.rules.specs.Calls.{Store, tables_of}
-use Rattle.rules.specs.Numbers.{View, first_applying, no_counts, not_formed, refusal}
+use Rattle.rules.specs.Numbers.{View, lowest, no_counts, not_formed, refusal}
 use Rattle.rules.specs.State.{page_bytes}
 use Rattle.rules.specs.Storage.{PageData, real}
 use Rattle.tables.specs.Calls.{Outcome, looked_at, pack_pages, pages_of, store_of, view_on}
@@ -39,10 +38,4 @@ compact_as (suc n) spare free t p = looked_at (refusal (suc n)) t p spare
 
 -- A COMPACTION ON BYTES, of any contents and lengths; the buffer is the spare page, "one spare page of 512 bytes lent for it"
 unfoldable pub compact_on : List ℕ → Free → List ℕ → List ℕ → Outcome
-compact_on spare free t p = compact_as (first_applying (compact_conditions (view_on t p) spare)) spare free t p
-
--- A COMPACTION under the Bench profile, refused "on such tables", those beyond it, "even one that would alter nothing", with 17 before 16 (document
--- 02, Ask 11)
-unfoldable pub bench_compact_on : List ℕ → Free → List ℕ → List ℕ → Outcome
-bench_compact_on spare free t p =
-    compact_as (first_applying (with17 (beyond_bench (view_on t p)) (compact_conditions (view_on t p) spare))) spare free t p
+compact_on spare free t p = compact_as (lowest (compact_conditions (view_on t p) spare)) spare free t p

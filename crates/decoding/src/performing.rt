@@ -30,7 +30,7 @@ fn write_copies(
     ensures { outcome result t.new p.new [] ≡ call_on (Numbers.narrow_write set file offset (replicate length fill)) t.old p.old }
 {
     let data = filled(fill);
-    changes::write(t, p, false, 1, set, file, offset, &data[..length])
+    changes::write(t, p, 1, set, file, offset, &data[..length])
 }
 
 // A call of a session.
@@ -39,7 +39,7 @@ pub fn perform(t: &mut [u8], p: &mut [u8], c: Asked) -> Answer
     ensures { outcome result t.new p.new [] ≡ call_on (call_meant c) t.old p.old }
 {
     match c {
-        Asked::Create { set, file } => records::create(t, &*p, false, set, file),
+        Asked::Create { set, file } => records::create(t, &*p, set, file),
         Asked::Write {
             set,
             file,
@@ -47,13 +47,13 @@ pub fn perform(t: &mut [u8], p: &mut [u8], c: Asked) -> Answer
             length,
             fill,
         } => write_copies(t, p, set, file, offset, length, fill),
-        Asked::Truncate { set, file, size } => changes::truncate(t, p, false, set, file, size),
-        Asked::Delete { set, file } => changes::delete(t, p, false, set, file),
+        Asked::Truncate { set, file, size } => changes::truncate(t, p, set, file, size),
+        Asked::Delete { set, file } => changes::delete(t, p, set, file),
         Asked::Make {
             parent,
             set,
             writeable,
-        } => records::make(t, &*p, false, parent, set, writeable),
-        Asked::Remove { set } => records::remove(t, &*p, false, set),
+        } => records::make(t, &*p, parent, set, writeable),
+        Asked::Remove { set } => records::remove(t, &*p, set),
     }
 }

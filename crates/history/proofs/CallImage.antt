@@ -14,15 +14,12 @@ use Rattle.rules.proofs.Whole.Accepted.{accepted_number}
 use Rattle.rules.proofs.Whole.Order.{InOrder, order_step}
 use Rattle.rules.proofs.Whole.OrderMarks.{step_marks}
 use Rattle.rules.specs.Agreement.{buffer_after, buffer_of, front, store_give, tally_in}
-use Rattle.rules.specs.Bench.{bench_number_of}
 use Rattle.rules.specs.Calls.{Store, accepted, blank_memory, read_into, result_of, step, tables_of, view_of}
 use Rattle.rules.specs.Marking.{BecomesMarked}
 use Rattle.rules.specs.Numbers.{Call, Look, View, bytes_asked, create, delete, format, look_of, make, none_asked, number_of, read, refusal, remove, size_asked, tell_free, tell_size, truncate, write}
 use Rattle.rules.specs.State.{is_marked}
 use Rattle.rules.specs.Storage.{Memory, real}
-use Rattle.tables.proofs.Bench.{bench_number_on}
 use Rattle.tables.proofs.PackWords.{length_pack}
-use Rattle.tables.specs.Bench.{bench_call_on}
 use Rattle.tables.specs.Calls.{Outcome, accepted_on, buffer_in, call_on, format_lengths, fresh_of, looked_at, outcome_of, repacked, store_of, view_on}
 use Rattle.tables.specs.Layout.{table_bytes}
 
@@ -110,10 +107,6 @@ module _ (B : ℕ) (least : 1 ≤ B) (most : B ≤ 4096) (r : Store real) (o : I
 
   pub gave_image : (c : Call) → gave c (image_of r) ≡ store_give B c r
   gave_image c = ap (λ (o : Outcome). record { answer = o.answer; bytes = front c o.answer o.buffer }) (call_image c)
-
-  -- the number of a call under the Bench profile
-  pub bench_number_image : (c : Call) → (bench_call_on c (image_of r).tables (image_of r).pages).answer.number ≡ bench_number_of (view_of real true true r) c
-  bench_number_image c = bench_number_on c (image_of r).tables (image_of r).pages ∙ ap (λ (w : View). bench_number_of w c) view_image
 
   -- the store that the image after a call holds is the store after it
   pub store_after : (c : Call) → store_in (after c (image_of r)) ≡ (step real (blank_memory B) c r).store

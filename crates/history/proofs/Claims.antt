@@ -1,5 +1,4 @@
 -- The claims. Assumes nothing.
-use Rattle.history.proofs.Bench.{bench_beyond, bench_from_format, bench_gives, bench_stays, bench_within}
 use Rattle.history.proofs.Compaction.{compaction, compaction_refused}
 use Rattle.history.proofs.Conversion.{conversion, every_store, goes_on, new_already}
 use Rattle.history.proofs.Demand3.{demand3}
@@ -43,9 +42,4 @@ claims = record {
   compaction = compaction;
   compaction_refused = compaction_refused;
   new_already = new_already;
-  bench = bench_gives;
-  bench_within = bench_within;
-  bench_stays = bench_stays;
-  bench_from_format = bench_from_format;
-  bench_beyond = bench_beyond;
 }

@@ -1,5 +1,5 @@
 -- DEMAND 3 on bytes: after a format and any list of events. Assumes nothing.
-use mathlib.Core.Bool.{Bool, false, true}
+use mathlib.Core.Bool.{true}
 use mathlib.Core.List.{◌++◌, List, ◌∷◌, []}
 use mathlib.Core.Option.{some}
 use mathlib.Core.Path.{ap, refl, subst, sym, ◌∙◌, ◌≡◌}
@@ -7,44 +7,34 @@ use Prim.Native.Nat.{◌/◌, ℕ, ◌≤◌}
 use native.Mathlib.Omega.{arith}
 use lib.ListN.{length}
 use Rattle.history.proofs.Events.{KeptAll, call_given, event_goes, events_kept, held_of}
-use Rattle.history.proofs.CallImage.{bench_number_image}
 use Rattle.history.proofs.Image.{image_formed, image_store, image_of, length_pages}
-use Rattle.history.proofs.Panel.{bench_shows, write_shows}
-use Rattle.history.specs.Demand3.{Demand3, Demand3Claim, Follows, MarksRightly, blocks_of, formatted_of, write_to}
-use Rattle.history.specs.Events.{Change, Event, bench, call_in, event_on, events_on, gave_all, runs, runs_all}
-use Rattle.history.specs.Image.{Held, Image, after, gave, gave_under, store_in}
-use Rattle.rules.proofs.Whole.BenchJudged.{bench_judged}
+use Rattle.history.proofs.Panel.{write_shows}
+use Rattle.history.specs.Demand3.{Demand3, Demand3Claim, Follows, MarksRightly, blocks_of, formatted_of}
+use Rattle.history.specs.Events.{Event, event_on, events_on, gave_all, panel_write, runs, runs_all}
+use Rattle.history.specs.Image.{Held, Image, after, gave, store_in}
 use Rattle.rules.proofs.Whole.Holds.{Holds}
 use Rattle.rules.proofs.Whole.HoldsMeans.{agrees_plain, agrees_tally}
 use Rattle.rules.proofs.Whole.HoldsOf.{zero_past}
 use Rattle.rules.proofs.Whole.HoldsRun.{holds_start}
 use Rattle.rules.specs.Agreement.{AgreesPlain, AgreesTally, Given, ZeroPast, both_give, both_given, both_run, front_of}
-use Rattle.rules.specs.Bench.{bench_number_of}
 use Rattle.rules.specs.Calls.{Store, accepted, blank_memory, formatted}
-use Rattle.rules.specs.Numbers.{Call, conditions, first_applying, format, no_counts, number_of}
+use Rattle.rules.specs.Numbers.{Call, conditions, format, lowest, no_counts, number_of}
 use Rattle.rules.specs.Plain.{Plain, plain_format}
 use Rattle.rules.specs.Storage.{real}
-use Rattle.rules.specs.Tally.{Both, Tally, judged, tally_format}
+use Rattle.rules.specs.Tally.{Both, Tally, tally_format}
 use Rattle.tables.proofs.Lengths.{lengths_in}
-use Rattle.tables.specs.Bench.{bench_call_on}
 use Rattle.tables.specs.Calls.{accepted_on, call_on, format_lengths, outcome_of}
 use Rattle.tables.specs.Packed.{well_formed}
 use Rattle.tables.specs.Panel.{answered, entered}
 
 -- the format of any tables and pages of lengths that it accepts
 pub format_image : (m : Image) → format_lengths (length m.tables) (length m.pages) ≡ true → after format m ≡ image_of (formatted real (blank_memory (length m.pages / 512)))
-unfolding call_on number_of conditions first_applying
+unfolding call_on number_of conditions lowest
 format_image m h = rw h (unfold outcome_of accepted_on accepted in refl)
 
 format_gives : (m : Image) → format_lengths (length m.tables) (length m.pages) ≡ true → gave format m ≡ record { answer = no_counts; bytes = [] }
-unfolding call_on number_of conditions first_applying front_of
+unfolding call_on number_of conditions lowest front_of
 format_gives m h = rw h (unfold outcome_of accepted_on accepted in refl)
-
--- what a write to a register shows that runs a call, under the Bench profile or not
-any_shows : (profile : Bool) (offset value : ℕ) (c : Call) (h : Held) → runs (write_to profile offset value) h ≡ some c
-    → (event_on (write_to profile offset value) h).registers ≡ answered (gave c h.image).answer (entered offset value h.registers)
-any_shows false offset value c h e = write_shows offset value c h e
-any_shows true offset value c h e = bench_shows offset value c h e
 
 -- A STORE THAT KEEPS THE INVARIANT with a plain store and a tally follows them, whatever list comes
 module _ (B : ℕ) (least : 1 ≤ B) (most : B ≤ 4096) (r : Store real) (rs : List ℕ) (pl : Plain) (ta : Tally) (v : Holds B r pl ta) where
@@ -69,22 +59,14 @@ module _ (B : ℕ) (least : 1 ≤ B) (most : B ≤ 4096) (r : Store real) (rs : 
       (event_goes B least most k.store k.holds.order e q).marks
 
   -- what the next command shows
-  shows_next : (es : List Event) (profile : Bool) (offset value : ℕ) (c : Call) → runs (write_to profile offset value) (events_on es h) ≡ some c
+  shows_next : (es : List Event) (offset value : ℕ) (c : Call) → runs (panel_write offset value) (events_on es h) ≡ some c
       → let b : Both = both_run B (runs_all es h) pl ta in
-      (event_on (write_to profile offset value) (events_on es h)).registers ≡ answered (both_give B c b.plain b.tally).answer (entered offset value (events_on es h).registers)
-  shows_next es profile offset value c e =
+      (event_on (panel_write offset value) (events_on es h)).registers ≡ answered (both_give B c b.plain b.tally).answer (entered offset value (events_on es h).registers)
+  shows_next es offset value c e =
       let k = kept es in
       let q : List ℕ = entered offset value (events_on es h).registers in
-      any_shows profile offset value c (events_on es h) e
+      write_shows offset value c (events_on es h) e
       ∙ ap (λ (g : Given). answered g.answer q) (ap (gave c) k.image ∙ call_given B least most k.store _ _ k.holds c)
-
-  -- the number of the next call under the Bench profile
-  judges_next : (es : List Event) (c : Call) → let b : Both = both_run B (runs_all es h) pl ta in
-      (gave_under bench_call_on c (events_on es h).image).answer.number ≡ bench_number_of (judged b.plain b.tally) c
-  judges_next es c =
-      let k = kept es in
-      ap (λ (m : Image). (gave_under bench_call_on c m).answer.number) k.image
-      ∙ bench_number_image B least most k.store k.holds.order c ∙ bench_judged B least k.store _ _ k.holds c
 
   -- LAW
   pub follows_of : (es : List Event) → Follows h pl ta es
@@ -98,14 +80,11 @@ module _ (B : ℕ) (least : 1 ≤ B) (most : B ≤ 4096) (r : Store real) (rs : 
         tally = subst (λ n. AgreesTally (store_in (events_on es h).image) (both_run n (runs_all es h) pl ta).tally) (sym blocks_are)
             (subst (λ x. AgreesTally x (both_run B (runs_all es h) pl ta).tally) (sym (store_is es)) (agrees_tally B k.store _ _ k.holds));
         marks = λ before rest e d. marks_next before e;
-        shows = λ before rest profile offset value c d. subst (λ n. let here : Held = events_on before h in let both : Both = both_run n (runs_all before h) pl ta in
-            runs (write_to profile offset value) here ≡ some c
-            → (event_on (write_to profile offset value) here).registers ≡ answered (both_give n c both.plain both.tally).answer (entered offset value here.registers))
-            (sym blocks_are) (shows_next before profile offset value c);
+        shows = λ before rest offset value c d. subst (λ n. let here : Held = events_on before h in let both : Both = both_run n (runs_all before h) pl ta in
+            runs (panel_write offset value) here ≡ some c
+            → (event_on (panel_write offset value) here).registers ≡ answered (both_give n c both.plain both.tally).answer (entered offset value here.registers))
+            (sym blocks_are) (shows_next before offset value c);
         past = subst ZeroPast (sym (store_is es)) (zero_past B k.store _ _ k.holds);
-        judges = λ before rest x c d e. subst (λ n. let both : Both = both_run n (runs_all before h) pl ta in
-            (gave_under bench_call_on c (events_on before h).image).answer.number ≡ bench_number_of (judged both.plain both.tally) c)
-            (sym blocks_are) (judges_next before c);
       }
 
 -- THEOREM
@@ -124,16 +103,9 @@ pub marks_at : (m : Image) (r : List ℕ) (before rest : List Event) (e : Event)
     → let here : Held = events_on before (formatted_of m r) in MarksRightly here.image (runs e here) (event_on e here).image
 marks_at m r before rest e d = d.follows.marks before rest e refl
 
-pub shows_at : (m : Image) (r : List ℕ) (before rest : List Event) (profile : Bool) (offset value : ℕ) (c : Call) → Demand3 m r (before ++ (write_to profile offset value ∷ rest))
+pub shows_at : (m : Image) (r : List ℕ) (before rest : List Event) (offset value : ℕ) (c : Call) → Demand3 m r (before ++ (panel_write offset value ∷ rest))
     → let h : Held = formatted_of m r in let here : Held = events_on before h in
-    runs (write_to profile offset value) here ≡ some c
+    runs (panel_write offset value) here ≡ some c
     → let b : Both = both_run (blocks_of h) (runs_all before h) plain_format (tally_format (length m.pages / 512)) in
-    (event_on (write_to profile offset value) here).registers ≡ answered (both_give (blocks_of h) c b.plain b.tally).answer (entered offset value here.registers)
-shows_at m r before rest profile offset value c d = d.follows.shows before rest profile offset value c refl
-
-pub judges_at : (m : Image) (r : List ℕ) (before rest : List Event) (x : Change) (c : Call) → Demand3 m r (before ++ (bench x ∷ rest))
-    → let h : Held = formatted_of m r in let here : Held = events_on before h in
-    call_in x here ≡ some c
-    → let b : Both = both_run (blocks_of h) (runs_all before h) plain_format (tally_format (length m.pages / 512)) in
-    (gave_under bench_call_on c here.image).answer.number ≡ bench_number_of (judged b.plain b.tally) c
-judges_at m r before rest x c d = d.follows.judges before rest x c refl
+    (event_on (panel_write offset value) here).registers ≡ answered (both_give (blocks_of h) c b.plain b.tally).answer (entered offset value here.registers)
+shows_at m r before rest offset value c d = d.follows.shows before rest offset value c refl

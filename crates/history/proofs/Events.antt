@@ -8,8 +8,7 @@ use Rattle.history.proofs.CallImage.{after_image, gave_image, marks_image}
 use Rattle.history.proofs.Image.{image_store, image_of}
 use Rattle.history.specs.Demand3.{MarksRightly}
 use Rattle.history.proofs.Panel.{after_any, write_image}
-use Rattle.history.proofs.Profile.{by_profile, gave_same, in_full}
-use Rattle.history.specs.Events.{Change, Event, bench, call, call_in, check, check_blocks, compact, compaction, convert, current, event_on, events_on, gave_all, gave_by, list_of, listed, listed_all, panel_line, panel_read, panel_reset, panel_write, register_write, runs, runs_all, set_term, term}
+use Rattle.history.specs.Events.{Event, check, check_blocks, compact, convert, current, event_on, events_on, gave_all, gave_by, list_of, listed, listed_all, panel_line, panel_read, panel_reset, panel_write, runs, runs_all, set_term}
 use Rattle.history.specs.Image.{Held, Image, after, gave, with_image}
 use Rattle.history.proofs.Compacting.{compacting}
 use Rattle.history.proofs.TermSet.{left}
@@ -28,8 +27,6 @@ use Rattle.rules.specs.State.{Files, is_marked}
 use Rattle.rules.specs.Storage.{free_blocks, real}
 use Rattle.rules.specs.Tally.{Both, Tally}
 use Rattle.tables.proofs.Widening.{convert_pages}
-use Rattle.tables.specs.Calls.{call_on}
-use Rattle.tables.specs.Panel.{call_run}
 
 -- a list of the ten alone runs these
 pub listed_run : (cs : List Call) (h : Held) → runs_all (listed_all cs) h ≡ cs
@@ -81,17 +78,6 @@ module _ (B : ℕ) (least : 1 ≤ B) (most : B ≤ 4096) where
     run_goes none = look_goes
     run_goes (some c) = call_goes c
 
-    -- a change in the full store
-    change_goes : (x : Change) (rs : List ℕ) → Goes r (call_in x (held_of r rs)) (event_on (in_full x) (held_of r rs)).image
-    change_goes (call c) rs = call_goes c
-    change_goes (term s y m d k) rs =
-        let x = left B most r o s y m d k in
-        subst (Goes r none) (sym x.image) (quiet_goes x.store x.order (λ f c. ap (λ (g : ℕ → Files ℕ). (g f c).state) x.files))
-    change_goes (compaction spare free) rs =
-        let x = compacting B most r o spare free in
-        subst (Goes r none) (sym x.image) (quiet_goes x.store x.order (λ f c. ap (λ (m : Store model). (m.files f c).state) x.model))
-    change_goes (register_write offset value) rs = subst (Goes r (call_run offset value rs)) (sym (write_image offset value (held_of r rs))) (run_goes _)
-
     -- EVERY EVENT keeps a store in order
     pub event_goes : (e : Event) (rs : List ℕ) → Goes r (runs e (held_of r rs)) (event_on e (held_of r rs)).image
     event_goes (listed c) rs = call_goes c
@@ -99,13 +85,16 @@ module _ (B : ℕ) (least : 1 ≤ B) (most : B ≤ 4096) where
     event_goes check rs = look_goes
     event_goes panel_reset rs = look_goes
     event_goes (panel_read offset) rs = look_goes
-    event_goes (panel_write offset value) rs = change_goes (register_write offset value) rs
+    event_goes (panel_write offset value) rs = subst (Goes r (runs (panel_write offset value) (held_of r rs))) (sym (write_image offset value (held_of r rs))) (run_goes _)
     event_goes panel_line rs = look_goes
-    event_goes (set_term s y m d k) rs = change_goes (term s y m d k) rs
+    event_goes (set_term s y m d k) rs =
+        let x = left B most r o s y m d k in
+        subst (Goes r none) (sym x.image) (quiet_goes x.store x.order (λ f c. ap (λ (g : ℕ → Files ℕ). (g f c).state) x.files))
     event_goes (current s day) rs = look_goes
     event_goes (convert old second) rs = subst (λ (p : List ℕ). Goes r none (record { tables = (image_of r).tables; pages = p })) (sym (convert_pages old (image_of r).pages second)) look_goes
-    event_goes (compact spare free) rs = change_goes (compaction spare free) rs
-    event_goes (bench x) rs = by_profile (Goes r) none (call_in x (held_of r rs)) x (held_of r rs) look_goes (change_goes x rs)
+    event_goes (compact spare free) rs =
+        let x = compacting B most r o spare free in
+        subst (Goes r none) (sym x.image) (quiet_goes x.store x.order (λ f c. ap (λ (m : Store model). (m.files f c).state) x.model))
 
   -- a store that agrees with plain store and tally goes to the image of one that does, the call o being run, if any
   pub record Kept (pl : Plain) (ta : Tally) (o : Option Call) (m : Image) : Type 0 where
@@ -131,18 +120,6 @@ module _ (B : ℕ) (least : 1 ≤ B) (most : B ≤ 4096) where
     run_kept none = look_kept
     run_kept (some c) = call_kept c
 
-    change_kept : (x : Change) (rs : List ℕ) → Kept pl ta (call_in x (held_of r rs)) (event_on (in_full x) (held_of r rs)).image
-    change_kept (call c) rs = call_kept c
-    change_kept (term s y m d k) rs =
-        let x = left B most r v.order s y m d k in
-        subst (Kept pl ta none) (sym x.image)
-        (quiet_kept x.store x.order x.tree (λ f i. map_files (x.memory i).pages (x.files i f)) (ap free_blocks x.memory))
-    change_kept (compaction spare free) rs =
-        let x = compacting B most r v.order spare free in
-        subst (Kept pl ta none) (sym x.image)
-        (quiet_kept x.store x.order (ap (λ (m : Store model). tree_in model m) x.model) (λ f. ap (λ (m : Store model). m.files f) x.model) (ap (λ (m : Store model). m.memory) x.model))
-    change_kept (register_write offset value) rs = subst (Kept pl ta (call_run offset value rs)) (sym (write_image offset value (held_of r rs))) (run_kept _)
-
     -- EVERY EVENT keeps the agreement, with the call that it runs
     pub event_kept : (e : Event) (rs : List ℕ) → Kept pl ta (runs e (held_of r rs)) (event_on e (held_of r rs)).image
     event_kept (listed c) rs = call_kept c
@@ -150,20 +127,25 @@ module _ (B : ℕ) (least : 1 ≤ B) (most : B ≤ 4096) where
     event_kept check rs = look_kept
     event_kept panel_reset rs = look_kept
     event_kept (panel_read offset) rs = look_kept
-    event_kept (panel_write offset value) rs = change_kept (register_write offset value) rs
+    event_kept (panel_write offset value) rs = subst (Kept pl ta (runs (panel_write offset value) (held_of r rs))) (sym (write_image offset value (held_of r rs))) (run_kept _)
     event_kept panel_line rs = look_kept
-    event_kept (set_term s y m d k) rs = change_kept (term s y m d k) rs
+    event_kept (set_term s y m d k) rs =
+        let x = left B most r v.order s y m d k in
+        subst (Kept pl ta none) (sym x.image)
+        (quiet_kept x.store x.order x.tree (λ f i. map_files (x.memory i).pages (x.files i f)) (ap free_blocks x.memory))
     event_kept (current s day) rs = look_kept
     event_kept (convert old second) rs =
         subst (λ (p : List ℕ). Kept pl ta none (record { tables = (image_of r).tables; pages = p })) (sym (convert_pages old (image_of r).pages second)) look_kept
-    event_kept (compact spare free) rs = change_kept (compaction spare free) rs
-    event_kept (bench x) rs = by_profile (Kept pl ta) none (call_in x (held_of r rs)) x (held_of r rs) look_kept (change_kept x rs)
+    event_kept (compact spare free) rs =
+        let x = compacting B most r v.order spare free in
+        subst (Kept pl ta none) (sym x.image)
+        (quiet_kept x.store x.order (ap (λ (m : Store model). tree_in model m) x.model) (λ f. ap (λ (m : Store model). m.files f) x.model) (ap (λ (m : Store model). m.memory) x.model))
 
     -- what the call that is run gives is what plain store and tally give
     pub call_given : (c : Call) → gave c (image_of r) ≡ both_give B c pl ta
     call_given c = gave_image B least most r v.order c ∙ given_step B r pl ta v least c
 
-    given_by : (o : Option Call) → list_of (gave_by call_on o (image_of r)) ≡ both_given B (list_of o) pl ta
+    given_by : (o : Option Call) → list_of (gave_by o (image_of r)) ≡ both_given B (list_of o) pl ta
     unfolding both_given
     given_by none = refl
     given_by (some c) = ap (λ (x : Given). x ∷ []) (call_given c)
@@ -207,6 +189,6 @@ module _ (B : ℕ) (least : 1 ≤ B) (most : B ≤ 4096) where
         store = q.store;
         image = ap (λ m. (events_on es (at m)).image) k.image ∙ q.image;
         holds = subst (λ (x : Both). Holds B q.store x.plain x.tally) (sym bs) q.holds;
-        given = ap₂ (λ xs ys. xs ++ ys) (ap list_of (gave_same e (held_of r rs)) ∙ given_by r pl ta v o) (ap (λ m. gave_all es (at m)) k.image ∙ q.given ∙ ap (λ l. both_given B l b.plain b.tally) (sym cs))
+        given = ap₂ (λ xs ys. xs ++ ys) (given_by r pl ta v o) (ap (λ m. gave_all es (at m)) k.image ∙ q.given ∙ ap (λ l. both_given B l b.plain b.tally) (sym cs))
             ∙ sym (given_append B (list_of o) _ pl ta);
       }

@@ -14,18 +14,16 @@ use borrow.Author.Tests.{eq-eqb, eqb-false, eqb-true, ltb-false}
 use Rattle.base.specs.Count.{all, all_at}
 use Rattle.base.specs.Logic.{and_left, and_right, digit, same?, test?}
 use Rattle.base.specs.Update.{upd, upd_other, upd_same}
-use Rattle.history.specs.Events.{Change, Event, register_write, bench, bench_on, call, check, check_blocks, compact, compaction, convert, current, event_on, events_on, listed, panel_line, panel_read, panel_reset, panel_write, set_term, term}
-use Rattle.history.specs.Image.{Held, Image}
-use Rattle.history.specs.Panel.{FromReset, FromResetClaim, Since, register_written, bench_since, cleared_by, command_given, just_reset, since_after, since_of, wrote_at}
+use Rattle.history.specs.Events.{Event, check, check_blocks, compact, convert, current, event_on, events_on, listed, panel_line, panel_read, panel_reset, panel_write, runs, set_term}
+use Rattle.history.specs.Image.{Held, Image, gave}
+use Rattle.history.specs.Panel.{FromReset, FromResetClaim, Since, cleared_by, command_given, just_reset, since_after, since_of, wrote_at}
 use Rattle.packing.specs.Bitmap.{is_one}
 use Rattle.packing.specs.Bits.{bit, bit_mod}
 use Rattle.rules.specs.Numbers.{Answer, Call, no_counts}
-use Rattle.tables.proofs.Bench.{bench_answer_low}
 use Rattle.tables.proofs.NumberFits.{answer_low}
 use Rattle.tables.proofs.Registers.{cause_low, cause_masked, offset_told, reset_zero, written_byte, written_full, written_none}
-use Rattle.tables.specs.Bench.{bench_call_on}
 use Rattle.tables.specs.Calls.{call_on}
-use Rattle.tables.specs.Panel.{Runner, answered, call_run, cause_added, cause_of, command_in, commanded, entered, no_register, panel_line_on, panel_read_on, panel_reset_on, panel_write_on, reset_values, shown, written}
+use Rattle.tables.specs.Panel.{answered, call_run, cause_added, cause_of, command_in, commanded, entered, no_register, panel_line_on, panel_read_on, panel_reset_on, panel_write_on, reset_values, shown, written}
 
 -- ---- one register set
 
@@ -258,20 +256,18 @@ unfolding cause_of
 cause_answered a r p q t l e =
     answered_there a r 2 (omega arith) (omega arith) ∙ there r 2 2 _ l (omega arith) refl ∙ ap (λ (c : ℕ). bit_or c (cause_of a)) e ∙ adds (eqb a.number 0) (eqb a.third 0) p q t
 
--- a command, run in the full store or under the Bench profile
-command_stands : (run : Runner) → ((c : Call) (t p : List ℕ) → (run c t p).answer.number < 256) → (o : Option Call) (x : Since) (r : List ℕ) (m : Image) → Stands x r
-    → Stands (command_given run o m x) (commanded run o r m.tables m.pages).registers
+command_stands : (o : Option Call) (x : Since) (r : List ℕ) (m : Image) → Stands x r → Stands (command_given o m x) (commanded call_on o r m.tables m.pages).registers
 unfolding commanded
-command_stands run low none x r m s = record {
+command_stands none x r m s = record {
   kept = added_kept 2 r (omega arith) s.kept;
   shows = shows_same x.last r (cause_added 2 r) (added_same 2 r) s.shows;
   cause = there r 2 2 _ s.kept.sixteen (omega arith) refl ∙ ap (λ (c : ℕ). bit_or c 2) s.cause ∙ refuses x.accepted x.refused x.marked;
   writable = λ k a b. beside r 2 k _ (λ e. absurd (omega arith)) ∙ s.writable k a b;
 }
-command_stands run low (some c) x r m s =
-    let b : Answer = (run c m.tables m.pages).answer in
+command_stands (some c) x r m s =
+    let b : Answer = (gave c m).answer in
     record {
-      kept = answered_kept b r (low c m.tables m.pages) s.kept;
+      kept = answered_kept b r (answer_low c m.tables m.pages) s.kept;
       shows = answered_shows b r s.kept.sixteen;
       cause = cause_answered b r x.accepted x.refused x.marked s.kept.sixteen s.cause;
       writable = λ k l h. answered_there b r k (omega arith) h ∙ beside r 2 k _ (λ e. absurd (omega arith)) ∙ s.writable k l h;
@@ -313,15 +309,14 @@ module _ (v : ℕ) (x : Since) (r : List ℕ) (s : Stands x r) where
     writable = λ k a b. beside r 0 k _ (λ e. absurd (omega arith)) ∙ s.writable k a b;
   }
 
-write_stands : (run : Runner) → ((c : Call) (t p : List ℕ) → (run c t p).answer.number < 256) → (o v : ℕ) (x : Since) (h : Held) → Stands x h.registers
-    → Stands (register_written run o v h x) (panel_write_on run o v h.registers h.image.tables h.image.pages).registers
+write_stands : (o v : ℕ) (x : Since) (h : Held) → Stands x h.registers → Stands (since_after (panel_write o v) h x) (event_on (panel_write o v) h).registers
 unfolding panel_write_on call_run
-write_stands run low o v x h s =
+write_stands o v x h s =
     let r : List ℕ = h.registers in
     let n : no_register o r ≡ ltb 15 o = offset_told o r s.kept.sixteen in
     test? (ltb 15 o) (λ e. rw (n, e) s)
     (λ e. test? (eqb o 0)
-    (λ z. rw (n, e, z) (command_stands run low (command_in v r) x (entered o v r) h.image (subst (λ (i : ℕ). Stands x (entered i v r)) (sym (eqb-true o 0 z)) (kept_stands v x r s))))
+    (λ z. rw (n, e, z) (command_stands (command_in v r) x (entered o v r) h.image (subst (λ (i : ℕ). Stands x (entered i v r)) (sym (eqb-true o 0 z)) (kept_stands v x r s))))
     (λ z. test? (eqb o 2)
     (λ c. rw (n, e, z, c) (subst (λ (i : ℕ). Stands (cleared_by v x) (entered i v r)) (sym (eqb-true o 2 c)) (cleared_stands v x r s)))
     (λ c. rw (n, e, z, c) (entered_stands v x r s o (omega (arith, ltb-false 15 o e)) (eqb-false o 2 c)))))
@@ -353,25 +348,18 @@ line_same : (r : List ℕ) → (panel_line_on r).registers ≡ r
 unfolding panel_line_on
 line_same r = test? (no_register 0 r) (λ e. rw e refl) (λ e. rw e refl)
 
-change_stands : (y : Change) (x : Since) (h : Held) → Stands x h.registers → Stands (bench_since y h x) (bench_on y h).registers
-change_stands (call c) x h s = s
-change_stands (term t y m d k) x h s = s
-change_stands (compaction spare free) x h s = s
-change_stands (register_write o v) x h s = write_stands bench_call_on bench_answer_low o v x h s
-
 event_stands : (e : Event) (x : Since) (h : Held) → Stands x h.registers → Stands (since_after e h x) (event_on e h).registers
 event_stands (listed c) x h s = s
 event_stands check_blocks x h s = s
 event_stands check x h s = s
 event_stands panel_reset x h s = reset_stands h.registers s.kept.sixteen
 event_stands (panel_read o) x h s = subst (Stands x) (sym (read_same o h.registers)) s
-event_stands (panel_write o v) x h s = write_stands call_on answer_low o v x h s
+event_stands (panel_write o v) x h s = write_stands o v x h s
 event_stands panel_line x h s = subst (Stands x) (sym (line_same h.registers)) s
 event_stands (set_term t y m d k) x h s = s
 event_stands (current t day) x h s = s
 event_stands (convert old second) x h s = s
 event_stands (compact spare free) x h s = s
-event_stands (bench y) x h s = change_stands y x h s
 
 events_stand : (es : List Event) (x : Since) (h : Held) → Stands x h.registers → Stands (since_of es h x) (events_on es h).registers
 unfolding events_on since_of

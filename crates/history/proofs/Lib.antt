@@ -1,6 +1,5 @@
 pub mod Image
 pub mod CallImage
-pub mod Profile
 pub mod Panel
 pub mod TermSet
 pub mod Compacting
@@ -13,7 +12,6 @@ pub mod TermAside
 pub mod Compaction
 pub mod Others
 pub mod FromReset
-pub mod Bench
 pub mod RoomExamples
 pub mod Room
 pub mod Claims

@@ -1,15 +1,13 @@
 -- The accesses of the front panel leave the image that the calls that they run leave, and registers that show what these calls give. Assumes nothing.
-use mathlib.Core.Bool.{Bool, cond, false, true}
 use mathlib.Core.Option.{Option, none-ne-some, some-injective, none, some}
 use mathlib.Core.Path.{ap, ap₂, refl, sym, ◌∙◌, ◌≡◌}
 use mathlib.Core.List.{◌++◌, List, append_assoc, ◌∷◌, []}
 use Prim.Native.Nat.{ℕ}
 use lib.Dec.{eqb}
 use Rattle.base.specs.Logic.{test?}
-use Rattle.history.proofs.Profile.{by_profile, change_same, gave_same, in_full, runs_unbarred}
-use Rattle.history.specs.Events.{Change, Event, answered17, bench, call, call_in, check, check_blocks, compact, compaction, convert, current, event_on, events_on, gave_all, gave_by, list_of, listed, listed_all, panel_line, panel_read, panel_reset, panel_write, register_write, runner, runs, runs_all, set_term, term}
+use Rattle.history.specs.Events.{Event, check, check_blocks, compact, convert, current, event_on, events_on, gave_all, gave_by, list_of, listed, listed_all, panel_line, panel_read, panel_reset, panel_write, runs, runs_all, set_term}
 use Rattle.history.specs.Image.{Held, Image, after, gave, with_image, with_registers}
-use Rattle.history.specs.Panel.{CountsClaim, change_directly, directly, directly_all}
+use Rattle.history.specs.Panel.{CountsClaim, directly, directly_all}
 use Rattle.rules.specs.Numbers.{Call}
 use Rattle.tables.proofs.Widening.{convert_pages}
 use Rattle.tables.specs.Calls.{call_on}
@@ -52,13 +50,6 @@ write_shows offset value c h e =
     (λ z. let d : command_in value r ≡ some c = rw (n, z) at e in rw (n, z) (command_shows (command_in value r) c (entered offset value r) h.image d))
     (λ z. let d : none ≡ some c = rw (n, z) at e in absurd (none-ne-some c d)))
 
--- under the Bench profile too, where the command is not answered with 17
-pub bench_shows : (offset value : ℕ) (c : Call) (h : Held) → runs (bench (register_write offset value)) h ≡ some c
-    → (event_on (bench (register_write offset value)) h).registers ≡ answered (gave c h.image).answer (entered offset value h.registers)
-bench_shows offset value c h e =
-    let u = runs_unbarred (register_write offset value) h c e in
-    ap (λ (x : Held). x.registers) (change_same (register_write offset value) h u.0) ∙ write_shows offset value c h u.1
-
 -- ---- every event leaves the image, runs the calls and gives what it does directly; q are the registers beside which it is done directly
 
 append_on : (es fs : List Event) (h : Held) → events_on (es ++ fs) h ≡ events_on fs (events_on es h)
@@ -74,7 +65,7 @@ append_runs (e ∷ es) fs h = ap (λ cs. list_of (runs e h) ++ cs) (append_runs 
 append_gave : (es fs : List Event) (h : Held) → gave_all (es ++ fs) h ≡ gave_all es h ++ gave_all fs (events_on es h)
 unfolding events_on gave_all
 append_gave [] fs h = refl
-append_gave (e ∷ es) fs h = ap (λ xs. list_of (gave_by (runner e) (runs e h) h.image) ++ xs) (append_gave es fs (event_on e h)) ∙ sym (append_assoc (list_of (gave_by (runner e) (runs e h) h.image)) _ _)
+append_gave (e ∷ es) fs h = ap (λ xs. list_of (gave_by (runs e h) h.image) ++ xs) (append_gave es fs (event_on e h)) ∙ sym (append_assoc (list_of (gave_by (runs e h) h.image)) _ _)
 
 -- a call that is run, or none
 any_on : (o : Option Call) (h : Held) → events_on (listed_all (list_of o)) h ≡ with_image (after_any o h.image) h
@@ -87,34 +78,10 @@ unfolding runs_all listed_all
 any_runs none h = refl
 any_runs (some c) h = refl
 
-any_gave : (o : Option Call) (h : Held) → gave_all (listed_all (list_of o)) h ≡ list_of (gave_by call_on o h.image)
+any_gave : (o : Option Call) (h : Held) → gave_all (listed_all (list_of o)) h ≡ list_of (gave_by o h.image)
 unfolding gave_all listed_all
 any_gave none h = refl
 any_gave (some c) h = refl
-
--- a change in the full store
-change_on : (x : Change) (h : Held) (q : List ℕ) → events_on (change_directly x h) (with_registers q h) ≡ with_registers q (event_on (in_full x) h)
-unfolding events_on
-change_on (call c) h q = refl
-change_on (term s y m d k) h q = refl
-change_on (compaction spare free) h q = refl
-change_on (register_write offset value) h q =
-    any_on (call_run offset value h.registers) (with_registers q h)
-    ∙ ap (λ (m : Image). record { image = m; registers = q }) (sym (write_image offset value h))
-
-change_runs : (x : Change) (h : Held) (q : List ℕ) → runs_all (change_directly x h) (with_registers q h) ≡ list_of (call_in x h)
-unfolding runs_all
-change_runs (call c) h q = refl
-change_runs (term s y m d k) h q = refl
-change_runs (compaction spare free) h q = refl
-change_runs (register_write offset value) h q = any_runs (call_run offset value h.registers) (with_registers q h)
-
-change_gave : (x : Change) (h : Held) (q : List ℕ) → gave_all (change_directly x h) (with_registers q h) ≡ list_of (gave_by call_on (call_in x h) h.image)
-unfolding gave_all
-change_gave (call c) h q = refl
-change_gave (term s y m d k) h q = refl
-change_gave (compaction spare free) h q = refl
-change_gave (register_write offset value) h q = any_gave (call_run offset value h.registers) (with_registers q h)
 
 direct_on : (e : Event) (h : Held) (q : List ℕ) → events_on (directly e h) (with_registers q h) ≡ with_registers q (event_on e h)
 unfolding events_on
@@ -123,15 +90,15 @@ direct_on check_blocks h q = refl
 direct_on check h q = refl
 direct_on panel_reset h q = refl
 direct_on (panel_read offset) h q = refl
-direct_on (panel_write offset value) h q = change_on (register_write offset value) h q
+direct_on (panel_write offset value) h q =
+    any_on (call_run offset value h.registers) (with_registers q h)
+    ∙ ap (λ (m : Image). record { image = m; registers = q }) (sym (write_image offset value h))
 direct_on panel_line h q = refl
 direct_on (set_term s y m d k) h q = refl
 direct_on (current s day) h q = refl
 direct_on (convert old second) h q =
     ap (λ (p : List ℕ). record { image = record { tables = h.image.tables; pages = p }; registers = q }) (sym (convert_pages old h.image.pages second))
 direct_on (compact spare free) h q = refl
-direct_on (bench x) h q =
-    by_profile (λ (es : List Event) (m : Image). events_on es (with_registers q h) ≡ record { image = m; registers = q }) [] (change_directly x h) x h refl (change_on x h q)
 
 direct_runs : (e : Event) (h : Held) (q : List ℕ) → runs_all (directly e h) (with_registers q h) ≡ list_of (runs e h)
 unfolding runs_all
@@ -140,36 +107,26 @@ direct_runs check_blocks h q = refl
 direct_runs check h q = refl
 direct_runs panel_reset h q = refl
 direct_runs (panel_read offset) h q = refl
-direct_runs (panel_write offset value) h q = change_runs (register_write offset value) h q
+direct_runs (panel_write offset value) h q = any_runs (call_run offset value h.registers) (with_registers q h)
 direct_runs panel_line h q = refl
 direct_runs (set_term s y m d k) h q = refl
 direct_runs (current s day) h q = refl
 direct_runs (convert old second) h q = refl
 direct_runs (compact spare free) h q = refl
-direct_runs (bench x) h q = in_full_law (answered17 x h)
-  where
-    in_full_law : (b : Bool) → runs_all (cond b [] (change_directly x h)) (with_registers q h) ≡ list_of (cond b none (call_in x h))
-    in_full_law true = refl
-    in_full_law false = change_runs x h q
 
-direct_gave : (e : Event) (h : Held) (q : List ℕ) → gave_all (directly e h) (with_registers q h) ≡ list_of (gave_by (runner e) (runs e h) h.image)
+direct_gave : (e : Event) (h : Held) (q : List ℕ) → gave_all (directly e h) (with_registers q h) ≡ list_of (gave_by (runs e h) h.image)
 unfolding gave_all
 direct_gave (listed c) h q = refl
 direct_gave check_blocks h q = refl
 direct_gave check h q = refl
 direct_gave panel_reset h q = refl
 direct_gave (panel_read offset) h q = refl
-direct_gave (panel_write offset value) h q = change_gave (register_write offset value) h q
+direct_gave (panel_write offset value) h q = any_gave (call_run offset value h.registers) (with_registers q h)
 direct_gave panel_line h q = refl
 direct_gave (set_term s y m d k) h q = refl
 direct_gave (current s day) h q = refl
 direct_gave (convert old second) h q = refl
 direct_gave (compact spare free) h q = refl
-direct_gave (bench x) h q = in_full_law (answered17 x h) ∙ ap list_of (sym (gave_same (bench x) h))
-  where
-    in_full_law : (b : Bool) → gave_all (cond b [] (change_directly x h)) (with_registers q h) ≡ list_of (gave_by call_on (cond b none (call_in x h)) h.image)
-    in_full_law true = refl
-    in_full_law false = change_gave x h q
 
 -- ---- lists of events
 
@@ -186,7 +143,7 @@ unfolding gave_all directly_all
 given_count [] h q = refl
 given_count (e ∷ es) h q =
     let k : Held = event_on e h in
-    ap (λ xs. list_of (gave_by (runner e) (runs e h) h.image) ++ xs) (given_count es k q)
+    ap (λ xs. list_of (gave_by (runs e h) h.image) ++ xs) (given_count es k q)
     ∙ sym (append_gave (directly e h) (directly_all es k) (with_registers q h)
     ∙ ap₂ (λ xs ys. xs ++ ys) (direct_gave e h q) (ap (gave_all (directly_all es k)) (direct_on e h q)))
 

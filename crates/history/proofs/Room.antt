@@ -22,7 +22,7 @@ use Rattle.rules.proofs.Whole.Order.{InOrder, order_step}
 use Rattle.rules.specs.Agreement.{tally_in}
 use Rattle.rules.specs.Calls.{Result, Store, blank_memory, result_of, step, view_of}
 use Rattle.rules.specs.Freed.{freed_given}
-use Rattle.rules.specs.Numbers.{Answer, Call, conditions, first_applying, number_of, refusal, write}
+use Rattle.rules.specs.Numbers.{Answer, Call, conditions, lowest, number_of, refusal, write}
 use Rattle.rules.specs.Rules.{extra_pages, touched}
 use Rattle.rules.specs.State.{largest_size, page_bytes}
 use Rattle.rules.specs.Storage.{real}
@@ -73,7 +73,7 @@ module _ (m : Image) (g s f off : ℕ) (bs : List ℕ) where
 
   -- bytes that are not well formed
   refused_one : well_formed t (length p) ≡ false → call_on call t p ≡ looked_at (refusal 1) t p []
-  unfolding call_on number_of conditions first_applying outcome_of
+  unfolding call_on number_of conditions lowest outcome_of
   refused_one e = rw e
 
   broken_takes : well_formed t (length p) ≡ false → Takes
@@ -100,7 +100,7 @@ module _ (m : Image) (g s f off : ℕ) (bs : List ℕ) where
     fresh_same = ap (λ n. blank_memory (n / 512)) (formed t p h).pages ∙ (let e : B * 512 / 512 ≡ B = omega arith in ap blank_memory e)
 
     number_same : number_of (view_on t p) call ≡ number_of (view_of real true true r) call
-    unfolding number_of conditions first_applying
+    unfolding number_of conditions lowest
     number_same = rw h
 
     -- answer and store

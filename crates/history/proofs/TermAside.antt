@@ -17,7 +17,7 @@ use Rattle.rules.proofs.Terms.TermSet.{term_tree}
 use Rattle.rules.proofs.Whole.Order.{InOrder}
 use Rattle.rules.proofs.Whole.Quiet.{gives_quiet}
 use Rattle.rules.specs.Calls.{Store, view_of}
-use Rattle.rules.specs.Numbers.{Answer, Call, first_applying, no_counts, refusal}
+use Rattle.rules.specs.Numbers.{Answer, Call, lowest, no_counts, refusal}
 use Rattle.rules.specs.State.{SetRecord, Term, set_count}
 use Rattle.rules.specs.Storage.{real}
 use Rattle.rules.specs.Terms.{is_current, term_from}
@@ -27,8 +27,8 @@ use Rattle.tables.specs.Packed.{unpack, well_formed}
 use Rattle.tables.specs.Terms.{current_conditions, current_on, set_term_on, told_or_refused}
 
 -- a used set may be asked for
-not_refused : (st : Store real) (s : ℕ) → s < set_count → (st.sets s).used ≡ true → 0 ≡ first_applying (current_conditions (view_of real true true st) s)
-unfolding current_conditions first_applying
+not_refused : (st : Store real) (s : ℕ) → s < set_count → (st.sets s).used ≡ true → 0 ≡ lowest (current_conditions (view_of real true true st) s)
+unfolding current_conditions lowest
 not_refused st s l u = rw (lt-ltb s set_count l, u)
 
 -- ---- a setting that is accepted, on the image of a store in order
@@ -40,13 +40,13 @@ module _ (B : ℕ) (least : 1 ≤ B) (most : B ≤ 4096) (r : Store real) (o : I
   abbrev p : List ℕ
   p = (image_of r).pages
 
-  accepted_number : (n : ℕ) → n ≡ first_applying (term_in t p s y m d k) → (set_term_on s y m d k t p).answer ≡ no_counts → 0 ≡ first_applying (term_in t p s y m d k)
+  accepted_number : (n : ℕ) → n ≡ lowest (term_in t p s y m d k) → (set_term_on s y m d k t p).answer ≡ no_counts → 0 ≡ lowest (term_in t p s y m d k)
   accepted_number zero e a = e
   accepted_number (suc n) e a =
       let q : refusal (suc n) ≡ no_counts = ap (λ (x : Outcome). x.answer) (sym (term_refused s y m d k t p (image_formed B most r o) (suc n) e (λ w. omega (arith, w)))) ∙ a in
       absurd (omega (arith, ap (λ (x : Answer). x.number) q))
 
-  module _ (z : 0 ≡ first_applying (term_in t p s y m d k)) where
+  module _ (z : 0 ≡ lowest (term_in t p s y m d k)) where
     abbrev new : Store real
     new = new_store B most r o s y m d k z
 
@@ -68,7 +68,7 @@ module _ (B : ℕ) (least : 1 ≤ B) (most : B ≤ 4096) (r : Store real) (o : I
     used_is : (new.sets s).used ≡ true
     used_is = ap (λ (x : SetRecord). x.used) (upd_same r.sets s _) ∙ set_used B most r o s y m d k z
 
-    current_number : 0 ≡ first_applying (current_in (image_of new).tables p s)
+    current_number : 0 ≡ lowest (current_in (image_of new).tables p s)
     current_number =
         not_refused (store_of (image_of new).tables p) s (set_low B most r o s y m d k z) (ap (λ (x : Store real). (x.sets s).used) back ∙ used_is)
 

@@ -11,7 +11,7 @@ use Rattle.rules.proofs.Terms.Dates.{term_formed_law}
 use Rattle.rules.proofs.Terms.TermSet.{term_order, term_tree, with_term_of}
 use Rattle.rules.proofs.Whole.Order.{InOrder}
 use Rattle.rules.specs.Calls.{Store, tables_of, tree_in, view_of}
-use Rattle.rules.specs.Numbers.{first_applying}
+use Rattle.rules.specs.Numbers.{lowest}
 use Rattle.rules.specs.State.{Tables, set_count}
 use Rattle.rules.specs.Storage.{real}
 use Rattle.rules.specs.Terms.{term_from}
@@ -35,7 +35,7 @@ module _ (B : ℕ) (most : B ≤ 4096) (r : Store real) (o : InOrder B r) (s y m
   back = image_store B most r o
 
   -- the setting is accepted
-  module _ (z : 0 ≡ first_applying (term_in t p s y m d k)) where
+  module _ (z : 0 ≡ lowest (term_in t p s y m d k)) where
     passed : TermPassed (view_of real true true (store_of t p)) s y m d k
     passed = term_passed _ s y m d k (sym z)
 
@@ -64,7 +64,7 @@ module _ (B : ℕ) (most : B ≤ 4096) (r : Store real) (o : InOrder B r) (s y m
         ∙ ap (λ (x : Tables). record { tables = pack x; pages = p }) new_tables
 
   -- it is refused
-  module _ (n : ℕ) (e : suc n ≡ first_applying (term_in t p s y m d k)) where
+  module _ (n : ℕ) (e : suc n ≡ lowest (term_in t p s y m d k)) where
     same_image : term_set s y m d k (image_of r) ≡ image_of r
     same_image = ap (λ (x : Outcome). record { tables = x.tables; pages = x.pages }) (term_refused s y m d k t p formed (suc n) e (λ q. omega (arith, q)))
 
@@ -77,7 +77,7 @@ module _ (B : ℕ) (most : B ≤ 4096) (r : Store real) (o : InOrder B r) (s y m
     pub files : store.files ≡ r.files
     pub memory : store.memory ≡ r.memory
 
-  left_by : (n : ℕ) → n ≡ first_applying (term_in t p s y m d k) → Left
+  left_by : (n : ℕ) → n ≡ lowest (term_in t p s y m d k) → Left
   left_by zero e = record {
     store = new_store e;
     image = new_image e;

@@ -1,6 +1,5 @@
 -- THE CLAIMS, closed: every quantifier and every hypothesis stands in definitions, and one theorem (`proofs/Claims`: `claims`) proves them all.
 use Rattle.std.specs.Prelude.{true, List, ◌≡◌, length}
-use Rattle.history.specs.Bench.{BenchBeyondClaim, BenchClaim, BenchFromFormatClaim, BenchStaysClaim, BenchWithinClaim}
 use Rattle.history.specs.Compaction.{CompactionClaim, CompactionRefusedClaim}
 use Rattle.history.specs.Conversion.{ConversionClaim, EveryStoreClaim, GoesOnClaim, NewAlreadyClaim}
 use Rattle.history.specs.Demand3.{Demand3Claim, MarksThroughout}
@@ -57,10 +56,3 @@ pub record Claims : Type 0 where
   pub compaction_refused : CompactionRefusedClaim
   -- document 02, Ask 10: tables that are new already come out of a conversion as they are (that it clears the marked files of older ones is said by `conversion`)
   pub new_already : NewAlreadyClaim
-  -- document 02, Ask 11: what the functions of the Bench profile give; lists of them stay within it; tables beyond it are not changed but by a
-  -- format (that a mixed list is the full store's run of what is not answered with 17 is said by `counts`)
-  pub bench : BenchClaim
-  pub bench_within : BenchWithinClaim
-  pub bench_stays : BenchStaysClaim
-  pub bench_from_format : BenchFromFormatClaim
-  pub bench_beyond : BenchBeyondClaim

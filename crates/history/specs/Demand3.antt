@@ -1,32 +1,29 @@
 -- DEMAND 3: one claim about the whole list of events. Document 01, "Demand 3".
 --
--- For all tables and pages whose lengths a format accepts, whatever they hold, all bytes as registers of the front panel, and every list of events
--- (the ten calls with any arguments, refused ones included, and the calls added since, which run one of the ten or none), run from their format on,
--- tables, pages and registers handed from one to the next as bytes, by the definitions that the contracts of the exported functions cite (`call_on`,
--- and those of the added calls): the tables are well formed; sets, presence, sizes and bytes by reading are the plain store's; states, sizes, kinds
--- and free blocks are the tally's; and every answer of the ten, its number and all three counts, with the bytes of every read, is the one that
--- plain store and tally give, fed the arguments of the calls that the events ran, alone. What an added call answers is said by its contract. So
--- accepted are exactly the calls to which no refusal applies, judged on these two. And at every place in the list a file becomes marked exactly
--- when a needed copy for it finds no free block beyond the writer's own need, or it still depends on a file so marked, or its set is then made from
--- one where it is marked: read off the bytes before and after. And a command of the front panel shows in the registers what plain store and tally
--- give to the call that it runs. And past its size every own or virgin file reads as zeros, so that nothing shows when it grows. A compaction in
--- the list (document 02, Ask 9) runs none of the ten, and may leave anything in free pages. A change under the Bench profile (Ask 11) runs the call
--- that it runs in the full store, and gives what that call gives there; where it is answered with 17 it counts as no call. Whether it is, is judged
--- on plain store and tally too.
+-- For all tables and pages whose lengths a format accepts, whatever they hold, all bytes as registers of the front panel, and every list of events (the ten calls
+-- with any arguments, refused ones included, and the calls added since, which run one of the ten or none), run from their format on, tables, pages and registers
+-- handed from one to the next as bytes, by the definitions that the contracts of the exported functions cite (`call_on`, and those of the added calls):
+-- the tables are well formed; sets, presence, sizes and bytes by reading are the plain store's; states, sizes, kinds and free blocks are the tally's; and
+-- every answer of the ten, its number and all three counts, with the bytes of every read, is the one that plain store and tally give, fed the arguments of the
+-- calls that the events ran, alone. What an added call answers is said by its contract.
+-- So accepted are exactly the calls to which no refusal applies, judged on these two.
+-- And at every place in the list a file becomes marked exactly when a needed copy for it finds no free block beyond the writer's own need, or it still depends
+-- on a file so marked, or its set is then made from one where it is marked: read off the bytes before and after.
+-- And a command of the front panel shows in the registers what plain store and tally give to the call that it runs.
+-- And past its size every own or virgin file reads as zeros, so that nothing shows when it grows.
+-- A compaction in the list (document 02, Ask 9) runs none of the ten, and may leave anything in free pages.
 --
 -- The numbers of the fields are those of docs/PROMISES.md, "Demand 3, in plain words".
-use Rattle.std.specs.Prelude.{Bool, false, true, ◌++◌, List, ◌∷◌, [], ◌↔◌, ◌≡◌, ◌/◌, ℕ, length}
+use Rattle.std.specs.Prelude.{false, true, ◌++◌, List, ◌∷◌, [], ◌↔◌, ◌≡◌, ◌/◌, ℕ, length}
 use Rattle.std.proofs.Math.Option.{Option, none, some}
-use Rattle.history.specs.Events.{Change, Event, bench, call_in, event_on, events_on, gave_all, panel_write, register_write, runs, runs_all}
-use Rattle.history.specs.Image.{Held, Image, after, gave, gave_under, store_in}
+use Rattle.history.specs.Events.{Event, event_on, events_on, gave_all, panel_write, runs, runs_all}
+use Rattle.history.specs.Image.{Held, Image, after, gave, store_in}
 use Rattle.rules.specs.Agreement.{AgreesPlain, AgreesTally, ZeroPast, both_give, both_given, both_run, tally_in}
-use Rattle.rules.specs.Bench.{bench_number_of}
 use Rattle.rules.specs.Marking.{BecomesMarked}
 use Rattle.rules.specs.Numbers.{Call, format, no_counts}
 use Rattle.rules.specs.Plain.{Plain, plain_format}
 use Rattle.rules.specs.State.{is_marked, page_bytes}
-use Rattle.rules.specs.Tally.{Both, Tally, judged, tally_format}
-use Rattle.tables.specs.Bench.{bench_call_on}
+use Rattle.rules.specs.Tally.{Both, Tally, tally_format}
 use Rattle.tables.specs.Calls.{format_lengths}
 use Rattle.tables.specs.Packed.{well_formed}
 use Rattle.tables.specs.Panel.{answered, entered}
@@ -55,28 +52,14 @@ MarksThroughout h es =
     (before rest : List Event) (e : Event) → es ≡ before ++ (e ∷ rest)
     → let here : Held = events_on before h in MarksRightly here.image (runs e here) (event_on e here).image
 
--- a write to a register, in the full store or under the Bench profile
-abbrev pub write_to : Bool → ℕ → ℕ → Event
-write_to false offset value = panel_write offset value
-write_to true offset value = bench (register_write offset value)
-
--- at every place in a list of events, run from h on, where a write to a register, under the Bench profile or not, runs a call: the registers then
--- show what plain store and tally, which begin as pl and ta, give to that call
+-- at every place in a list of events, run from h on, where a write to a register runs a call: the registers then show what plain store and tally, which begin as
+-- pl and ta, give to that call
 abbrev pub ShowsThroughout : Held → Plain → Tally → List Event → Type 0
 ShowsThroughout h pl ta es =
-    (before rest : List Event) (profile : Bool) (offset value : ℕ) (c : Call) → es ≡ before ++ (write_to profile offset value ∷ rest)
+    (before rest : List Event) (offset value : ℕ) (c : Call) → es ≡ before ++ (panel_write offset value ∷ rest)
     → let here : Held = events_on before h in let both : Both = both_run (blocks_of h) (runs_all before h) pl ta in
-    runs (write_to profile offset value) here ≡ some c
-    → (event_on (write_to profile offset value) here).registers
-    ≡ answered (both_give (blocks_of h) c both.plain both.tally).answer (entered offset value here.registers)
-
--- at every place in a list of events, run from h on, where a call of the ten is made under the Bench profile, by a command of the front panel too:
--- its number is the one that the table under the profile gives, judged on plain store and tally
-abbrev pub BenchJudged : Held → Plain → Tally → List Event → Type 0
-BenchJudged h pl ta es =
-    (before rest : List Event) (x : Change) (c : Call) → es ≡ before ++ (bench x ∷ rest)
-    → let here : Held = events_on before h in let both : Both = both_run (blocks_of h) (runs_all before h) pl ta in
-    call_in x here ≡ some c → (gave_under bench_call_on c here.image).answer.number ≡ bench_number_of (judged both.plain both.tally) c
+    runs (panel_write offset value) here ≡ some c
+    → (event_on (panel_write offset value) here).registers ≡ answered (both_give (blocks_of h) c both.plain both.tally).answer (entered offset value here.registers)
 
 -- WHAT HOLDS OF A LIST of events, run from h on, beside a plain store and a tally that begin as pl and ta and are fed the calls that the events run
 pub record Follows (h : Held) (pl : Plain) (ta : Tally) (es : List Event) : Type 0 where
@@ -94,8 +77,6 @@ pub record Follows (h : Held) (pl : Plain) (ta : Tally) (es : List Event) : Type
   pub shows : ShowsThroughout h pl ta es
   -- 9. past its size an own or virgin file reads as zeros
   pub past : ZeroPast (store_in (events_on es h).image)
-  -- 10. at every place in the list, the number of a call under the Bench profile
-  pub judges : BenchJudged h pl ta es
 
 -- THE CLAIM: from the format of m on, with registers r
 pub record Demand3 (m : Image) (r : List ℕ) (es : List Event) : Type 0 where

@@ -6,7 +6,7 @@ use Rattle.rules.specs.Calls.{Store}
 use Rattle.rules.specs.Numbers.{Call}
 use Rattle.rules.specs.Storage.{real}
 use Rattle.tables.specs.Calls.{Outcome, call_on, store_of}
-use Rattle.tables.specs.Panel.{PanelOutcome, Runner}
+use Rattle.tables.specs.Panel.{PanelOutcome}
 
 pub record Image : Type 0 where
   pub tables : List ℕ
@@ -24,13 +24,9 @@ image_left o = record { tables = o.tables; pages = o.pages }
 abbrev pub after : Call → Image → Image
 after c m = image_left (call_on c m.tables m.pages)
 
--- what a call gave that was so run: its answer and, of a read, the bytes at the buffer's front
-abbrev pub gave_under : Runner → Call → Image → Given
-gave_under run c m = let o : Outcome = run c m.tables m.pages in record { answer = o.answer; bytes = front c o.answer o.buffer }
-
--- what it gave in the full store
+-- what a call gave: its answer and, of a read, the bytes at the buffer's front
 abbrev pub gave : Call → Image → Given
-gave c m = gave_under call_on c m
+gave c m = let o : Outcome = call_on c m.tables m.pages in record { answer = o.answer; bytes = front c o.answer o.buffer }
 
 -- what a list of events is lent: tables and pages, and the registers of the front panel (document 02, Ask 6), one page of them through the whole list
 pub record Held : Type 0 where

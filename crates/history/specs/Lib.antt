@@ -7,5 +7,4 @@ pub mod Room
 pub mod Terms
 pub mod Conversion
 pub mod Compaction
-pub mod Bench
 pub mod Claims

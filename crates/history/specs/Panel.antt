@@ -3,14 +3,12 @@ use Rattle.std.specs.Prelude.{◌&&◌, Bool, cond, false, not, true, ◌||◌, 
 use Rattle.std.proofs.Math.Option.{Option, none, some}
 use Rattle.base.specs.Logic.{digit}
 use Rattle.base.specs.Update.{upd}
-use Rattle.history.specs.Events.{Change, Event, register_write, answered17, bench, call, check, check_blocks, compact, compaction, convert, current, event_on, events_on, gave_all, list_of, listed, listed_all, panel_line, panel_read, panel_reset, panel_write, runs, runs_all, set_term, term}
-use Rattle.history.specs.Image.{Held, Image}
+use Rattle.history.specs.Events.{Event, check, check_blocks, compact, convert, current, event_on, events_on, gave_all, list_of, listed, listed_all, panel_line, panel_read, panel_reset, panel_write, runs, runs_all, set_term}
+use Rattle.history.specs.Image.{Held, Image, gave}
 use Rattle.packing.specs.Bitmap.{is_one}
 use Rattle.packing.specs.Bits.{bit}
 use Rattle.rules.specs.Numbers.{Answer, Call, no_counts}
-use Rattle.tables.specs.Bench.{bench_call_on}
-use Rattle.tables.specs.Calls.{call_on}
-use Rattle.tables.specs.Panel.{Runner, call_run, cause_offset, command_offset, first_offset, mask_offset, number_offset, other_offset, register_count, second_offset, shown, third_offset}
+use Rattle.tables.specs.Panel.{cause_offset, command_offset, first_offset, mask_offset, number_offset, other_offset, register_count, second_offset, shown, third_offset}
 
 -- ---- what was done to the panel since a reset, in document 02's words
 
@@ -42,10 +40,10 @@ ran_command a x = record {
 abbrev pub ran_nothing : Since → Since
 ran_nothing x = record { last = x.last; accepted = x.accepted; refused = true; marked = x.marked; values = x.values }
 
--- a value written to the command register, which ran a call, or nothing, on the image m, in the full store or under the Bench profile
-abbrev pub command_given : Runner → Option Call → Image → Since → Since
-command_given run none m x = ran_nothing x
-command_given run (some c) m x = ran_command (run c m.tables m.pages).answer x
+-- a value written to the command register, which ran a call, or nothing, on the image m
+abbrev pub command_given : Option Call → Image → Since → Since
+command_given none m x = ran_nothing x
+command_given (some c) m x = ran_command (gave c m).answer x
 
 -- "writing ones to the cause clears those bits"
 abbrev pub cleared_by : ℕ → Since → Since
@@ -61,20 +59,6 @@ cleared_by value x = record {
 abbrev pub wrote_at : ℕ → ℕ → Since → Since
 wrote_at offset value x = record { last = x.last; accepted = x.accepted; refused = x.refused; marked = x.marked; values = upd x.values offset value }
 
--- a value written to one of the sixteen registers
-abbrev pub register_written : Runner → ℕ → ℕ → Held → Since → Since
-register_written run offset value h x =
-    cond (ltb 15 offset) x
-    (cond (eqb offset command_offset) (command_given run (call_run offset value h.registers) h.image x)
-    (cond (eqb offset cause_offset) (cleared_by value x) (wrote_at offset value x)))
-
--- a change under the Bench profile: a write to a register alone does something
-abbrev pub bench_since : Change → Held → Since → Since
-bench_since (call c) h x = x
-bench_since (term s y m d k) h x = x
-bench_since (compaction spare free) h x = x
-bench_since (register_write offset value) h x = register_written bench_call_on offset value h x
-
 -- after an event; of the panel's calls a write of one of the sixteen registers, or a reset, alone does something. A direct call is no command.
 abbrev pub since_after : Event → Held → Since → Since
 since_after (listed c) h x = x
@@ -82,13 +66,15 @@ since_after check_blocks h x = x
 since_after check h x = x
 since_after panel_reset h x = just_reset
 since_after (panel_read offset) h x = x
-since_after (panel_write offset value) h x = register_written call_on offset value h x
+since_after (panel_write offset value) h x =
+    cond (ltb 15 offset) x
+    (cond (eqb offset command_offset) (command_given (runs (panel_write offset value) h) h.image x)
+    (cond (eqb offset cause_offset) (cleared_by value x) (wrote_at offset value x)))
 since_after panel_line h x = x
 since_after (set_term s y m d k) h x = x
 since_after (current s day) h x = x
 since_after (convert old second) h x = x
 since_after (compact spare free) h x = x
-since_after (bench y) h x = bench_since y h x
 
 unfoldable pub since_of : List Event → Held → Since → Since
 since_of [] h x = x
@@ -121,15 +107,7 @@ FromResetClaim =
     (h : Held) → length h.registers ≡ register_count → (es : List Event)
     → FromReset (since_of (panel_reset ∷ es) h just_reset) (events_on (panel_reset ∷ es) h).registers
 
--- what a change does in the full store, directly
-abbrev pub change_directly : Change → Held → List Event
-change_directly (call c) h = listed c ∷ []
-change_directly (term s y m d k) h = set_term s y m d k ∷ []
-change_directly (compaction spare free) h = compact spare free ∷ []
-change_directly (register_write offset value) h = listed_all (list_of (call_run offset value h.registers))
-
--- what an event does directly: the call of the ten that it runs, if any; the setting of a term and a compaction are themselves, since they run none
--- and change bytes. A change under the Bench profile does nothing where it is answered with 17, and else what it does in the full store
+-- what an event does directly: the call of the ten that it runs, if any; the setting of a term and a compaction are themselves, since they run none and change bytes
 abbrev pub directly : Event → Held → List Event
 directly (listed c) h = listed c ∷ []
 directly check_blocks h = []
@@ -142,16 +120,14 @@ directly (set_term s y m d k) h = set_term s y m d k ∷ []
 directly (current s day) h = []
 directly (convert old second) h = []
 directly (compact spare free) h = compact spare free ∷ []
-directly (bench x) h = cond (answered17 x h) [] (change_directly x h)
 
 unfoldable pub directly_all : List Event → Held → List Event
 directly_all [] h = []
 directly_all (e ∷ es) h = directly e h ++ directly_all es (event_on e h)
 
--- "Sequences through the panel count as the calls they run": byte for byte, any list of events, direct calls among them, leaves the tables and
--- pages that the calls that it runs, the terms that it sets and its compactions, each leaving the same in what is free, leave when they are made
--- directly; these run the same calls and give the same. So a list under the Bench profile, mixed with calls of the full store, is the full store's
--- run of what is not answered with 17 (Ask 11). Of any bytes: no format is needed.
+-- "Sequences through the panel count as the calls they run": byte for byte, any list of events, direct calls among them, leaves the tables and pages that the calls
+-- that it runs, the terms that it sets and its compactions, each leaving the same in what is free, leave when they are made directly; these run the same calls and give the
+-- same. Of any bytes: no format is needed.
 abbrev pub CountsClaim : Type 0
 CountsClaim =
     (h : Held) (es : List Event) → let direct : List Event = directly_all es h in

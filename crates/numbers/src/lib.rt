@@ -1,9 +1,9 @@
-// The table of numbers: for each call the number that it gives on a store whose tables are well formed, 0 for none.
+// The table of numbers: for each call the lowest number that applies on a store whose tables are well formed, 0 for none.
 // Numbers of sets and files, offsets and sizes are judged at full width.
 ghost use Rattle.std.specs.Prelude.{◌≡◌, true, not, ◌&&◌, List, ℕ, ◌+◌, ◌<◌, ◌≤◌, ltb, length};
 ghost use Rattle.rules.specs.Calls.{view_of};
 ghost use Rattle.rules.specs.Numbers;
-ghost use Rattle.rules.specs.Numbers.{first_applying, number_of};
+ghost use Rattle.rules.specs.Numbers.{lowest, number_of};
 ghost use Rattle.rules.specs.Rules.{from, own_need, touched, truncate_need};
 ghost use Rattle.rules.specs.State.{is_stored, tree_of};
 ghost use Rattle.rules.specs.Storage.{real};
@@ -21,8 +21,6 @@ use maps::reading;
 use tables::entries::{Entry, Page};
 use tables::{entries, files, header, sets};
 
-pub mod profile;
-
 // Is it the number of a used set?
 fn is_used(t: &[u8], set: u32) -> bool
     requires { length t.now ≡ table_bytes }
@@ -38,7 +36,7 @@ fn is_used(t: &[u8], set: u32) -> bool
 // 2 and 3: "a set number over 7, or a set that must be used is not", "file number over 15".
 fn no_such_place(t: &[u8], set: u32, file: u32) -> u32
     requires { length t.now ≡ table_bytes }
-    ensures { result ≡ first_applying (no_such_place (view_in t.now) set file) }
+    ensures { result ≡ lowest (no_such_place (view_in t.now) set file) }
 {
     if !is_used(t, set) {
         return 2;
@@ -52,7 +50,7 @@ fn no_such_place(t: &[u8], set: u32, file: u32) -> u32
 // 2, 3 and 4: "create, write, truncate, delete in a read-only set" too.
 fn read_only_place(t: &[u8], set: u32, file: u32) -> u32
     requires { length t.now ≡ table_bytes }
-    ensures { result ≡ first_applying (read_only_place (view_in t.now) set file) }
+    ensures { result ≡ lowest (read_only_place (view_in t.now) set file) }
 {
     let n = no_such_place(t, set, file);
     if n != 0 {
@@ -68,7 +66,7 @@ fn read_only_place(t: &[u8], set: u32, file: u32) -> u32
 // 5 and 6: the file is absent, or marked.
 fn not_readable(t: &[u8], f: usize, s: usize) -> u32
     requires { (length t.now ≡ table_bytes) × (f < 16) × (s < 8) }
-    ensures { result ≡ first_applying (not_readable (view_in t.now) s f) }
+    ensures { result ≡ lowest (not_readable (view_in t.now) s f) }
 {
     let l = files::state_at(t, f, s);
     if files::is_absent(l) {
@@ -83,7 +81,7 @@ fn not_readable(t: &[u8], f: usize, s: usize) -> u32
 // 2 to 6, of a write and of a truncate.
 fn not_changeable(t: &[u8], set: u32, file: u32) -> u32
     requires { length t.now ≡ table_bytes }
-    ensures { result ≡ first_applying (not_changeable (view_in t.now) set file) }
+    ensures { result ≡ lowest (not_changeable (view_in t.now) set file) }
 {
     let n = read_only_place(t, set, file);
     if n != 0 {
@@ -283,7 +281,7 @@ pub fn of_set_term(
     months: u32,
 ) -> u32
     requires { FormedStore t.now p.now }
-    ensures { result ≡ first_applying (set_term_conditions (view_of real true true (store_of t.now p.now)) set year month day months) }
+    ensures { result ≡ lowest (set_term_conditions (view_of real true true (store_of t.now p.now)) set year month day months) }
 {
     if !is_used(t, set) {
         return 2;
@@ -300,7 +298,7 @@ pub fn of_set_term(
 // Of asking whether a set is current.
 pub fn of_current(t: &[u8], p: &[u8], set: u32) -> u32
     requires { FormedStore t.now p.now }
-    ensures { result ≡ first_applying (current_conditions (view_of real true true (store_of t.now p.now)) set) }
+    ensures { result ≡ lowest (current_conditions (view_of real true true (store_of t.now p.now)) set) }
 {
     let used = is_used(t, set);
     if !used {

@@ -1,7 +1,7 @@
 // The command register: a value written there runs a call of the store, or nothing.
 ghost use Rattle.std.specs.Prelude.{true, [], ◌≡◌, length};
+ghost use Rattle.tables.specs.Calls.{call_on};
 ghost use Rattle.calls.specs.Outcomes.{outcome};
-ghost use Rattle.calls.specs.Profiles.{call_under};
 ghost use Rattle.tables.specs.Panel.{command_in, commanded, register_count};
 ghost use Rattle.panel.specs.Commands.{call_named, is_command};
 ghost use Rattle.panel.specs.Outcomes.{panel_outcome};
@@ -26,37 +26,37 @@ fn is_command(op: u8) -> bool
     op <= 7
 }
 
-// The call that a command names, run on tables and pages, in the full store or under the Bench profile (`bench`).
-fn run(t: &mut [u8], p: &mut [u8], bench: bool, op: u8, set: u32, file: u32, other: u32) -> Answer
+// The call that a command names, run on tables and pages.
+fn run(t: &mut [u8], p: &mut [u8], op: u8, set: u32, file: u32, other: u32) -> Answer
     requires { is_command op ≡ true }
-    ensures { outcome result t.new p.new [] ≡ call_under bench (call_named op set file other) t.old p.old }
+    ensures { outcome result t.new p.new [] ≡ call_on (call_named op set file other) t.old p.old }
 {
     if op == 1 {
-        return create(t, &*p, bench, set, file);
+        return create(t, &*p, set, file);
     }
     if op == 4 {
-        return delete(t, p, bench, set, file);
+        return delete(t, p, set, file);
     }
     if op == 5 {
-        return make(t, &*p, bench, set, other, false);
+        return make(t, &*p, set, other, false);
     }
     if op == 6 {
-        return make(t, &*p, bench, set, other, true);
+        return make(t, &*p, set, other, true);
     }
-    remove(t, &*p, bench, set)
+    remove(t, &*p, set)
 }
 
 // A value written to the command register: "run when written; any other value runs nothing, sets cause bit 1". Its write gives
 // 0 and zeros in every case.
-pub fn command(r: &mut [u8], t: &mut [u8], p: &mut [u8], bench: bool, op: u8) -> Answer
+pub fn command(r: &mut [u8], t: &mut [u8], p: &mut [u8], op: u8) -> Answer
     requires { length r.old ≡ register_count }
-    ensures { panel_outcome result r.new t.new p.new ≡ commanded (call_under bench) (command_in op r.old) r.old t.old p.old }
+    ensures { panel_outcome result r.new t.new p.new ≡ commanded call_on (command_in op r.old) r.old t.old p.old }
 {
     if !is_command(op) {
         add_cause(r, 2);
         return counts_0(0);
     }
-    let a = run(t, p, bench, op, wide(r[SET]), wide(r[FILE]), wide(r[OTHER]));
+    let a = run(t, p, op, wide(r[SET]), wide(r[FILE]), wide(r[OTHER]));
     note(r, a);
     counts_0(0)
 }

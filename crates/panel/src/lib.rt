@@ -1,8 +1,8 @@
 // The register page of the front panel: sixteen bytes, lent by the caller, and four calls on them. A write of the command
 // register runs a call on the lent tables and pages; nothing else looks at these.
 ghost use Rattle.std.specs.Prelude.{[], ◌≡◌};
+ghost use Rattle.tables.specs.Calls.{call_on};
 ghost use Rattle.tables.specs.Panel.{panel_line_on, panel_read_on, panel_reset_on, panel_write_on};
-ghost use Rattle.calls.specs.Profiles.{call_under};
 ghost use Rattle.panel.specs.Outcomes.{panel_outcome};
 
 use crate::command::command;
@@ -42,17 +42,9 @@ pub fn read(r: &[u8], offset: u32) -> Answer
     }
 }
 
-// "A write gives 0 and zeros, even where its command is refused." A command runs in the full store or under the Bench
-// profile (`bench`).
-pub fn write(
-    r: &mut [u8],
-    t: &mut [u8],
-    p: &mut [u8],
-    bench: bool,
-    offset: u32,
-    value: u8,
-) -> Answer
-    ensures { panel_outcome result r.new t.new p.new ≡ panel_write_on (call_under bench) offset value r.old t.old p.old }
+// "A write gives 0 and zeros, even where its command is refused."
+pub fn write(r: &mut [u8], t: &mut [u8], p: &mut [u8], offset: u32, value: u8) -> Answer
+    ensures { panel_outcome result r.new t.new p.new ≡ panel_write_on call_on offset value r.old t.old p.old }
 {
     if no_register(&*r, offset) {
         return counts_0(13);
@@ -61,7 +53,7 @@ pub fn write(
     if offset as usize != COMMAND {
         return counts_0(0);
     }
-    command(r, t, p, bench, value)
+    command(r, t, p, value)
 }
 
 // "Asking for the line gives 1 as the first count exactly when cause and mask share a one, else 0."

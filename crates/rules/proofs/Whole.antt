@@ -1,6 +1,5 @@
 -- Whole lists of calls: the invariant, that it holds after every list of calls, what it means; rows and worked session.
 pub mod Accepted
-pub mod Bench
 pub mod Order
 pub mod Holds
 pub mod HoldsMeans
@@ -12,6 +11,4 @@ pub mod OrderMarks
 pub mod OrderOthers
 pub mod HoldsRun
 pub mod Rows
-pub mod BenchTree
-pub mod BenchJudged
 pub mod WorkedSession

@@ -7,7 +7,6 @@ pub mod Sets
 pub mod Numbers
 pub mod Calls
 pub mod WellFormed
-pub mod Bench
 pub mod Trees
 pub mod Plain
 pub mod Tally

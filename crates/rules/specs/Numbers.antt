@@ -115,7 +115,7 @@ module _ (v : View) where
   abbrev pub need_over : ℕ → Bool × ℕ
   need_over n = (ltb v.free n, 8)
 
-  -- THE TABLE: for each call the conditions of refusal that concern it, in the order in which they are looked at, which is that of the numbers' size
+  -- THE TABLE: for each call the conditions of refusal that concern it, in rising order
   unfoldable pub conditions : Call → List (Bool × ℕ)
   conditions format = (not v.formats, 1) ∷ []
   conditions (create s f) = not_formed ∷ no_such_set s ∷ no_such_file f ∷ read_only s ∷ (not (is_absent (v.state f s)), 9) ∷ []
@@ -134,11 +134,10 @@ module _ (v : View) where
   conditions (tell_size s f) = not_formed ∷ no_such_set s ∷ no_such_file f ∷ file_absent s f ∷ file_marked s f ∷ []
   conditions tell_free = not_formed ∷ []
 
--- The number of the first condition of a list that applies; "None is given otherwise": 0. The lists stand in the order in which the numbers come:
--- by their size, so that "The lowest number that applies is given", but for 17, which comes after 10 and before 11 (document 02, Ask 11).
-unfoldable pub first_applying : List (Bool × ℕ) → ℕ
-first_applying [] = 0
-first_applying (x ∷ xs) = cond x.0 x.1 (first_applying xs)
+-- "The lowest number that applies is given. None is given otherwise": 0
+unfoldable pub lowest : List (Bool × ℕ) → ℕ
+lowest [] = 0
+lowest (x ∷ xs) = cond x.0 x.1 (lowest xs)
 
 unfoldable pub number_of : View → Call → ℕ
-number_of v c = first_applying (conditions v c)
+number_of v c = lowest (conditions v c)

@@ -3,14 +3,13 @@
 // registers and spare page.
 ghost use Rattle.std.specs.Prelude.{not, [], ◌≡◌, eqb};
 ghost use Rattle.rules.specs.Numbers;
-ghost use Rattle.tables.specs.Bench.{bench_call_on, bench_set_term_on};
 ghost use Rattle.tables.specs.Calls.{call_on};
 ghost use Rattle.tables.specs.Checks.{check_blocks_on, check_on};
 ghost use Rattle.tables.specs.Convert.{convert_on};
 ghost use Rattle.tables.specs.Panel.{panel_line_on, panel_read_on, panel_reset_on, panel_write_on};
 ghost use Rattle.tables.specs.Terms.{current_on, set_term_on};
 ghost use Rattle.calls.specs.Outcomes.{outcome};
-ghost use Rattle.compaction.specs.Call.{bench_compact_on, compact_on, free_in};
+ghost use Rattle.compaction.specs.Call.{compact_on, free_in};
 ghost use Rattle.panel.specs.Outcomes.{panel_outcome};
 
 use calls::answer::Answer;
@@ -26,7 +25,7 @@ pub extern "C" fn sweep_format(tables: &mut [u8], pages: &mut [u8]) -> Answer
 pub extern "C" fn sweep_create(tables: &mut [u8], pages: &mut [u8], set: u32, file: u32) -> Answer
     ensures { outcome result tables.new pages.new [] ≡ call_on (Numbers.create set file) tables.old pages.old }
 {
-    calls::records::create(tables, &*pages, false, set, file)
+    calls::records::create(tables, &*pages, set, file)
 }
 
 // By groups of eight pages.
@@ -41,7 +40,7 @@ pub extern "C" fn sweep_write(
 ) -> Answer
     ensures { outcome result tables.new pages.new [] ≡ call_on (Numbers.grouped_write set file offset «data».now) tables.old pages.old }
 {
-    calls::changes::write(tables, pages, false, 8, set, file, offset, data)
+    calls::changes::write(tables, pages, 8, set, file, offset, data)
 }
 
 // By the pages that hold its bytes alone.
@@ -56,7 +55,7 @@ pub extern "C" fn sweep_write_narrow(
 ) -> Answer
     ensures { outcome result tables.new pages.new [] ≡ call_on (Numbers.narrow_write set file offset «data».now) tables.old pages.old }
 {
-    calls::changes::write(tables, pages, false, 1, set, file, offset, data)
+    calls::changes::write(tables, pages, 1, set, file, offset, data)
 }
 
 #[unsafe(no_mangle)]
@@ -83,14 +82,14 @@ pub extern "C" fn sweep_truncate(
 ) -> Answer
     ensures { outcome result tables.new pages.new [] ≡ call_on (Numbers.truncate set file size) tables.old pages.old }
 {
-    calls::changes::truncate(tables, pages, false, set, file, size)
+    calls::changes::truncate(tables, pages, set, file, size)
 }
 
 #[unsafe(no_mangle)]
 pub extern "C" fn sweep_delete(tables: &mut [u8], pages: &mut [u8], set: u32, file: u32) -> Answer
     ensures { outcome result tables.new pages.new [] ≡ call_on (Numbers.delete set file) tables.old pages.old }
 {
-    calls::changes::delete(tables, pages, false, set, file)
+    calls::changes::delete(tables, pages, set, file)
 }
 
 // `writeable` 0 asks for a read-only set, any other value for a writeable one.
@@ -104,14 +103,14 @@ pub extern "C" fn sweep_make(
 ) -> Answer
     ensures { outcome result tables.new pages.new [] ≡ call_on (Numbers.make parent set (not (eqb writeable 0))) tables.old pages.old }
 {
-    calls::records::make(tables, &*pages, false, parent, set, writeable != 0)
+    calls::records::make(tables, &*pages, parent, set, writeable != 0)
 }
 
 #[unsafe(no_mangle)]
 pub extern "C" fn sweep_remove(tables: &mut [u8], pages: &mut [u8], set: u32) -> Answer
     ensures { outcome result tables.new pages.new [] ≡ call_on (Numbers.remove set) tables.old pages.old }
 {
-    calls::records::remove(tables, &*pages, false, set)
+    calls::records::remove(tables, &*pages, set)
 }
 
 #[unsafe(no_mangle)]
@@ -169,7 +168,7 @@ pub extern "C" fn sweep_panel_write(
 ) -> Answer
     ensures { panel_outcome result registers.new tables.new pages.new ≡ panel_write_on call_on offset value registers.old tables.old pages.old }
 {
-    panel::write(registers, tables, pages, false, offset, value)
+    panel::write(registers, tables, pages, offset, value)
 }
 
 #[unsafe(no_mangle)]
@@ -192,7 +191,7 @@ pub extern "C" fn sweep_set_term(
 ) -> Answer
     ensures { outcome result tables.new pages.new [] ≡ set_term_on set year month day months tables.old pages.old }
 {
-    calls::terms::set_term(tables, &*pages, false, set, year, month, day, months)
+    calls::terms::set_term(tables, &*pages, set, year, month, day, months)
 }
 
 #[unsafe(no_mangle)]
@@ -216,131 +215,5 @@ pub extern "C" fn sweep_convert(old: &[u8], pages: &[u8], tables: &mut [u8]) -> 
 pub extern "C" fn sweep_compact(tables: &mut [u8], pages: &mut [u8], spare: &mut [u8]) -> Answer
     ensures { outcome result tables.new pages.new spare.new ≡ compact_on spare.old (free_in pages.new spare.new) tables.old pages.old }
 {
-    calls::compact::compact(tables, pages, false, spare)
-}
-
-// THE BENCH PROFILE (document 02, Ask 11): the same calls, held to one read-only set beside the root. All other exported calls serve both
-// profiles.
-#[unsafe(no_mangle)]
-pub extern "C" fn sweep_bench_create(
-    tables: &mut [u8],
-    pages: &mut [u8],
-    set: u32,
-    file: u32,
-) -> Answer
-    ensures { outcome result tables.new pages.new [] ≡ bench_call_on (Numbers.create set file) tables.old pages.old }
-{
-    calls::records::create(tables, &*pages, true, set, file)
-}
-
-#[unsafe(no_mangle)]
-pub extern "C" fn sweep_bench_write(
-    tables: &mut [u8],
-    pages: &mut [u8],
-    set: u32,
-    file: u32,
-    offset: u32,
-    data: &[u8],
-) -> Answer
-    ensures { outcome result tables.new pages.new [] ≡ bench_call_on (Numbers.grouped_write set file offset «data».now) tables.old pages.old }
-{
-    calls::changes::write(tables, pages, true, 8, set, file, offset, data)
-}
-
-#[unsafe(no_mangle)]
-pub extern "C" fn sweep_bench_write_narrow(
-    tables: &mut [u8],
-    pages: &mut [u8],
-    set: u32,
-    file: u32,
-    offset: u32,
-    data: &[u8],
-) -> Answer
-    ensures { outcome result tables.new pages.new [] ≡ bench_call_on (Numbers.narrow_write set file offset «data».now) tables.old pages.old }
-{
-    calls::changes::write(tables, pages, true, 1, set, file, offset, data)
-}
-
-#[unsafe(no_mangle)]
-pub extern "C" fn sweep_bench_truncate(
-    tables: &mut [u8],
-    pages: &mut [u8],
-    set: u32,
-    file: u32,
-    size: u32,
-) -> Answer
-    ensures { outcome result tables.new pages.new [] ≡ bench_call_on (Numbers.truncate set file size) tables.old pages.old }
-{
-    calls::changes::truncate(tables, pages, true, set, file, size)
-}
-
-#[unsafe(no_mangle)]
-pub extern "C" fn sweep_bench_delete(
-    tables: &mut [u8],
-    pages: &mut [u8],
-    set: u32,
-    file: u32,
-) -> Answer
-    ensures { outcome result tables.new pages.new [] ≡ bench_call_on (Numbers.delete set file) tables.old pages.old }
-{
-    calls::changes::delete(tables, pages, true, set, file)
-}
-
-#[unsafe(no_mangle)]
-pub extern "C" fn sweep_bench_make(
-    tables: &mut [u8],
-    pages: &mut [u8],
-    parent: u32,
-    set: u32,
-    writeable: u32,
-) -> Answer
-    ensures { outcome result tables.new pages.new [] ≡ bench_call_on (Numbers.make parent set (not (eqb writeable 0))) tables.old pages.old }
-{
-    calls::records::make(tables, &*pages, true, parent, set, writeable != 0)
-}
-
-#[unsafe(no_mangle)]
-pub extern "C" fn sweep_bench_remove(tables: &mut [u8], pages: &mut [u8], set: u32) -> Answer
-    ensures { outcome result tables.new pages.new [] ≡ bench_call_on (Numbers.remove set) tables.old pages.old }
-{
-    calls::records::remove(tables, &*pages, true, set)
-}
-
-#[unsafe(no_mangle)]
-pub extern "C" fn sweep_bench_set_term(
-    tables: &mut [u8],
-    pages: &mut [u8],
-    set: u32,
-    year: u32,
-    month: u32,
-    day: u32,
-    months: u32,
-) -> Answer
-    ensures { outcome result tables.new pages.new [] ≡ bench_set_term_on set year month day months tables.old pages.old }
-{
-    calls::terms::set_term(tables, &*pages, true, set, year, month, day, months)
-}
-
-#[unsafe(no_mangle)]
-pub extern "C" fn sweep_bench_compact(
-    tables: &mut [u8],
-    pages: &mut [u8],
-    spare: &mut [u8],
-) -> Answer
-    ensures { outcome result tables.new pages.new spare.new ≡ bench_compact_on spare.old (free_in pages.new spare.new) tables.old pages.old }
-{
-    calls::compact::compact(tables, pages, true, spare)
-}
-
-#[unsafe(no_mangle)]
-pub extern "C" fn sweep_bench_panel_write(
-    registers: &mut [u8],
-    tables: &mut [u8],
-    pages: &mut [u8],
-    offset: u32,
-    value: u8,
-) -> Answer
-    ensures { panel_outcome result registers.new tables.new pages.new ≡ panel_write_on bench_call_on offset value registers.old tables.old pages.old }
-{
-    panel::write(registers, tables, pages, true, offset, value)
+    calls::compact::compact(tables, pages, spare)
 }

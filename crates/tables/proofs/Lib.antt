@@ -25,5 +25,4 @@ pub mod FormedStore
 pub mod Clearing
 pub mod Registers
 pub mod NumberFits
-pub mod Bench
 pub mod PanelRows

@@ -8,35 +8,35 @@ use lib.Dec.{ltb}
 use borrow.Author.Tests.{ltb-true}
 use Rattle.base.specs.Logic.{and_left, and_right, test?}
 use Rattle.rules.specs.Calls.{accepted, worked}
-use Rattle.rules.specs.Numbers.{Call, View, conditions, create, delete, first_applying, format, make, number_of, read, remove, tell_free, tell_size, truncate, write}
+use Rattle.rules.specs.Numbers.{Call, View, conditions, create, delete, format, lowest, make, number_of, read, remove, tell_free, tell_size, truncate, write}
 use Rattle.tables.specs.Calls.{accepted_on, call_on, outcome_of, view_on}
 
 lows : List (Bool × ℕ) → Bool
 lows [] = true
 lows (x ∷ xs) = ltb x.1 256 && lows xs
 
-first_low : (xs : List (Bool × ℕ)) → lows xs ≡ true → first_applying xs < 256
-unfolding lows first_applying
-first_low [] h = omega arith
-first_low (x ∷ xs) h =
+lowest-low : (xs : List (Bool × ℕ)) → lows xs ≡ true → lowest xs < 256
+unfolding lows lowest
+lowest-low [] h = omega arith
+lowest-low (x ∷ xs) h =
     test? x.0 (λ e. rw e (ltb-true x.1 256 (and_left (ltb x.1 256) (lows xs) h)))
-    (λ e. rw e (first_low xs (and_right (ltb x.1 256) (lows xs) h)))
+    (λ e. rw e (lowest-low xs (and_right (ltb x.1 256) (lows xs) h)))
 
 number_low : (v : View) (c : Call) → number_of v c < 256
 unfolding number_of conditions lows
-number_low v format = first_low (conditions v format) refl
-number_low v (create s f) = first_low (conditions v (create s f)) refl
-number_low v (write g s f off bs) = first_low (conditions v (write g s f off bs)) refl
-number_low v (read s f off buffer) = first_low (conditions v (read s f off buffer)) refl
-number_low v (truncate s f n) = first_low (conditions v (truncate s f n)) refl
-number_low v (delete s f) = first_low (conditions v (delete s f)) refl
-number_low v (make s c w) = first_low (conditions v (make s c w)) refl
-number_low v (remove s) = first_low (conditions v (remove s)) refl
-number_low v (tell_size s f) = first_low (conditions v (tell_size s f)) refl
-number_low v tell_free = first_low (conditions v tell_free) refl
+number_low v format = lowest-low (conditions v format) refl
+number_low v (create s f) = lowest-low (conditions v (create s f)) refl
+number_low v (write g s f off bs) = lowest-low (conditions v (write g s f off bs)) refl
+number_low v (read s f off buffer) = lowest-low (conditions v (read s f off buffer)) refl
+number_low v (truncate s f n) = lowest-low (conditions v (truncate s f n)) refl
+number_low v (delete s f) = lowest-low (conditions v (delete s f)) refl
+number_low v (make s c w) = lowest-low (conditions v (make s c w)) refl
+number_low v (remove s) = lowest-low (conditions v (remove s)) refl
+number_low v (tell_size s f) = lowest-low (conditions v (tell_size s f)) refl
+number_low v tell_free = lowest-low (conditions v tell_free) refl
 
 -- an accepted call gives 0
-pub accepted_zero : (c : Call) (t p : List ℕ) → (accepted_on c t p).answer.number ≡ 0
+accepted_zero : (c : Call) (t p : List ℕ) → (accepted_on c t p).answer.number ≡ 0
 unfolding accepted_on accepted worked
 accepted_zero format t p = refl
 accepted_zero (create s f) t p = refl

@@ -6,7 +6,6 @@ pub mod Terms
 pub mod Convert
 pub mod Panel
 pub mod PanelRows
-pub mod Bench
 pub mod OneReading
 pub mod Views
 pub mod Meaning

@@ -136,7 +136,7 @@ unfoldable pub answered : Answer → List ℕ → List ℕ
 answered a r =
     set (set (set (set (cause_added (cause_of a) r) number_offset a.number) first_offset (shown a.first)) second_offset (shown a.second)) third_offset (shown a.third)
 
--- how a call is run on tables and pages: `call_on`, and under the Bench profile `bench_call_on` (document 02, Ask 11)
+-- how a call is run on tables and pages: in the contracts of the exported functions and in histories it is `call_on`
 abbrev pub Runner : Type 0
 Runner = Call → List ℕ → List ℕ → Outcome
 

@@ -2,7 +2,7 @@
 use Rattle.std.specs.Prelude.{Bool, false, not, true, List, ◌∷◌, [], ◌≡◌, ◌<◌, suc, zero, ℕ}
 use Rattle.base.specs.Logic.{digit}
 use Rattle.base.specs.Update.{upd}
-use Rattle.rules.specs.Numbers.{Answer, View, first_applying, no_counts, no_such_set, not_formed, refusal}
+use Rattle.rules.specs.Numbers.{Answer, View, lowest, no_counts, no_such_set, not_formed, refusal}
 use Rattle.rules.specs.State.{Tables, Term, set_count}
 use Rattle.rules.specs.Terms.{count_fits, date_exists, is_current, term_from, with_term}
 use Rattle.tables.specs.Calls.{Outcome, looked_at, view_on}
@@ -19,10 +19,10 @@ current_conditions v s = not_formed v ∷ no_such_set v s ∷ []
 
 -- THE NUMBERS of a setting on well-formed tables: 2 of a set that is not used, whatever the date and the count; then 14, whatever the count; then 15; else none
 pub record TermNumbers (v : View) (s y m d k : ℕ) : Type 0 where
-  pub no_set : v.tree.used s ≡ false → first_applying (set_term_conditions v s y m d k) ≡ 2
-  pub no_date : s < set_count → v.tree.used s ≡ true → date_exists y m d ≡ false → first_applying (set_term_conditions v s y m d k) ≡ 14
-  pub bad_count : s < set_count → v.tree.used s ≡ true → date_exists y m d ≡ true → count_fits k ≡ false → first_applying (set_term_conditions v s y m d k) ≡ 15
-  pub accepted : s < set_count → v.tree.used s ≡ true → date_exists y m d ≡ true → count_fits k ≡ true → first_applying (set_term_conditions v s y m d k) ≡ 0
+  pub no_set : v.tree.used s ≡ false → lowest (set_term_conditions v s y m d k) ≡ 2
+  pub no_date : s < set_count → v.tree.used s ≡ true → date_exists y m d ≡ false → lowest (set_term_conditions v s y m d k) ≡ 14
+  pub bad_count : s < set_count → v.tree.used s ≡ true → date_exists y m d ≡ true → count_fits k ≡ false → lowest (set_term_conditions v s y m d k) ≡ 15
+  pub accepted : s < set_count → v.tree.used s ≡ true → date_exists y m d ≡ true → count_fits k ≡ true → lowest (set_term_conditions v s y m d k) ≡ 0
 
 abbrev pub TermNumbersClaim : Type 0
 TermNumbersClaim = (v : View) → v.formed ≡ true → (s y m d k : ℕ) → TermNumbers v s y m d k
@@ -38,7 +38,7 @@ put_or_refused (suc n) t' t p = looked_at (refusal (suc n)) t p []
 
 -- SETTING A TERM on any bytes: set, year, month, day, count of months. "A term may be set from a date and a count of months"
 unfoldable pub set_term_on : ℕ → ℕ → ℕ → ℕ → ℕ → List ℕ → List ℕ → Outcome
-set_term_on s y m d k t p = put_or_refused (first_applying (set_term_conditions (view_on t p) s y m d k)) (pack (put_term_in s (term_from y m d k) (unpack t))) t p
+set_term_on s y m d k t p = put_or_refused (lowest (set_term_conditions (view_on t p) s y m d k)) (pack (put_term_in s (term_from y m d k) (unpack t))) t p
 
 -- what a call answers that tells yes or no, by its number: "gives 1 or 0 as the first count"
 unfoldable pub told_or_refused : ℕ → Bool → Answer
@@ -47,4 +47,4 @@ told_or_refused (suc n) b = refusal (suc n)
 
 -- IS THE SET CURRENT on a day, on any bytes: set, day number. "Asking this for a day number gives 1 or 0 as the first count."
 abbrev pub current_on : ℕ → ℕ → List ℕ → List ℕ → Outcome
-current_on s day t p = looked_at (told_or_refused (first_applying (current_conditions (view_on t p) s)) (is_current ((unpack t).sets s).term day)) t p []
+current_on s day t p = looked_at (told_or_refused (lowest (current_conditions (view_on t p) s)) (is_current ((unpack t).sets s).term day)) t p []

@@ -8,7 +8,7 @@ use Rattle.base.specs.Tabulate.{tab}
 use Rattle.base.specs.Update.{upd}
 use Rattle.packing.specs.Words.{get_word}
 use Rattle.rules.specs.Calls.{accepted, created, formatted, made, result_of, step, worked}
-use Rattle.rules.specs.Numbers.{conditions, first_applying, number_of}
+use Rattle.rules.specs.Numbers.{conditions, lowest, number_of}
 use Rattle.rules.specs.Reading.{dependent, depends_on, needs, reaches, resolve, size_by_reading, some_unmapped, walk}
 use Rattle.rules.specs.Rules.{change, copy, count_in, each, enter, enter_as, extra_pages, from, give, give_all, give_page, holes, mark, mark_down, own_need, page_of, put_entry, reserve, reserve_as, resize, settle, settle_as, settle_file, supply, take_own, touched, write_file}
 use Rattle.rules.specs.Sets.{append_set, link_behind, link_last, root_alone}
@@ -64,7 +64,7 @@ example_output =
 
 -- the definitions that are computed
 unfoldable computed : Unit {0}
-unfolding output output_from turn request request_of call_fields unless get_word call_line end_line set_line file_line ext_line ext_end extents file_text file_texts set_text in_turn list_set listing decimal digits step result_of accepted number_of first_applying conditions formatted created made worked write_file change settle settle_file settle_as each reserve reserve_as take_own take_block first_free search_from free_blocks count count_in give_all give_page extra_pages give supply mark copy enter enter_as resize page_of own_need touched from resolve size_by_reading walk needs dependent some_unmapped depends_on reaches mark_down holes put_entry overlay upd append_set link_last link_behind root_alone children_of chain tab
+unfolding output output_from turn request request_of call_fields unless get_word call_line end_line set_line file_line ext_line ext_end extents file_text file_texts set_text in_turn list_set listing decimal digits step result_of accepted number_of lowest conditions formatted created made worked write_file change settle settle_file settle_as each reserve reserve_as take_own take_block first_free search_from free_blocks count count_in give_all give_page extra_pages give supply mark copy enter enter_as resize page_of own_need touched from resolve size_by_reading walk needs dependent some_unmapped depends_on reaches mark_down holes put_entry overlay upd append_set link_last link_behind root_alone children_of chain tab
 computed = tt
 
 pub worked_example : output example_input ≡ example_output

@@ -1,7 +1,7 @@
 //! The program `compare`: runs the C library libsweep.a beside the oracle,
 //! compares answers and every byte that is not left free, and judges the library's writes
-//! by the room they take, its compactions by their bytes, and its calls of the Bench profile
-//! by the full store's. Terms are set from every date. The library is linked when SWEEP_LIB (its
+//! by the room they take and its compactions by their bytes. Terms are set from every
+//! date. The library is linked when SWEEP_LIB (its
 //! folder) is set at build time; SWEEP_CALLS says which calls it has.
 
 use std::process::ExitCode;
@@ -75,16 +75,6 @@ mod sweep {
         sweep_current(look tables, look pages, u32 0, u32 1);
         sweep_convert(look second, look pages, change tables);
         sweep_compact(change tables, change pages, change spare);
-        sweep_bench_create(change tables, change pages, u32 0, u32 1);
-        sweep_bench_write(change tables, change pages, u32 0, u32 1, u32 2, look bytes);
-        sweep_bench_write_narrow(change tables, change pages, u32 0, u32 1, u32 2, look bytes);
-        sweep_bench_truncate(change tables, change pages, u32 0, u32 1, u32 2);
-        sweep_bench_delete(change tables, change pages, u32 0, u32 1);
-        sweep_bench_make(change tables, change pages, u32 0, u32 1, u32 2);
-        sweep_bench_remove(change tables, change pages, u32 0);
-        sweep_bench_set_term(change tables, change pages, u32 0, u32 1, u32 2, u32 3, u32 4);
-        sweep_bench_compact(change tables, change pages, change spare);
-        sweep_bench_panel_write(change registers, change tables, change pages, u32 0, u8 1);
         sweep_write_groups;
     }
 
@@ -119,9 +109,8 @@ mod linked {
     use oracle::conversion::narrowed;
     use oracle::dates::{date_of, day_number, end_day, Date, DAYS};
     use oracle::gen::compact::{self, Order};
-    use oracle::gen::profile::{self, Sets};
     use oracle::gen::{self, length_of, panel, pokes, terms, Made, Style};
-    use oracle::gen::{BENCH_CALLS, CONVERT, CURRENT, SET_TERM};
+    use oracle::gen::{CONVERT, CURRENT, SET_TERM};
     use oracle::history::{any_history, many_copies_history, short_history};
     use oracle::history::{Failure, Short, Watch};
     use oracle::judge::Beside;
@@ -154,9 +143,6 @@ exit status: 0 no difference, 1 a difference or a case that no call met, 2 bad u
     const TERM_HISTORIES: usize = 150;
     const COMPACT_HISTORIES: usize = 150;
     const MARKING_HISTORIES: usize = 400;
-    const PROFILE_HISTORIES: usize = 12;
-    /// Stores with each of `Sets`.
-    const PROFILED: usize = 2;
     const CONVERSIONS: usize = 100;
     const COMPACTIONS: usize = 150;
     /// How many blocks the stores have whose blocks are all used or all free.
@@ -246,7 +232,6 @@ exit status: 0 no difference, 1 a difference or a case that no call met, 2 bad u
             twists: 0,
             conversions: 0,
             compactions: 0,
-            profiled: 0,
             terms_by_date: 0,
             days_by_date: 0,
             by_first_part: [0; 2],
@@ -273,8 +258,6 @@ exit status: 0 no difference, 1 a difference or a case that no call met, 2 bad u
         conversions: u64,
         /// Well-formed stores whose blocks stand in any order.
         compactions: u64,
-        /// Stores within the Bench profile and beyond it.
-        profiled: u64,
         /// Terms set from every date, and days asked for then.
         terms_by_date: u64,
         days_by_date: u64,
@@ -349,19 +332,6 @@ exit status: 0 no difference, 1 a difference or a case that no call met, 2 bad u
             for block_count in ORDERED {
                 self.ordered(block_count)?;
             }
-            for script in profile::fixed_scripts() {
-                self.items_on(Bench::new(), Vec::new(), script)?;
-            }
-            for short in [Short::Profile, Short::BenchAlone, Short::Beyond] {
-                for _ in 0..PROFILE_HISTORIES {
-                    self.short_history(short)?;
-                }
-            }
-            for sets in Sets::ALL {
-                for _ in 0..PROFILED {
-                    self.profiled(sets)?;
-                }
-            }
             self.every_date()
         }
 
@@ -373,8 +343,6 @@ exit status: 0 no difference, 1 a difference or a case that no call met, 2 bad u
             }
             self.converted()?;
             self.compacted()?;
-            let sets = self.rng.pick(&Sets::ALL);
-            self.profiled(sets)?;
             for _ in 0..5 {
                 self.damaged(None)?;
                 self.twisted()?;
@@ -571,16 +539,6 @@ exit status: 0 no difference, 1 a difference or a case that no call met, 2 bad u
             Ok(())
         }
 
-        /// A store within the Bench profile, at its edge or beyond it: calls of this profile
-        /// that say most on it, linked or not.
-        fn profiled(&mut self, sets: Sets) -> Outcome {
-            let made = profile::made_with(&mut self.rng, sets);
-            self.profiled += 1;
-            let script: Vec<Item> = made.calls.iter().cloned().map(Item::Call).collect();
-            let items = profile::probes(&mut self.rng, &made.style, &made.beside);
-            self.items_on(Bench::with(made.tables, made.pages), script, items)
-        }
-
         /// Every date of the hundred years with every count of months: the library's
         /// tables are compared with the dates counted day by day. For one count of each
         /// date, and for all counts of the first and the last days of some years' months,
@@ -605,19 +563,15 @@ exit status: 0 no difference, 1 a difference or a case that no call met, 2 bad u
             Ok(())
         }
 
-        /// A turn of each linked kind but format and the converter, and of those of the
-        /// Bench profile one, in any order, with numbers in range and out of it. Panel
-        /// accesses sometimes find any bytes in the registers.
+        /// A turn of each linked kind but format and the converter, in any order, with
+        /// numbers in range and out of it. Panel accesses sometimes find any bytes in the
+        /// registers.
         fn turns(&mut self, style: &Style, beside: &Beside) -> Vec<Vec<Item>> {
             let mut style = style.clone();
             style.wild = self.rng.pick(&[0, 0, 10, 50, 100]);
-            let is_bench = |index: &usize| BENCH_CALLS.contains(index);
-            let (bench, mut indices): (Vec<usize>, Vec<usize>) =
-                (1..CALLS).filter(|index| linked(*index)).partition(is_bench);
-            indices.retain(|index| *index != CONVERT);
-            indices.extend(self.rng.pick_any(&bench));
+            let indices = (1..CALLS).filter(|index| linked(*index) && *index != CONVERT);
             let turn_of = |index| panel::turn_of(&mut self.rng, &style, beside, index);
-            let mut turns: Vec<Vec<Item>> = indices.into_iter().map(turn_of).collect();
+            let mut turns: Vec<Vec<Item>> = indices.map(turn_of).collect();
             if self.rng.percent(30) {
                 turns.push(panel::any_registers(&mut self.rng));
             }
@@ -764,17 +718,13 @@ exit status: 0 no difference, 1 a difference or a case that no call met, 2 bad u
 
         fn show(&self) {
             let counts = &self.counts;
-            let [groups, panel, room, terms, compact, marking, both, bench, beyond] =
-                self.short_histories;
+            let [groups, panel, room, terms, compact, marking] = self.short_histories;
             println!(
                 "histories {}, short ones with writes by groups {groups}, through the panel {panel}, \
                 with many copies {}, for the room of a write {room}, with terms {terms}, \
-                with compactions {compact}, with marking in stores nearly full {marking}, \
-                of both profiles {both}, of the Bench profile alone {bench}, \
-                of it alone on stores beyond it {beyond}",
+                with compactions {compact}, with marking in stores nearly full {marking}",
                 self.histories, self.many_copies
             );
-            println!("stores within the Bench profile and beyond it {}", self.profiled);
             println!("stores converted {}", self.conversions);
             println!("stores with blocks in any order {}", self.compactions);
             println!("terms set by date {}, days asked {}", self.terms_by_date, self.days_by_date);
@@ -802,7 +752,6 @@ exit status: 0 no difference, 1 a difference or a case that no call met, 2 bad u
             println!("calls of terms {}", counts.terms);
             println!("compactions {}", counts.compactions);
             println!("blocks freed by marking {} in calls {}", counts.freed, counts.markings);
-            println!("calls of the Bench profile {}", counts.profile);
             writes::show("the library", &counts.writes_linked);
             writes::show("plain store and tally", &counts.writes_beside);
             accesses::show("the library", &counts.panel_linked);
@@ -810,13 +759,11 @@ exit status: 0 no difference, 1 a difference or a case that no call met, 2 bad u
 
         /// Says how the run ended: well, if there was no difference and some write met
         /// each case of the room that a write can take, and some call each case of terms,
-        /// of compactions, of marking and of the Bench profile.
+        /// of compactions and of marking.
         fn ends_well(&self, outcome: Outcome) -> bool {
             let counts = &self.counts;
             let of_calls = [counts.terms.unmet(), counts.compactions.unmet()].concat();
             let unmet = [counts.room.unmet(), of_calls, counts.markings.unmet()].concat();
-            let mut unmet: Vec<String> = unmet.into_iter().map(str::to_string).collect();
-            unmet.extend(counts.profile.unmet());
             match outcome {
                 Err(failure) => {
                     println!("compare: DIFFERENCE: {}", failure.text);

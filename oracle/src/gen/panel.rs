@@ -71,7 +71,7 @@ fn any_accesses(rng: &mut Rng, style: &Style) -> Vec<Call> {
 /// The accesses that make this call through the panel: writes of the registers
 /// that its op uses, in any order and sometimes of others, then of the command.
 /// None for a call that is no command. A number over 255 becomes 255.
-pub(super) fn through_panel(rng: &mut Rng, call: &Call) -> Option<Vec<Call>> {
+fn through_panel(rng: &mut Rng, call: &Call) -> Option<Vec<Call>> {
     let (op, used) = match *call {
         Call::Create { set, file } => (1, vec![(SET, set), (FILE, file)]),
         Call::Delete { set, file } => (4, vec![(SET, set), (FILE, file)]),
@@ -133,16 +133,6 @@ fn any_command(rng: &mut Rng) -> Vec<Call> {
     accesses
 }
 
-/// Writes that run no command: of a value that is none, of other registers, and of offsets
-/// that no register has.
-pub(super) fn edge_writes(rng: &mut Rng) -> Vec<Call> {
-    let offsets = [CAUSE, MASK, SET, FILE, OTHER, 1, 15, rng.pick(&WRONG_OFFSETS)];
-    let mut writes = vec![write(0, rng.pick(&NO_COMMANDS)), write(u32::MAX, 1)];
-    writes.extend(offsets.map(|offset| write(offset, any_value(rng, offset))));
-    rng.shuffle(&mut writes);
-    writes
-}
-
 /// Sixteen registers with any bytes, put there from outside.
 pub fn any_registers(rng: &mut Rng) -> Vec<Item> {
     let mut items = vec![Item::Length { buffer: Buffer::Registers, length: REGISTERS }];
@@ -172,7 +162,7 @@ fn from_outside(rng: &mut Rng, style: &Style, beside: &Beside) -> Vec<Item> {
     items
 }
 
-pub(super) fn as_items(calls: Vec<Call>) -> Vec<Item> {
+fn as_items(calls: Vec<Call>) -> Vec<Item> {
     calls.into_iter().map(Item::Call).collect()
 }
 
@@ -191,12 +181,6 @@ fn accesses(rng: &mut Rng, style: &Style, beside: &Beside) -> Vec<Item> {
 /// compactions. Document 02: "Compaction may stand among the calls of a sequence from then
 /// on."
 pub fn turn(rng: &mut Rng, style: &Style, beside: &Beside) -> Vec<Item> {
-    let items = full_turn(rng, style, beside);
-    profile::some_under_bench(rng, style.bench, items)
-}
-
-/// The same without calls of the Bench profile.
-fn full_turn(rng: &mut Rng, style: &Style, beside: &Beside) -> Vec<Item> {
     if rng.percent(style.panel) {
         return accesses(rng, style, beside);
     }
@@ -213,10 +197,6 @@ fn full_turn(rng: &mut Rng, style: &Style, beside: &Beside) -> Vec<Item> {
 /// with the registers it uses, sometimes after other writes; of conversions, one with
 /// the older tables that it takes; of compactions, one with its spare page.
 pub fn turn_of(rng: &mut Rng, style: &Style, beside: &Beside, index: usize) -> Vec<Item> {
-    if let Some(full) = profile::full_place(index) {
-        let items = turn_of(rng, style, beside, full);
-        return profile::some_under_bench(rng, 100, items);
-    }
     match index {
         CONVERT => return terms::conversion(rng, style, beside),
         COMPACT => return compact::compaction(rng),
@@ -232,7 +212,7 @@ pub fn turn_of(rng: &mut Rng, style: &Style, beside: &Beside, index: usize) -> V
 }
 
 /// A start in which most calls that a command can run are made through the panel.
-pub(super) fn by_panel(rng: &mut Rng, style: Style, calls: Vec<Call>, then: Vec<Call>) -> Start {
+fn by_panel(rng: &mut Rng, style: Style, calls: Vec<Call>, then: Vec<Call>) -> Start {
     let [calls, then] = [calls, then].map(|calls| {
         let through = |call: Call| match through_panel(rng, &call) {
             Some(accesses) if rng.percent(80) => [accesses, looks(rng)].concat(),

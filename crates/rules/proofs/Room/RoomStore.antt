@@ -23,7 +23,7 @@ use Rattle.rules.proofs.Whole.OrderMarks.{only_sets, shown_tallies}
 use Rattle.rules.specs.Agreement.{tally_in}
 use Rattle.rules.specs.Calls.{Result, Store, accepted, begin, blank_memory, result_of, step, tree_in, view_of, worked}
 use Rattle.rules.specs.Freed.{freed_by_pages, freed_by_write, freed_given}
-use Rattle.rules.specs.Numbers.{Answer, Call, View, conditions, end_over, file_absent, file_marked, first_applying, no_such_file, no_such_set, not_formed, number_of, read_only, refusal, write}
+use Rattle.rules.specs.Numbers.{Answer, Call, View, conditions, end_over, file_absent, file_marked, lowest, no_such_file, no_such_set, not_formed, number_of, read_only, refusal, write}
 use Rattle.rules.specs.Rules.{Work, extra_pages, own_need, touched, write_file}
 use Rattle.rules.specs.State.{Entry, File, Files, Tree, is_marked, is_stored, largest_size, marked, page_count, stored, unmapped}
 use Rattle.rules.specs.Storage.{free_blocks, real}
@@ -31,7 +31,7 @@ use Rattle.rules.specs.Tally.{Both, Tally, Turn, both_as, both_step, holds_byte,
 
 -- THE NUMBER 8 is not given where the own need is there
 not_eight : (v : View) (g s f off : ℕ) (bs : List ℕ) → v.write_need s f off (length bs) ≤ v.free → number_of v (write g s f off bs) ≡ 8 → ⊥
-unfolding number_of conditions first_applying
+unfolding number_of conditions lowest
 not_eight v g s f off bs l h =
     go (not_formed v).0 (no_such_set v s).0 (no_such_file v f).0 (read_only v s).0 (file_absent v s f).0 (file_marked v s f).0 (end_over v (off + length bs)).0
     (rw (le-ltb v.free (v.write_need s f off (length bs)) l) at h)

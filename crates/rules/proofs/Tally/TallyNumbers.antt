@@ -14,7 +14,7 @@ use Rattle.rules.proofs.Steps.OneStep.{FilesOk, TreeOk}
 use Rattle.rules.proofs.Tally.TallyLoops.{byte_pages, count_pages}
 use Rattle.rules.proofs.Tally.TallyReach.{NoVirginRoot, kind_resolve, no_virgin_root, size_reading}
 use Rattle.rules.specs.Calls.{Store, tree_in, view_of}
-use Rattle.rules.specs.Numbers.{Call, View, conditions, create, delete, first_applying, format, make, number_of, read, remove, tell_free, tell_size, truncate, write}
+use Rattle.rules.specs.Numbers.{Call, View, conditions, create, delete, format, lowest, make, number_of, read, remove, tell_free, tell_size, truncate, write}
 use Rattle.rules.specs.Plain.{Plain}
 use Rattle.rules.specs.Reading.{resolve, size_by_reading}
 use Rattle.rules.specs.Rules.{count_in, kept_pages, own_need, touched, truncate_need}
@@ -78,7 +78,7 @@ module _ (tr : Tree) (st : ℕ → ℕ → State) (fr : ℕ) where
   -- needs that agree up to 32,768 give the same numbers: past it, number 7 comes first
   same_number : (wn wn' : ℕ → ℕ → ℕ → ℕ → ℕ) (tn tn' : ℕ → ℕ → ℕ → ℕ) → ((s f off n : ℕ) → off + n ≤ largest_size → wn s f off n ≡ wn' s f off n) → ((s f n : ℕ) → tn s f n ≡ tn' s f n) →
       (c : Call) → number_of (view_with wn tn) c ≡ number_of (view_with wn' tn') c
-  unfolding number_of conditions first_applying
+  unfolding number_of conditions lowest
   same_number wn wn' tn tn' h k format = refl
   same_number wn wn' tn tn' h k (create s f) = refl
   same_number wn wn' tn tn' h k (write g s f off bs) =

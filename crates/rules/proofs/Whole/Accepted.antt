@@ -10,13 +10,13 @@ use borrow.Author.Tests.{eqb-false, le-ltb, leb-false, lt-ltb, ltb-false, ltb-tr
 use Rattle.base.specs.Logic.{and_left, and_right, or_left_false, or_right_false}
 use Rattle.rules.proofs.Steps.States.{live_of, live_present, live_unmarked}
 use Rattle.rules.specs.Calls.{Store, accepted, result_of, step, view_of, worked}
-use Rattle.rules.specs.Numbers.{Call, View, conditions, create, delete, end_over, file_absent, file_marked, first_applying, format, is_nil, make, need_over, no_such_file, no_such_set, not_formed, number_of, read, read_only, remove, tell_free, tell_size, truncate, write}
+use Rattle.rules.specs.Numbers.{Call, View, conditions, create, delete, end_over, file_absent, file_marked, format, is_nil, lowest, make, need_over, no_such_file, no_such_set, not_formed, number_of, read, read_only, remove, tell_free, tell_size, truncate, write}
 use Rattle.rules.specs.State.{is_absent, live}
 use Rattle.rules.specs.Storage.{Memory, real}
 
 -- the first condition does not apply, nor does one of the others
-pub pass : (b : Bool) (n : ℕ) (xs : List (Bool × ℕ)) → first_applying ((b, suc n) ∷ xs) ≡ 0 → (b ≡ false) × (first_applying xs ≡ 0)
-unfolding first_applying
+pub pass : (b : Bool) (n : ℕ) (xs : List (Bool × ℕ)) → lowest ((b, suc n) ∷ xs) ≡ 0 → (b ≡ false) × (lowest xs ≡ 0)
+unfolding lowest
 pass true n xs h = absurd (omega arith)
 pass false n xs h = (refl, h)
 
@@ -50,7 +50,7 @@ module _ (v : View) where
     pub room : need ≤ v.free
 
   written : (s f end need : ℕ)
-      → first_applying (not_formed v ∷ no_such_set v s ∷ no_such_file v f ∷ read_only v s ∷ file_absent v s f ∷ file_marked v s f ∷ end_over v end ∷ need_over v need ∷ []) ≡ 0
+      → lowest (not_formed v ∷ no_such_set v s ∷ no_such_file v f ∷ read_only v s ∷ file_absent v s f ∷ file_marked v s f ∷ end_over v end ∷ need_over v need ∷ []) ≡ 0
       → MayWrite s f end need
   written s f end need h =
       let p₁ = pass _ 0 _ h in
@@ -78,7 +78,7 @@ module _ (v : View) where
   unfolding number_of conditions
   passed_truncate s f n h = written s f n (v.truncate_need s f n) h
 
-  looked : (s f : ℕ) → first_applying (not_formed v ∷ no_such_set v s ∷ no_such_file v f ∷ file_absent v s f ∷ file_marked v s f ∷ []) ≡ 0 → MayLook s f
+  looked : (s f : ℕ) → lowest (not_formed v ∷ no_such_set v s ∷ no_such_file v f ∷ file_absent v s f ∷ file_marked v s f ∷ []) ≡ 0 → MayLook s f
   looked s f h =
       let p₁ = pass _ 0 _ h in
       let p₂ = pass _ 1 _ p₁.1 in
@@ -167,7 +167,7 @@ module _ (v : View) where
 
   -- no condition applies: the call is accepted
   pub accepts_write : v.formed ≡ true → (g s f off : ℕ) (bs : List ℕ) → MayWrite s f (off + length bs) (v.write_need s f off (length bs)) → number_of v (write g s f off bs) ≡ 0
-  unfolding number_of conditions first_applying
+  unfolding number_of conditions lowest
   accepts_write formed g s f off bs w =
       rw (
         formed,

@@ -39,7 +39,7 @@ abbrev pub only_sets : Store real → Plain
 only_sets r = record { tree = tree_in real r; files = λ f s. none }
 
 -- an accepted call gives the number 0 on the tally
-pub tally_number : (blocks : ℕ) (c : Call) (ta : Tally) → (tally_call blocks c ta).answer.number ≡ 0
+tally_number : (blocks : ℕ) (c : Call) (ta : Tally) → (tally_call blocks c ta).answer.number ≡ 0
 unfolding tally_call tally_read tally_told tally_write tally_delete tally_leaves tally_grow tally_cut
 tally_number blocks format ta = refl
 tally_number blocks (create s f) ta = refl

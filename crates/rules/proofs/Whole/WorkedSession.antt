@@ -9,7 +9,7 @@ use Rattle.base.specs.Search.{first_free, search_from}
 use Rattle.base.specs.Tabulate.{tab}
 use Rattle.base.specs.Update.{upd}
 use Rattle.rules.specs.Calls.{Result, Store, accepted, blank_memory, created, formatted, made, result_of, step, worked}
-use Rattle.rules.specs.Numbers.{Answer, conditions, create, first_applying, make, narrow_write, number_of}
+use Rattle.rules.specs.Numbers.{Answer, conditions, create, lowest, make, narrow_write, number_of}
 use Rattle.rules.specs.Reading.{dependent, depends_on, needs, reaches, resolve, size_by_reading, some_unmapped, walk}
 use Rattle.rules.specs.Rules.{change, copy, count_in, each, enter, enter_as, extra_pages, free_sets, from, give, give_all, give_page, holes, mark, mark_down, own_need, page_of, put_entry, reserve, reserve_as, resize, settle, settle_as, settle_file, supply, take_own, touched, write_file}
 use Rattle.rules.specs.Sets.{append_set, link_behind, link_last, root_alone}
@@ -19,7 +19,7 @@ use Rattle.rules.specs.Terms.{default_term}
 
 -- the definitions that are computed
 unfoldable computed : Unit {0}
-unfolding step result_of accepted number_of first_applying conditions formatted created made worked write_file change settle settle_file settle_as each reserve reserve_as take_own take_block first_free search_from free_blocks count count_in give_all give_page extra_pages give supply mark free_sets copy enter enter_as resize page_of own_need touched from resolve size_by_reading walk needs dependent some_unmapped depends_on reaches mark_down holes put_entry overlay upd append_set link_last link_behind root_alone children_of chain tab
+unfolding step result_of accepted number_of lowest conditions formatted created made worked write_file change settle settle_file settle_as each reserve reserve_as take_own take_block first_free search_from free_blocks count count_in give_all give_page extra_pages give supply mark free_sets copy enter enter_as resize page_of own_need touched from resolve size_by_reading walk needs dependent some_unmapped depends_on reaches mark_down holes put_entry overlay upd append_set link_last link_behind root_alone children_of chain tab
 computed = tt
 
 -- "It formats 64 blocks": the four calls 1000000000000000 2000000004004100 5001000000000000 20000258000A4200
