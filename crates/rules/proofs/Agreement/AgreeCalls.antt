@@ -61,7 +61,7 @@ module _ (st : Store model) (pl : Plain) (g : Plainly st pl) where
         (λ n. rw (upd_other st.files f b f' n, upd_other pl.files f (upd (pl.files f) s o) f' n) (g.agree f'));
   }
 
-  module _ (v : Orderly st) (B : ℕ) (now : View) (is : now ≡ view_of model true true st) where
+  module _ (v : Orderly st) (B : ℕ) (seen : View) (is : seen ≡ view_of model true true st) where
     -- a live file has a list
     listed : (s f : ℕ) → live (st.files f s).state ≡ true → (l : List ℕ) × (pl.files f s ≡ some l)
     listed s f al = has_list (pl.files f s) ((g.agree f).there s ∙ live_present (st.files f s).state al)
@@ -125,10 +125,10 @@ module _ (st : Store model) (pl : Plain) (g : Plainly st pl) where
     delete_plain s f =
         one_file f s _ none _ (agree_gone (tree_in model st) s (st.files f) _ (pl.files f) (g.agree f) (deleted (tree_in model st) v.proper s (begin model st f) (v.files_ok f)))
 
-    module _ (made-tree : (s c : ℕ) (w : Bool) → MayMake (λ x. x.now) s c → tree_of (append_set s c w st.sets) ≡ add_child (tree_of st.sets) s c w)
-        (removed-tree : (c : ℕ) → MayRemove (λ x. x.now) c → tree_of (unlink_set c st.sets) ≡ take_away (tree_of st.sets) c)
+    module _ (made-tree : (s c : ℕ) (w : Bool) → MayMake seen s c → tree_of (append_set s c w st.sets) ≡ add_child (tree_of st.sets) s c w)
+        (removed-tree : (c : ℕ) → MayRemove seen c → tree_of (unlink_set c st.sets) ≡ take_away (tree_of st.sets) c)
         (root-tree : tree_of root_alone ≡ root_tree) where
-      make_plain : (s c : ℕ) (w : Bool) → MayMake (λ x. x.now) s c → Plainly (made model s c w st) (plain_call (make s c w) pl)
+      make_plain : (s c : ℕ) (w : Bool) → MayMake seen s c → Plainly (made model s c w st) (plain_call (make s c w) pl)
       unfolding made plain_call
       make_plain s c w m =
           let us : (st.sets s).used ≡ true = ap (λ (x : View). x.tree.used s) (sym is) ∙ m.set.used in
@@ -139,7 +139,7 @@ module _ (st : Store model) (pl : Plain) (g : Plainly st pl) where
             agree = λ f. rw (made-tree s c w m) (make_agree (tree_in model st) s c w (st.files f) (v.files_ok f) ne (v.unused f c uc) (pl.files f) (g.agree f));
           }
 
-      remove_plain : (c : ℕ) → MayRemove (λ x. x.now) c → Plainly (removed model c st) (plain_call (remove c) pl)
+      remove_plain : (c : ℕ) → MayRemove seen c → Plainly (removed model c st) (plain_call (remove c) pl)
       unfolding removed plain_call
       remove_plain c m =
           let none_in : (x : ℕ) → Memᴰ x ((tree_in model st).children c) → ⊥ = λ x k. elim (subst (λ l. Memᴰ x l) (ap (λ (y : View). y.tree.children c) (sym is) ∙ m.childless) k) [ ] in
@@ -158,16 +158,16 @@ module _ (st : Store model) (pl : Plain) (g : Plainly st pl) where
       }
 
       -- AN ACCEPTED CALL
-      pub accepted_plain : (c : Call) → number_of (λ x. x.now) c ≡ 0 → Plainly (accepted model B c st).store (plain_call c pl)
+      pub accepted_plain : (c : Call) → number_of seen c ≡ 0 → Plainly (accepted model B c st).store (plain_call c pl)
       unfolding accepted plain_call
       accepted_plain format h = format_plain
-      accepted_plain (create s f) h = create_plain s f (ap (λ (x : View). is_absent (x.state f s)) (sym is) ∙ (passed_create (λ x. x.now) s f h).gone)
+      accepted_plain (create s f) h = create_plain s f (ap (λ (x : View). is_absent (x.state f s)) (sym is) ∙ (passed_create seen s f h).gone)
       accepted_plain (write k s f off []) h = g
-      accepted_plain (write k s f off (x ∷ bs)) h = write_plain k s f off x bs (ap (λ (x : View). live (x.state f s)) (sym is) ∙ (passed_write (λ x. x.now) k s f off (x ∷ bs) h).alive)
+      accepted_plain (write k s f off (x ∷ bs)) h = write_plain k s f off x bs (ap (λ (x : View). live (x.state f s)) (sym is) ∙ (passed_write seen k s f off (x ∷ bs) h).alive)
       accepted_plain (read s f off buffer) h = g
-      accepted_plain (truncate s f n) h = truncate_plain s f n (ap (λ (x : View). live (x.state f s)) (sym is) ∙ (passed_truncate (λ x. x.now) s f n h).alive)
+      accepted_plain (truncate s f n) h = truncate_plain s f n (ap (λ (x : View). live (x.state f s)) (sym is) ∙ (passed_truncate seen s f n h).alive)
       accepted_plain (delete s f) h = delete_plain s f
-      accepted_plain (make s c w) h = make_plain s c w (passed_make (λ x. x.now) s c w h)
-      accepted_plain (remove s) h = remove_plain s (passed_remove (λ x. x.now) s h)
+      accepted_plain (make s c w) h = make_plain s c w (passed_make seen s c w h)
+      accepted_plain (remove s) h = remove_plain s (passed_remove seen s h)
       accepted_plain (tell_size s f) h = g
       accepted_plain tell_free h = g

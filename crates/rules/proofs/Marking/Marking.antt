@@ -28,15 +28,15 @@ module _ (t : Tree) (fs : TallyFiles) where
       mark_below g.0 q.0 g.1 (and_left _ _ a) q.1 q.2 (with_down n g.0 y (and_right (depends_above t (fs g.0)) _ g.2)))
 
   module _ (ok : TreeOk t) (shallow : (x : ℕ) → t.level x ≤ set_count) where
-    down_reaches : (c y : ℕ) → MarkedDown t fs y c → reaches t fs c y ≡ true
+    down_reaches : (y c : ℕ) → MarkedDown t fs y c → reaches t fs c y ≡ true
     unfolding reaches dependent
-    down_reaches c y (mark_itself e) = subst (λ z. depends_on t fs c (t.level z) z ≡ true) e (reaches_self t fs c (t.level c))
-    down_reaches c y (mark_below d p m a l u r) =
-        one_up t ok fs c d m (and_both _ _ a (unmapped_some (fs d).map p page_count l u)) (t.level y) y refl (down_reaches d y r)
+    down_reaches y c (mark_itself e) = subst (λ z. depends_on t fs c (t.level z) z ≡ true) e (reaches_self t fs c (t.level c))
+    down_reaches y c (mark_below d p m a l u r) =
+        one_up t ok fs c d m (and_both _ _ a (unmapped_some (fs d).map p page_count l u)) (t.level y) y refl (down_reaches y d r)
 
     -- the test of the tally says so exactly
     pub marked_down : (c y : ℕ) → (marked_with t fs c y ≡ true) ↔ MarkedDown t fs y c
-    marked_down c y = (with_down set_count c y, λ r. marked_reaches t ok fs c y (shallow y) ∙ down_reaches c y r)
+    marked_down c y = (with_down set_count c y, λ r. marked_reaches t ok fs c y (shallow y) ∙ down_reaches y c r)
 
 -- ONE CHILD'S TURN
 -- a needed copy that finds none free, as a test

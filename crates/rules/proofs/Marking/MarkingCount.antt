@@ -34,9 +34,9 @@ count_if n true f = refl
 count_if n false f = count_none n _ (λ x l. refl)
 
 -- who is marked with an own or virgin file is own or virgin
-live_down : (t : Tree) (fs : TallyFiles) (c y : ℕ) → live (fs c).state ≡ true → MarkedDown t fs y c → live (fs y).state ≡ true
-live_down t fs c y h (mark_itself e) = ap (λ z. live (fs z).state) (sym e) ∙ h
-live_down t fs c y h (mark_below d p m a l u r) = live_down t fs d y a r
+live_down : (t : Tree) (fs : TallyFiles) (y c : ℕ) → live (fs c).state ≡ true → MarkedDown t fs y c → live (fs y).state ≡ true
+live_down t fs y c h (mark_itself e) = ap (λ z. live (fs z).state) (sym e) ∙ h
+live_down t fs y c h (mark_below d p m a l u r) = live_down t fs y d a r
 
 -- the sets below 8 whose file is marked
 abbrev pub marked_sets : TallyFiles → ℕ
@@ -61,7 +61,7 @@ module _ (t : Tree) (proper : ProperTree t) (shallow : (x : ℕ) → t.level x �
       count_same set_count _ _ (λ y l. turn_test t s p c x y)
       ∙ count_or set_count (λ y. is_marked (x.files y).state) (λ y. finds_none t s p c x && marked_with t x.files c y)
       (λ y a b. true≢false (sym a ∙ live_unmarked (x.files y).state
-      (live_down t x.files c y (finds_none_law t s p c x (and_left _ (marked_with t x.files c y) b)).alive
+      (live_down t x.files y c (finds_none_law t s p c x (and_left _ (marked_with t x.files c y) b)).alive
       ((marked_down t x.files proper.ok shallow c y).0 (and_right (finds_none t s p c x) _ b)))))
       ∙ ap (λ n. marked_sets x.files + n) (count_if set_count (finds_none t s p c x) (marked_with t x.files c))
 

@@ -37,6 +37,7 @@ module _ {A W : Type 0} (f : A → W → W) where
       ((x y : A) (w : W) → Memᴰ y xs → I w → P x w → P x (f y w)) →
       (w : W) → I w → (x : A) → Memᴰ x xs → P x (each f xs w)
   unfolding each
+  each_all I P [] h d k w i x m = elim m [ ]
   each_all I P (y ∷ xs) h d k w i x (Memᴰ.head e) =
       (each_inv (λ v. I v × P x v) xs (λ z v m j. (h z v (Memᴰ.tail m) j.0, k x z v (Memᴰ.tail m) j.0 j.1)) (f y w)
       (h y w (Memᴰ.head refl) i, subst (λ z. P z (f y w)) (sym e) (d y w (Memᴰ.head refl) i))).1

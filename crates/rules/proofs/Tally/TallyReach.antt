@@ -90,6 +90,7 @@ module _ (t : Tree) (fs : TallyFiles) where
 -- a test that some member of a list passes
 any_of_law : (xs : List ℕ) (f : ℕ → Bool) (x : ℕ) → Memᴰ x xs → f x ≡ true → any_of xs f ≡ true
 unfolding any_of
+any_of_law [] f x m h = elim m [ ]
 any_of_law (y ∷ ys) f x (mathlib.Core.List.Memᴰ.head e) h = rw (← e, h)
 any_of_law (y ∷ ys) f x (mathlib.Core.List.Memᴰ.tail m) h = or_right (f y) _ (any_of_law ys f x m h)
 
