@@ -5,7 +5,7 @@ ghost use Rattle.calls.specs.Outcomes.{answer_meant};
 
 // "An accepted call gives 0 and three counts."
 #[repr(C)]
-#[derive(Drop)]
+#[derive(Clone, Copy)]
 pub struct Answer {
     pub number: u32,
     pub first: u32,

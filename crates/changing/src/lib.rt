@@ -5,7 +5,7 @@ pub mod deleting;
 pub mod dropping;
 
 // "three counts": own blocks taken, copies, files newly marked.
-#[derive(Drop)]
+#[derive(Clone, Copy)]
 pub struct Totals {
     pub taken: u32,
     pub copies: u32,

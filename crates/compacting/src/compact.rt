@@ -55,7 +55,7 @@ fn place_entry(
 }
 
 // How far it is: how many blocks are given, and the first block of the owners' window.
-#[derive(Drop)]
+#[derive(Clone, Copy)]
 pub struct Progress {
     pub given: usize,
     pub window: usize,

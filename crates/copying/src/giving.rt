@@ -18,7 +18,7 @@ use tables::entries::{Block, Entry, Kept, Page};
 use tables::{entries, header, sets};
 
 // The counts of a call, and the free blocks that are left.
-#[derive(Drop)]
+#[derive(Clone, Copy)]
 pub struct Counts {
     pub taken: u32,
     pub copies: u32,
@@ -52,7 +52,7 @@ fn copy_to(
 
 // How pages are given to the children that need them: copied; handed over, to the first of them, where the file's own map stores
 // the page, and copied for the others; or, as extra pages, copied where a block is free and else left.
-#[derive(Drop)]
+#[derive(Clone, Copy)]
 enum How {
     Copied,
     Handed,
@@ -164,7 +164,7 @@ fn give_chain(
 
 // Who has a turn at a page: set `next` and the sets behind it in its chain, `most` at most; then set `heir` takes the page over, where that is
 // a set.
-#[derive(Drop)]
+#[derive(Clone, Copy)]
 struct InTurn {
     heir: usize,
     next: usize,

@@ -5,7 +5,7 @@ ghost use Rattle.rules.specs.Terms.{count_fits, date_exists, day_or_last, days_i
 ghost use Rattle.dates.specs.Days.{term_meant};
 
 // The days of a term: its first day, and its end day, which it is without.
-#[derive(Drop)]
+#[derive(Clone, Copy)]
 pub struct Days {
     pub first_day: usize,
     pub end_day: usize,

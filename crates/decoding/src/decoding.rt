@@ -6,7 +6,7 @@ ghost use Rattle.decoding.specs.Decoding.{FieldsFit, all_zero, ask, bad, call_fi
 use packing::words;
 
 // A call that a session can ask for.
-#[derive(Drop)]
+#[derive(Clone, Copy)]
 pub enum Asked {
     Create {
         set: u32,
@@ -38,14 +38,14 @@ pub enum Asked {
     },
 }
 
-#[derive(Drop)]
+#[derive(Clone, Copy)]
 pub enum Decoded {
     Bad,
     Call(Asked),
 }
 
 // "op 4 bits, set 4, file 4, other 4, offset 16, length 16, fill 8, zero 8"
-#[derive(Drop)]
+#[derive(Clone, Copy)]
 struct Fields {
     op: u32,
     set: u32,

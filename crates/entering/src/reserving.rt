@@ -14,14 +14,14 @@ use tables::entries;
 use tables::entries::{Block, Entry, Page, Pending};
 
 // The block that a page will have, and the counts then.
-#[derive(Drop)]
+#[derive(Clone, Copy)]
 struct OwnBlock {
     block: Block,
     counts: Counts,
 }
 
 // The blocks that are pending for pages, and the counts then.
-#[derive(Drop)]
+#[derive(Clone, Copy)]
 pub struct Reservation {
     pub pending: [Pending; 64],
     pub counts: Counts,

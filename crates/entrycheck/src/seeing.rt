@@ -102,7 +102,7 @@ fn in_row(t: &[u8], at: usize) -> bool
 }
 
 // Whether the blocks are new and below the limit, and the pages that are left.
-#[derive(Drop)]
+#[derive(Clone, Copy)]
 struct Left {
     pub ok: bool,
     pub pages: u64,
@@ -157,7 +157,7 @@ fn see_rows(t: &[u8], seen: &mut [u8; 512], at: usize, m: u64, limit: usize) -> 
 }
 
 // Whether every entry passes; and then which pages are stored and which unmapped, each later page a less significant bit.
-#[derive(Drop)]
+#[derive(Clone, Copy)]
 pub struct Masks {
     pub ok: bool,
     pub stored: u64,

@@ -25,7 +25,7 @@ pub mod linked;
 pub mod places;
 
 // Does the first part pass, and from which set on are all file records zero?
-#[derive(Drop)]
+#[derive(Clone, Copy)]
 struct First {
     pub ok: bool,
     pub blank: usize,

@@ -9,7 +9,7 @@ use crate::files::list_own;
 use tables::sets;
 
 // The place past what is written, and how many sets are not visited yet.
-#[derive(Drop)]
+#[derive(Clone, Copy)]
 pub struct Place {
     pub at: usize,
     pub left: usize,

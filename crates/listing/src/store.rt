@@ -7,7 +7,7 @@ use crate::sets::list_set;
 use formed::well_formed;
 
 // What became of a listing: with TooSmall, how many bytes the buffer needs; with Written, how many stand in it.
-#[derive(Drop)]
+#[derive(Clone, Copy)]
 pub enum Listed {
     NotWellFormed,
     TooSmall(usize),

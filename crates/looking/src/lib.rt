@@ -12,7 +12,7 @@ use maps::{reading, resolving};
 use tables::entries::{Entry, Kept};
 
 // "Read: bytes, maps looked at".
-#[derive(Drop)]
+#[derive(Clone, Copy)]
 pub struct ReadCounts {
     pub bytes: u32,
     pub looks: u32,

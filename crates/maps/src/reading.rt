@@ -12,7 +12,7 @@ use tables::files::State;
 use tables::{entries, files, sets};
 
 // What a page resolves to, and how many maps were looked at.
-#[derive(Drop)]
+#[derive(Clone, Copy)]
 pub struct Resolved {
     pub entry: Entry,
     pub looks: u32,

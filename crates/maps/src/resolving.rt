@@ -9,7 +9,7 @@ use tables::entries::{Kept, Page};
 use tables::{entries, sets};
 
 // What each of 64 pages resolves to, and how many maps were looked at for all of them.
-#[derive(Drop)]
+#[derive(Clone, Copy)]
 pub struct ResolvedPages {
     pub kept: [Kept; 64],
     pub looks: u32,

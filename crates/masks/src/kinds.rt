@@ -36,7 +36,7 @@ fn gather_32(x: u64) -> u64
 }
 
 // The masks of the stored pages and of the holes: page 0 is the most significant bit. A page of kind 3 is in both.
-#[derive(Drop)]
+#[derive(Clone, Copy)]
 pub struct Kinds {
     pub stored: u64,
     pub holes: u64,

@@ -8,7 +8,7 @@ ghost use Rattle.packing.specs.FirstFree.{FoundIn, found_of, scanned};
 use crate::words::{low64, read64};
 
 // A bit that was found, or none.
-#[derive(Drop)]
+#[derive(Clone, Copy)]
 pub enum Found {
     At(usize),
     Nothing,

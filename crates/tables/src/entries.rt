@@ -15,15 +15,15 @@ use packing::bitmap::Found;
 use packing::{bitmap, words};
 
 // A file page number.
-#[derive(Drop)]
+#[derive(Clone, Copy)]
 pub struct Page(usize);
 
 // A store block number. It is no wider than an entry, so that an Entry is small and passed on in one piece.
-#[derive(Drop)]
+#[derive(Clone, Copy)]
 pub struct Block(u16);
 
 // "a page is unmapped, a hole, or stored in a named block"
-#[derive(Drop)]
+#[derive(Clone, Copy)]
 pub enum Entry {
     Unmapped,
     Hole,
@@ -31,11 +31,11 @@ pub enum Entry {
 }
 
 // The entry of a page as a map has it, kept undecoded: a hole, or made by a lookup in a map.
-#[derive(Drop)]
+#[derive(Clone, Copy)]
 pub struct Kept(u16);
 
 // The block that is pending for a page, or none: made of a block. A number from 16,384 on means none.
-#[derive(Drop)]
+#[derive(Clone, Copy)]
 pub struct Pending(u16);
 
 impl Page {

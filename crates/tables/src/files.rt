@@ -9,7 +9,7 @@ ghost use Rattle.tables.specs.Meaning.{state_meant};
 use crate::places::{FILE_BYTES, FILES_AT};
 use packing::words;
 
-#[derive(Drop)]
+#[derive(Clone, Copy)]
 pub enum State {
     Absent,
     Own,

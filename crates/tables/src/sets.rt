@@ -14,7 +14,7 @@ use packing::words;
 // "end at most 36,525": the latest end day, the day after the last.
 pub const END_DAY: usize = 36525;
 
-#[derive(Drop)]
+#[derive(Clone, Copy)]
 pub struct SetRecord {
     pub used: bool,
     pub writeable: bool,

@@ -7,7 +7,7 @@ use decoding::performing::perform;
 use listing::lines::{put_call, put_end};
 
 // How many bytes the line has, and whether reading goes on.
-#[derive(Drop)]
+#[derive(Clone, Copy)]
 pub struct Told {
     pub size: usize,
     pub goes_on: bool,
