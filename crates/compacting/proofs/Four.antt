@@ -12,7 +12,7 @@ use Rattle.masks.proofs.PageMasks.{mask_page}
 use Rattle.masks.proofs.Tracks.{and_one, stored_bit}
 use Rattle.masks.specs.Network.{words_at}
 use Rattle.packing.specs.Bitmap.{is_one}
-use Rattle.packing.specs.Bits.{bit, bit_and, bit_lt, bit_none}
+use Rattle.packing.specs.Bits.{bit, bit_and_law, bit_lt, bit_none}
 use Rattle.packing.specs.Words.{Bytes}
 use Rattle.rules.specs.State.{is_stored}
 use Rattle.tables.specs.Layout.{map_at}
@@ -32,7 +32,7 @@ none_left : (w j : ℕ) → j < 4 → bit_and w 0x0080008000800080 ≡ 0 → bit
 none_left w j l h =
     sym (and_one (bit w (j * 16 + 7)) (bit_lt w (j * 16 + 7)))
     ∙ ap (bit_and (bit w (j * 16 + 7))) (sym (four_bits j l))
-    ∙ sym (bit_and w 0x0080008000800080 (j * 16 + 7))
+    ∙ sym (bit_and_law w 0x0080008000800080 (j * 16 + 7))
     ∙ ap (λ x. bit x (j * 16 + 7)) h
     ∙ bit_none (j * 16 + 7)
 

@@ -18,7 +18,7 @@ use Rattle.entrycheck.proofs.MovedPages.{without}
 use Rattle.entrycheck.proofs.Runs.{in_run_law, in_run, not_in_run, run?}
 use Rattle.entrycheck.specs.Moving.{Full, rows}
 use Rattle.packing.specs.Bitmap.{is_one}
-use Rattle.packing.specs.Bits.{bit, bit_and, bit_lt, bit_mod, bit_not, bit_shr}
+use Rattle.packing.specs.Bits.{bit, bit_and_law, bit_lt, bit_mod, bit_not, bit_shr}
 
 is_one_law : (x : ℕ) → x < 2 → is_one x ≡ true → x ≡ 1
 is_one_law zero h e = absurd (true≢false (sym e))
@@ -88,7 +88,7 @@ module _ (m k : ℕ) (h : k < 61) where
       (λ e. let a = ltb-false j k e in bit_above 15 k j a ∙ fifteen_high (j - k) (test? (ltb j (k + 4)) (λ d. absurd (o a (ltb-true j (k + 4) d))) (λ d. let b = ltb-false j (k + 4) d in omega arith)))
 
   rest_bit : (j : ℕ) → j < 64 → bit rest j ≡ bit_and (bit m j) (1 - bit four j)
-  rest_bit j l = bit_and m ((2 ^ 64 - 1) - four) j ∙ ap (bit_and (bit m j)) (bit_not 64 j four (mod-lt (15 * 2 ^ k) (pow_pos 64)) l)
+  rest_bit j l = bit_and_law m ((2 ^ 64 - 1) - four) j ∙ ap (bit_and (bit m j)) (bit_not 64 j four (mod-lt (15 * 2 ^ k) (pow_pos 64)) l)
 
   -- LAW: the bits k, .., k + 3 are cleared
   pub four_cleared : Cleared m rest k 4
@@ -109,7 +109,7 @@ fourth k l e =
 
 and_on : (x y k : ℕ) → is_one (bit (bit_and x y) k) ≡ true → (is_one (bit x k) ≡ true) × (is_one (bit y k) ≡ true)
 and_on x y k e =
-    let b : (is_one (bit x k) && is_one (bit y k)) ≡ true = sym (ap is_one (bit_and x y k) ∙ and_digit (bit x k) (bit y k) (bit_lt x k) (bit_lt y k)) ∙ e in
+    let b : (is_one (bit x k) && is_one (bit y k)) ≡ true = sym (ap is_one (bit_and_law x y k) ∙ and_digit (bit x k) (bit y k) (bit_lt x k) (bit_lt y k)) ∙ e in
     (and_left (is_one (bit x k)) _ b, and_right (is_one (bit x k)) _ b)
 
 -- LAW: a bit of the rows

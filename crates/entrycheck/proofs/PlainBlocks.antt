@@ -15,7 +15,7 @@ use Rattle.base.specs.Logic.{test?}
 use Rattle.entrycheck.specs.Plain.{plain, plain_at}
 use Rattle.masks.proofs.Digits.{and_digit, or_digit, zero_digits}
 use Rattle.packing.specs.Bitmap.{is_one}
-use Rattle.packing.specs.Bits.{bit, bit_and, bit_lt, bit_none, bit_or}
+use Rattle.packing.specs.Bits.{bit, bit_and_law, bit_lt, bit_none, bit_or_law}
 use Rattle.packing.specs.Words.{Bytes, get_word, low_word}
 
 -- ---- a mask of words that are joined
@@ -36,8 +36,8 @@ both_off false b c h k = k
 module _ (x y c : ℕ) (hx : x < 65536) (hy : y < 65536) where
   joined : (k : ℕ) → is_one (bit (bit_and (bit_or x y) c) k) ≡ ((is_one (bit x k) || is_one (bit y k)) && is_one (bit c k))
   joined k =
-      ap is_one (bit_and (bit_or x y) c k) ∙ and_digit (bit (bit_or x y) k) (bit c k) (bit_lt (bit_or x y) k) (bit_lt c k)
-      ∙ ap (λ o. o && is_one (bit c k)) (ap is_one (bit_or x y k) ∙ or_digit (bit x k) (bit y k) (bit_lt x k) (bit_lt y k))
+      ap is_one (bit_and_law (bit_or x y) c k) ∙ and_digit (bit (bit_or x y) k) (bit c k) (bit_lt (bit_or x y) k) (bit_lt c k)
+      ∙ ap (λ o. o && is_one (bit c k)) (ap is_one (bit_or_law x y k) ∙ or_digit (bit x k) (bit y k) (bit_lt x k) (bit_lt y k))
 
   off : bit_and (bit_or x y) c ≡ 0 → (k : ℕ) → ((is_one (bit x k) || is_one (bit y k)) && is_one (bit c k)) ≡ false
   off e k = sym (joined k) ∙ ap (λ z. is_one (bit z k)) e ∙ ap is_one (bit_none k)
@@ -45,10 +45,10 @@ module _ (x y c : ℕ) (hx : x < 65536) (hy : y < 65536) where
   masked : (z : ℕ) → z < 65536 → ((k : ℕ) → (is_one (bit z k) && is_one (bit c k)) ≡ false) → bit_and z c ≡ 0
   masked z h o =
       zero_digits 16 (bit_and z c) (lt_of_le_of_lt (and_le_l z c) h) (λ j l.
-      ap is_one (bit_and z c (15 - j)) ∙ and_digit (bit z (15 - j)) (bit c (15 - j)) (bit_lt z (15 - j)) (bit_lt c (15 - j)) ∙ o (15 - j))
+      ap is_one (bit_and_law z c (15 - j)) ∙ and_digit (bit z (15 - j)) (bit c (15 - j)) (bit_lt z (15 - j)) (bit_lt c (15 - j)) ∙ o (15 - j))
 
   bit_off : (z : ℕ) → bit_and z c ≡ 0 → (k : ℕ) → (is_one (bit z k) && is_one (bit c k)) ≡ false
-  bit_off z e k = sym (ap is_one (bit_and z c k) ∙ and_digit (bit z k) (bit c k) (bit_lt z k) (bit_lt c k)) ∙ ap (λ v. is_one (bit v k)) e ∙ ap is_one (bit_none k)
+  bit_off z e k = sym (ap is_one (bit_and_law z c k) ∙ and_digit (bit z k) (bit c k) (bit_lt z k) (bit_lt c k)) ∙ ap (λ v. is_one (bit v k)) e ∙ ap is_one (bit_none k)
 
   -- LAW: the mask of both is zero where that of each is
   or_masked : eqb (bit_and (bit_or x y) c) 0 ≡ (eqb (bit_and y c) 0 && eqb (bit_and x c) 0)

@@ -17,7 +17,7 @@ use Rattle.entrycheck.proofs.Runs.{in_run_law, in_run, not_in_run, run_counts, r
 use Rattle.entrycheck.specs.Seeing.{Sees}
 use Rattle.masks.proofs.Digits.{and_digit, or_digit, zero_digits}
 use Rattle.packing.specs.Bitmap.{bit_at, bits_same, is_one, word_bit}
-use Rattle.packing.specs.Bits.{bit, bit_and, bit_lt, bit_none, bit_or}
+use Rattle.packing.specs.Bits.{bit, bit_and_law, bit_lt, bit_none, bit_or_law}
 use Rattle.packing.specs.Words.{Bytes, get_lt, get_put_same, get_word, length_put, put_same, put_word}
 
 -- ---- binary digits
@@ -47,7 +47,7 @@ module _ (m : ℕ) (l : List ℕ) (bs : Bytes l) (i y s n : ℕ) (fit : s + n �
   both : (j : ℕ) → j < 8 * suc m → is_one (bit (bit_and x y) (8 * suc m - 1 - j)) ≡ (bit_at l 0 (8 * i + j) && in_run s n j)
   both j h =
       let k = 8 * suc m - 1 - j in
-      ap is_one (bit_and x y k) ∙ and_digit (bit x k) (bit y k) (bit_lt x k) (bit_lt y k) ∙ ap₂ ◌&&◌ (seen_bit j h) (hy j h)
+      ap is_one (bit_and_law x y k) ∙ and_digit (bit x k) (bit y k) (bit_lt x k) (bit_lt y k) ∙ ap₂ ◌&&◌ (seen_bit j h) (hy j h)
 
   -- LAW: none of the blocks is seen
   unseen : bit_and x y ≡ 0 → (c : ℕ) → 8 * i + s ≤ c → c < 8 * i + s + n → bit_at l 0 c ≡ false
@@ -73,7 +73,7 @@ module _ (m : ℕ) (l : List ℕ) (bs : Bytes l) (i y s n : ℕ) (fit : s + n �
     new_bit j h =
         let k = 8 * suc m - 1 - j in
         sym (ap (λ a. is_one (bit (get_word m l' a) k)) (sym (zero-add i)) ∙ word_bit m l' 0 i bs' j h)
-        ∙ ap (λ z. is_one (bit z k)) (get_put_same m l i (bit_or x y) hi hv) ∙ ap is_one (bit_or x y k) ∙ or_digit (bit x k) (bit y k) (bit_lt x k) (bit_lt y k)
+        ∙ ap (λ z. is_one (bit z k)) (get_put_same m l i (bit_or x y) hi hv) ∙ ap is_one (bit_or_law x y k) ∙ or_digit (bit x k) (bit y k) (bit_lt x k) (bit_lt y k)
         ∙ ap₂ ◌||◌ (seen_bit j h) (hy j h)
 
     shifted : (j : ℕ) → in_run s n j ≡ in_run (8 * i + s) n (8 * i + j)

@@ -9,7 +9,7 @@ use Rattle.masks.proofs.Digits.{and_digit, or_digit}
 use Rattle.masks.proofs.PageMasks.{mask_page}
 use Rattle.masks.specs.Pages.{page_mask}
 use Rattle.packing.specs.Bitmap.{is_one, number_lt, number_of}
-use Rattle.packing.specs.Bits.{bit, bit_and, bit_lt, bit_none, bit_or}
+use Rattle.packing.specs.Bits.{bit, bit_and_law, bit_lt, bit_none, bit_or_law}
 use Rattle.rules.specs.Reading.{resolve, shown_entry, walk}
 use Rattle.rules.specs.State.{Entry, File, Files, SetRecord, hole, is_stored, is_unmapped, stored, tree_of, unmapped}
 
@@ -19,13 +19,13 @@ page x p = is_one (bit x (63 - p))
 
 -- LAW: a digit of two numbers together
 pub digit_or : (a b j : ℕ) → is_one (bit (bit_or a b) j) ≡ (is_one (bit a j) || is_one (bit b j))
-digit_or a b j = ap is_one (bit_or a b j) ∙ or_digit (bit a j) (bit b j) (bit_lt a j) (bit_lt b j)
+digit_or a b j = ap is_one (bit_or_law a b j) ∙ or_digit (bit a j) (bit b j) (bit_lt a j) (bit_lt b j)
 
 page_or : (a b p : ℕ) → page (bit_or a b) p ≡ (page a p || page b p)
 page_or a b p = digit_or a b (63 - p)
 
 page_and : (a b p : ℕ) → page (bit_and a b) p ≡ (page a p && page b p)
-page_and a b p = ap is_one (bit_and a b (63 - p)) ∙ and_digit (bit a (63 - p)) (bit b (63 - p)) (bit_lt a (63 - p)) (bit_lt b (63 - p))
+page_and a b p = ap is_one (bit_and_law a b (63 - p)) ∙ and_digit (bit a (63 - p)) (bit b (63 - p)) (bit_lt a (63 - p)) (bit_lt b (63 - p))
 
 -- ---- does a page resolve to stored
 stored_pick : (e d : Entry ℕ) → is_stored (pick (shown_entry e) d) ≡ (is_stored e || (is_unmapped e && is_stored d))

@@ -20,7 +20,7 @@ use Rattle.masks.proofs.Tracks.{holes_bit, stored_bit}
 use Rattle.masks.specs.Network.{down, gather, holes_of, kinds32, pairs, stored_of, up, words_at}
 use Rattle.masks.specs.Pages.{entries_at, page_mask, pages}
 use Rattle.packing.specs.Bitmap.{is_one, number_of}
-use Rattle.packing.specs.Bits.{bit, bit_lt, bit_none, bit_not, bit_or}
+use Rattle.packing.specs.Bits.{bit, bit_lt, bit_none, bit_not, bit_or_law}
 use Rattle.packing.specs.Words.{Bytes, get_lt, get_word}
 use Rattle.rules.specs.State.{Entry, is_stored, is_unmapped}
 use Rattle.tables.proofs.Codes.{word_hole, word_stored, word_unmapped}
@@ -141,7 +141,7 @@ module _ (t : List ℕ) (bs : Bytes t) (at : ℕ) where
       let x = stored_of (words_at t at) in
       let y = holes_of (words_at t at) in
       sym (number_of (λ p. is_unmapped (entries_at t at p)) 0 64 ((2 ^ 64 - 1) - bit_or x y) (omega arith) (λ j l.
-      ap is_one (bit_not 64 (63 - j) (bit_or x y) (or_lt 64 x y (stored_lt _) (holes_lt _)) (omega arith) ∙ ap (λ (z : ℕ). 1 - z) (bit_or x y (63 - j)))
+      ap is_one (bit_not 64 (63 - j) (bit_or x y) (or_lt 64 x y (stored_lt _) (holes_lt _)) (omega arith) ∙ ap (λ (z : ℕ). 1 - z) (bit_or_law x y (63 - j)))
       ∙ neither (bit x (63 - j)) (bit y (63 - j)) (bit_lt x (63 - j)) (bit_lt y (63 - j))
       ∙ ap₂ (λ a b. is_one (1 - (a + b))) (stored_page t bs at j l) (holes_page t bs at j l)
       ∙ is_unmapped_law (word t bs at j) (word_lt t bs at j) ∙ ap (λ p. is_unmapped (entries_at t at p)) (sym (zero-add j))))

@@ -16,11 +16,11 @@ use Rattle.masks.proofs.LowestBit.{Lowest, lowest_is}
 use Rattle.masks.proofs.Tracks.{bit_above, bit_below}
 use Rattle.masks.specs.Pages.{IsRange, pages}
 use Rattle.packing.specs.Bitmap.{count_word, is_one}
-use Rattle.packing.specs.Bits.{bit, bit_and, bit_lt, bit_mod, bit_none, bit_not, bit_shr}
+use Rattle.packing.specs.Bits.{bit, bit_and_law, bit_lt, bit_mod, bit_none, bit_not, bit_shr}
 
 -- LAW: the pages of both masks
 pub and_pages : (x y p : ℕ) → pages (bit_and x y) p ≡ (pages x p && pages y p)
-and_pages x y p = ap is_one (bit_and x y (63 - p)) ∙ and_digit (bit x (63 - p)) (bit y (63 - p)) (bit_lt x (63 - p)) (bit_lt y (63 - p))
+and_pages x y p = ap is_one (bit_and_law x y (63 - p)) ∙ and_digit (bit x (63 - p)) (bit y (63 - p)) (bit_lt x (63 - p)) (bit_lt y (63 - p))
 
 not_digit : (a : ℕ) → a < 2 → is_one (1 - a) ≡ not (is_one a)
 not_digit zero h = refl

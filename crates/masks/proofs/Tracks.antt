@@ -11,7 +11,7 @@ use Rattle.base.specs.Count.{all, all_at}
 use Rattle.base.specs.Logic.{and_left, and_right}
 use Rattle.masks.specs.Network.{down, gather, holes_of, kinds16, kinds32, kinds_of, stored_of, up}
 use Rattle.packing.specs.Bitmap.{is_one}
-use Rattle.packing.specs.Bits.{bit, bit_and, bit_lt, bit_mod, bit_or, bit_shl, bit_shr, bit_suc, bit_zero}
+use Rattle.packing.specs.Bits.{bit, bit_and_law, bit_lt, bit_mod, bit_or_law, bit_shl, bit_shr, bit_suc, bit_zero}
 
 -- where a bit comes from: nowhere, bit p of word i, or something else
 data From : Type 0 where
@@ -84,8 +84,8 @@ module _ (W : ℕ → ℕ) where
   t_and {x} c {f} h = record { says = λ k. go k (is_one (bit c k)) refl (f k) (h.says k) }
     where
       go : (k : ℕ) (o : Bool) → is_one (bit c k) ≡ o → (s : From) → Means s (bit x k) → Means (keep o s) (bit (bit_and x c) k)
-      go k false e s m = bit_and x c k ∙ and_bit (bit x k) (bit c k) (bit_lt c k) ∙ ap (λ o. bit_and (bit x k) (cond o 1 0)) e ∙ and_zero_r (bit x k)
-      go k true e s m = on s m (bit_and x c k ∙ and_bit (bit x k) (bit c k) (bit_lt c k) ∙ ap (λ o. bit_and (bit x k) (cond o 1 0)) e ∙ and_one (bit x k) (bit_lt x k))
+      go k false e s m = bit_and_law x c k ∙ and_bit (bit x k) (bit c k) (bit_lt c k) ∙ ap (λ o. bit_and (bit x k) (cond o 1 0)) e ∙ and_zero_r (bit x k)
+      go k true e s m = on s m (bit_and_law x c k ∙ and_bit (bit x k) (bit c k) (bit_lt c k) ∙ ap (λ o. bit_and (bit x k) (cond o 1 0)) e ∙ and_one (bit x k) (bit_lt x k))
         where
           on : (s : From) → Means s (bit x k) → bit (bit_and x c) k ≡ bit x k → Means s (bit (bit_and x c) k)
           on zero_bit m q = q ∙ m
@@ -96,11 +96,11 @@ module _ (W : ℕ → ℕ) where
   t_or {x} {y} {f} {g} h e = record { says = λ k. go k (f k) (g k) (h.says k) (e.says k) }
     where
       go : (k : ℕ) (s r : From) → Means s (bit x k) → Means r (bit y k) → Means (join s r) (bit (bit_or x y) k)
-      go k zero_bit zero_bit m n = bit_or x y k ∙ ap₂ bit_or m n
+      go k zero_bit zero_bit m n = bit_or_law x y k ∙ ap₂ bit_or m n
       go k zero_bit other m n = tt
-      go k zero_bit (place j q) m n = bit_or x y k ∙ ap (λ z. bit_or z (bit y k)) m ∙ n
+      go k zero_bit (place j q) m n = bit_or_law x y k ∙ ap (λ z. bit_or z (bit y k)) m ∙ n
       go k other r m n = tt
-      go k (place i p) zero_bit m n = bit_or x y k ∙ ap (bit_or (bit x k)) n ∙ or_zero_r (bit x k) ∙ m
+      go k (place i p) zero_bit m n = bit_or_law x y k ∙ ap (bit_or (bit x k)) n ∙ or_zero_r (bit x k) ∙ m
       go k (place i p) other m n = tt
       go k (place i p) (place j q) m n = tt
 

@@ -18,7 +18,7 @@ use Rattle.base.specs.Logic.{same?, digit}
 use Rattle.base.specs.Update.{upd, upd_same, upd_other}
 use Rattle.base.specs.Count.{count}
 use Rattle.packing.specs.Words.{get_word, low_word, Bytes, Same}
-use Rattle.packing.specs.Bits.{bit, bit_lt, bit_zero, bit_suc, bit_not, bit_mod, bit_shr, bit_or, bit_and, bit_pow_same, bit_pow_other}
+use Rattle.packing.specs.Bits.{bit, bit_lt, bit_zero, bit_suc, bit_not, bit_mod, bit_shr, bit_or_law, bit_and_law, bit_pow_same, bit_pow_other}
 
 -- a binary digit as a Boolean
 abbrev pub is_one : ℕ → Bool
@@ -127,8 +127,8 @@ module _ (t : List ℕ) (at b : ℕ) where
       let s = 7 - b % 8 in
       let x = get_or t (at + b / 8) 0 in
       put_bit t at b (bit_or x (2 ^ s)) true h
-      (ap is_one (bit_or x (2 ^ s) s ∙ ap (bit_or (bit x s)) (bit_pow_same s) ∙ or_one (bit x s) (bit_lt x s)))
-      (λ k l d. bit_or x (2 ^ s) k ∙ ap (bit_or (bit x k)) (bit_pow_other s k d) ∙ or_zero_r (bit x k))
+      (ap is_one (bit_or_law x (2 ^ s) s ∙ ap (bit_or (bit x s)) (bit_pow_same s) ∙ or_one (bit x s) (bit_lt x s)))
+      (λ k l d. bit_or_law x (2 ^ s) k ∙ ap (bit_or (bit x k)) (bit_pow_other s k d) ∙ or_zero_r (bit x k))
 
   -- LAW: the bit is cleared, the others stay
   pub bits_clear : at + b / 8 < length t → bit_at (clear_bit t at b) at ≡ upd (bit_at t at) b false
@@ -138,8 +138,8 @@ module _ (t : List ℕ) (at b : ℕ) where
       let x = get_or t (at + b / 8) 0 in
       let hole : (k : ℕ) → k < 8 → bit (255 - 2 ^ s) k ≡ 1 - bit (2 ^ s) k = (λ k l. complement_bit s k (omega arith) l) in
       put_bit t at b (bit_and x (255 - 2 ^ s)) false h
-      (ap is_one (bit_and x (255 - 2 ^ s) s ∙ ap (bit_and (bit x s)) (hole s (omega arith) ∙ ap (λ (y : ℕ). 1 - y) (bit_pow_same s)) ∙ and_zero_r (bit x s)))
-      (λ k l d. bit_and x (255 - 2 ^ s) k ∙ ap (bit_and (bit x k)) (hole k l ∙ ap (λ (y : ℕ). 1 - y) (bit_pow_other s k d)) ∙ and_one (bit x k) (bit_lt x k))
+      (ap is_one (bit_and_law x (255 - 2 ^ s) s ∙ ap (bit_and (bit x s)) (hole s (omega arith) ∙ ap (λ (y : ℕ). 1 - y) (bit_pow_same s)) ∙ and_zero_r (bit x s)))
+      (λ k l d. bit_and_law x (255 - 2 ^ s) k ∙ ap (bit_and (bit x k)) (hole k l ∙ ap (λ (y : ℕ). 1 - y) (bit_pow_other s k d)) ∙ and_one (bit x k) (bit_lt x k))
 
 -- LAW: a bit whose byte lies outside the changed part is the same
 pub bits_same : (lo hi : ℕ) (t t' : List ℕ) → Same lo hi t t' → (at b : ℕ) → (lo ≤ at + b / 8 → at + b / 8 < hi → ⊥) → bit_at t' at b ≡ bit_at t at b

@@ -46,13 +46,13 @@ bit_shr x s k = ap (λ (q : ℕ). q % 2) (shr-shr x s k)
 pub bit_shl : (x s k : ℕ) → bit (x * 2 ^ s) (s + k) ≡ bit x k
 bit_shl x s k = sym (bit_shr (x * 2 ^ s) s k) ∙ ap (λ (q : ℕ). bit q k) (shl-shr x s)
 
-pub bit_or : (a b k : ℕ) → bit (bit_or a b) k ≡ bit_or (bit a k) (bit b k)
+pub bit_or_law : (a b k : ℕ) → bit (bit_or a b) k ≡ bit_or (bit a k) (bit b k)
 unfolding bit
-bit_or a b k = ap (λ (q : ℕ). q % 2) (or_shr a b k) ∙ or_mod (a / 2 ^ k) (b / 2 ^ k) 1
+bit_or_law a b k = ap (λ (q : ℕ). q % 2) (or_shr a b k) ∙ or_mod (a / 2 ^ k) (b / 2 ^ k) 1
 
-pub bit_and : (a b k : ℕ) → bit (bit_and a b) k ≡ bit_and (bit a k) (bit b k)
+pub bit_and_law : (a b k : ℕ) → bit (bit_and a b) k ≡ bit_and (bit a k) (bit b k)
 unfolding bit
-bit_and a b k = ap (λ (q : ℕ). q % 2) (and_shr a b k) ∙ and_mod (a / 2 ^ k) (b / 2 ^ k) 1
+bit_and_law a b k = ap (λ (q : ℕ). q % 2) (and_shr a b k) ∙ and_mod (a / 2 ^ k) (b / 2 ^ k) 1
 
 -- one digit alone
 pub bit_pow_same : (s : ℕ) → bit (2 ^ s) s ≡ 1
