@@ -1,4 +1,6 @@
 // The calls on lent tables and pages. Each tests for itself what it was given: the tables, then the table of numbers.
+#![tactic(auto)]
+
 pub mod answer;
 pub mod changes;
 pub mod checks;

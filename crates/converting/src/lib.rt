@@ -1,6 +1,8 @@
 // The converter: older tables, of either length, checked by the rules of their time and written to a second buffer, where used
 // sets without a term get the default one and every marked file is cleared. Nothing is written before the whole is checked;
 // of the new tables only the part before the file records stands on the stack meanwhile.
+#![tactic(auto)]
+
 ghost use Rattle.std.specs.Prelude.{◌&&◌, cond, true, ◌++◌, ◌≡◌, ◌+◌, ◌<◌, eqb, length};
 ghost use Rattle.rules.specs.Terms.{last_end};
 ghost use Rattle.tables.specs.Convert.{cleared, old_table_bytes, older_unpack, older_well_formed};

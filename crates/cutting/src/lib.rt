@@ -1,4 +1,6 @@
 // The whole accepted truncate.
+#![tactic(auto)]
+
 ghost use Rattle.std.specs.Prelude.{not, true, [], ◌≡◌, ◌%◌, ◌+◌, ◌-◌, ◌/◌, ◌<◌, ◌≤◌, length};
 ghost use Rattle.base.specs.Count.{count};
 ghost use Rattle.rules.specs.Reading.{resolve};

@@ -1,5 +1,7 @@
 // Dates and terms: the days from 1998-01-01, day 0, to 2097-12-31, day 36,524, and the term from a date and a count of months. Document 02, Ask 8.
 // Months are counted from January 1998, month 0; those of these years are the months below 1,200. The rules say them month by month; here are closed forms.
+#![tactic(auto)]
+
 ghost use Rattle.std.specs.Prelude.{true, ◌≡◌, ◌<◌, min, ◌≤◌};
 ghost use Rattle.rules.specs.Terms.{count_fits, date_exists, day_or_last, days_in_month, first_year, is_leap_year, last_end, last_year, month_length, month_start, term_from};
 ghost use Rattle.dates.specs.Days.{term_meant};

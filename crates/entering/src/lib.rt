@@ -1,6 +1,8 @@
 // Steps 3 and 5 for the pages that get a block: own blocks are taken and pending (`reserving`); then "Old bytes are carried to own
 // pages, new bytes laid over", and the block enters the map; or a page "is zeroed from t on" (`zeroing`).
 // Each function is its rule (rules/specs/Rules.antt), on what the tables and the pages hold.
+#![tactic(auto)]
+
 ghost use Rattle.std.specs.Prelude.{◌&&◌, ◌≡◌, ℕ, ◌*◌, ◌+◌, ◌<◌, ◌≤◌, leb, length};
 ghost use Rattle.base.specs.Update.{upd};
 ghost use Rattle.rules.specs.Reading.{resolve};

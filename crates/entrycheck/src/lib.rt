@@ -1,6 +1,8 @@
 // The part of the well-formed check that concerns the entries, the blocks that they name and the bits: one pass over
 // the entries, many at a time, with a map of 512 bytes of the blocks seen so far; and that map against the bits. It looks
 // at every file record, whatever the set records and the heads of files say.
+#![tactic(auto)]
+
 ghost use Rattle.std.specs.Prelude.{◌≡◌, ◌≤◌, length};
 ghost use Rattle.packing.specs.Bitmap.{bit_at};
 ghost use Rattle.tables.specs.Layout.{files_at};

@@ -2,6 +2,8 @@
 // entries and the bitmap, and by nothing else; then come the length of the pages buffer, the zero fields, the set records
 // with their chains, and the heads of the file records. The tables are looked at as two slices: front, the header, the bitmap
 // and the set records; and files, the file records.
+#![tactic(auto)]
+
 ghost use Rattle.std.specs.Prelude.{cond, false, ◌++◌, ◌≡◌, ◌≤◌, length};
 ghost use Rattle.tables.specs.Layout.{all_files_bytes, files_at};
 ghost use Rattle.tables.specs.Packed.{block_rules, termed_well_formed, unpack, well_formed};

@@ -1,4 +1,6 @@
 // The session's text: lines of calls, and the listing of a store, written into a lent buffer.
+#![tactic(auto)]
+
 pub mod extents;
 pub mod files;
 pub mod lines;

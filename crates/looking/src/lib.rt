@@ -1,5 +1,7 @@
 // Reading a file: an accepted read. Its size by reading is `maps::reading::size_of`, the free blocks are
 // `tables::header::free_blocks`.
+#![tactic(auto)]
+
 ghost use Rattle.std.specs.Prelude.{◌≡◌, ℕ, ◌*◌, ◌+◌, ◌%◌, ◌≤◌, ◌<◌, length};
 ghost use Rattle.rules.specs.Calls.{read_count};
 ghost use Rattle.rules.specs.State.{stored};

@@ -1,5 +1,7 @@
 // The pages of a map as masks of 64 bits, page 0 the most significant: which are stored, holes or unmapped, told from the 64
 // entries with no branch; and the lowest bit, the number and ranges of pages of a mask. The kinds are right on any bytes.
+#![tactic(auto)]
+
 ghost use Rattle.std.specs.Prelude.{◌≡◌, ◌+◌, ◌<◌, ◌≤◌, length};
 ghost use Rattle.std.specs.Int.Count.{count_trailing_zeros};
 ghost use Rattle.base.specs.Count.{count};

@@ -1,5 +1,7 @@
 // The table of numbers: for each call the lowest number that applies on a store whose tables are well formed, 0 for none.
 // Numbers of sets and files, offsets and sizes are judged at full width.
+#![tactic(auto)]
+
 ghost use Rattle.std.specs.Prelude.{◌≡◌, true, not, ◌&&◌, List, ℕ, ◌+◌, ◌<◌, ◌≤◌, ltb, length};
 ghost use Rattle.rules.specs.Calls.{view_of};
 ghost use Rattle.rules.specs.Numbers;

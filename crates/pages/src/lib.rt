@@ -1,4 +1,6 @@
 // Moves of bytes in the lent buffers: of pages of 512 bytes, by Block, into the buffer of a read, and runs of zeros.
+#![tactic(auto)]
+
 ghost use Rattle.std.specs.Prelude.{◌≡◌, ◌+◌, ◌*◌, ◌≤◌, ◌<◌, max, min, length, get_or};
 ghost use Rattle.base.specs.Update.{upd};
 ghost use Rattle.rules.specs.Storage.{overlay, zero_from};

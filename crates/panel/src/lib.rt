@@ -1,5 +1,7 @@
 // The register page of the front panel: sixteen bytes, lent by the caller, and four calls on them. A write of the command
 // register runs a call on the lent tables and pages; nothing else looks at these.
+#![tactic(auto)]
+
 ghost use Rattle.std.specs.Prelude.{[], ◌≡◌};
 ghost use Rattle.tables.specs.Calls.{call_on};
 ghost use Rattle.tables.specs.Panel.{panel_line_on, panel_read_on, panel_reset_on, panel_write_on};

@@ -1,1 +1,2 @@
 // Document 01 as definitions, and what is shown of them. No code.
+#![tactic(auto)]

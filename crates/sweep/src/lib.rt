@@ -1,6 +1,8 @@
 // The exported calls, as include/sweep.h declares them. C sees a slice as a pointer and a length. None asks anything of its
 // arguments; each contract is one equation for the number, the counts and every byte of tables, pages, read buffer,
 // registers and spare page.
+#![tactic(auto)]
+
 ghost use Rattle.std.specs.Prelude.{not, [], ◌≡◌, eqb};
 ghost use Rattle.rules.specs.Numbers;
 ghost use Rattle.tables.specs.Calls.{call_on};

@@ -1,4 +1,6 @@
 // The whole accepted write.
+#![tactic(auto)]
+
 ghost use Rattle.std.specs.Prelude.{not, true, ◌++◌, [], ◌≡◌, ◌+◌, ◌-◌, ◌<◌, ◌≤◌, max, length};
 ghost use Rattle.base.specs.Count.{count};
 ghost use Rattle.rules.specs.Rules as Rules;

@@ -1,0 +1,32 @@
+-- `calls::changes::truncate` meets its contract. Assumes nothing.
+use mathlib.Core.Path.{refl}
+use Prim.Native.Nat.{ℕ}
+use native.Mathlib.Omega.{arith}
+use borrow.Author.Rules.{rules}
+use Rattle.rules.specs.Numbers.{truncate}
+use Rattle.tables.proofs.FormedStore.{formed_store}
+use Rattle.calls.proofs.CallCases.{is_formed, refused_as, unformed_as, zero_is}
+use Rattle.calls.proofs.WorkedOn.{truncate_requires, truncated_as}
+use Rattle.calls.proofs.changes.truncate.Goals as goal
+
+pub returns-then-not-well_formed : goal.returns-then-not-well_formed
+returns-then-not-well_formed c =
+    unformed_as _ _ _ (truncate _ _ _) refl _ c.counts_0.ensures c.well_formed-2.ensures c.if-not-well_formed.true
+
+pub of_truncate-n-requires : goal.of_truncate-n-requires
+of_truncate-n-requires c =
+    formed_store _ _ (is_formed _ _ _ c.well_formed-2.ensures c.if-not-well_formed.false)
+
+pub returns-then-n-ne0 : goal.returns-then-n-ne0
+returns-then-n-ne0 c =
+    refused_as _ _ _ (truncate _ _ _) refl _ (is_formed _ _ _ c.well_formed-2.ensures c.if-not-well_formed.false) c.counts_0-then-n-ne0.ensures c.of_truncate-n.ensures (omega arith)
+
+pub truncate_file-k-requires : goal.truncate_file-k-requires
+truncate_file-k-requires c =
+    let k = truncate_requires _ _ _ _ _ (zero_is c.of_truncate-n.ensures (omega arith)) in
+    ((is_formed _ _ _ c.well_formed-2.ensures c.if-not-well_formed.false), k.0, k.1, k.2, k.3, k.4)
+
+pub returns : goal.returns
+returns c =
+    truncated_as _ _ _ _ _ _ _ (is_formed _ _ _ c.well_formed-2.ensures c.if-not-well_formed.false) refl (λ (j : ℕ). (c.type_inv.t j).fits) (search rules)
+    _ _ (zero_is c.of_truncate-n.ensures (omega arith)) c.truncate_file-k.ensures

@@ -1,0 +1,25 @@
+-- `decoding::decoding::are_zero` meets its contract. Assumes nothing.
+use mathlib.Core.Path.{sym}
+use borrow.Author.Tests.{eq-eqb, ne_eqb}
+use Rattle.base.specs.Logic.{and_true}
+use Rattle.decoding.proofs.decoding.are_zero.Goals as goal
+
+pub returns-then-a-ne0 : goal.returns-then-a-ne0
+returns-then-a-ne0 c = simp (ne_eqb _ _ c.if-a-ne0.true)
+
+pub returns-then-b-ne0 : goal.returns-then-b-ne0
+returns-then-b-ne0 c = simp (eq-eqb _ _ c.if-a-ne0.false, ne_eqb _ _ c.if-b-ne0.true)
+
+pub returns-then-c-ne0 : goal.returns-then-c-ne0
+returns-then-c-ne0 c = simp (eq-eqb _ _ c.if-a-ne0.false, eq-eqb _ _ c.if-b-ne0.false, ne_eqb _ _ c.if-c-ne0.true)
+
+pub returns-then-d-ne0 : goal.returns-then-d-ne0
+returns-then-d-ne0 c = simp (eq-eqb _ _ c.if-a-ne0.false, eq-eqb _ _ c.if-b-ne0.false, eq-eqb _ _ c.if-c-ne0.false, ne_eqb _ _ c.if-d-ne0.true)
+
+pub returns-then-e-ne0 : goal.returns-then-e-ne0
+returns-then-e-ne0 c =
+    simp (eq-eqb _ _ c.if-a-ne0.false, eq-eqb _ _ c.if-b-ne0.false, eq-eqb _ _ c.if-c-ne0.false, eq-eqb _ _ c.if-d-ne0.false, ne_eqb _ _ c.if-e-ne0.true)
+
+pub returns : goal.returns
+returns c =
+    simp (eq-eqb _ _ c.if-a-ne0.false, eq-eqb _ _ c.if-b-ne0.false, eq-eqb _ _ c.if-c-ne0.false, eq-eqb _ _ c.if-d-ne0.false, eq-eqb _ _ c.if-e-ne0.false) (sym (and_true _))

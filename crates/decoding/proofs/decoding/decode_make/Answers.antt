@@ -1,0 +1,6 @@
+-- `decoding::decoding::decode_make` meets its contract. Assumes nothing.
+use Rattle.decoding.proofs.Requests.{kept}
+use Rattle.decoding.proofs.decoding.decode_make.Goals as goal
+
+pub returns : goal.returns
+returns c = (kept _ _ _ _ c.checked.ensures.0 c.are_zero.ensures, c.checked.ensures.1)

@@ -1,0 +1,10 @@
+-- `formed::linked::put_resolved` meets its contract. Assumes nothing.
+use mathlib.Core.Path.{refl}
+use Rattle.formed.proofs.LinkedRules.{ends_all, ends_shift}
+use Rattle.formed.proofs.linked.put_resolved.Goals as goal
+
+pub returns-then-k-ge64 : goal.returns-then-k-ge64
+returns-then-k-ge64 c = (ends_all _ _ c.if-k-ge64.true, refl)
+
+pub returns : goal.returns
+returns c = (ends_shift _ _ c.if-k-ge64.false, refl)

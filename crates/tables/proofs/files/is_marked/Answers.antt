@@ -1,0 +1,20 @@
+-- `tables::files::is_marked` meets its contract. Assumes nothing.
+use borrow.Author.Rules.{rules}
+use Rattle.tables.specs.Meaning.{state_meant}
+use Rattle.tables.proofs.files.is_marked.Goals as goal
+
+pub returns-in-Absent : goal.returns-in-Absent
+unfolding state_meant
+returns-in-Absent c = search rules
+
+pub returns-in-Own : goal.returns-in-Own
+unfolding state_meant
+returns-in-Own c = search rules
+
+pub returns-in-Virgin : goal.returns-in-Virgin
+unfolding state_meant
+returns-in-Virgin c = search rules
+
+pub returns-in-Marked : goal.returns-in-Marked
+unfolding state_meant
+returns-in-Marked c = search rules
