@@ -49,7 +49,7 @@ shape_of-t-then-not-is_stored c = c.cut_away-then-not-is_stored.ensures.packed.l
 pub returns-then-not-is_stored : goal.returns-then-not-is_stored
 returns-then-not-is_stored c =
     let a = c.args in
-    cut_hole a.s a.n a.z (resolve (tree_of (unpack a.t.now).sets) ((unpack a.t.now).files a.f) a.s (a.n / 512)) c.if-n-eq0.false (at_page_law (tree_of (unpack a.t.now).sets) ((unpack a.t.now).files a.f) a.s (a.n / 512) c.new.result.0 (entry_meant c.resolve_in-r.result.entry) c.is_stored.result false c.new.ensures c.resolve_in-r.ensures.0 c.is_stored.ensures (not-true c.is_stored.result c.if-not-is_stored.true)) c.cut_away-then-not-is_stored.ensures
+    cut_hole a.s a.n a.z (resolve (tree_of (unpack a.t.now).sets) ((unpack a.t.now).files a.f) a.s (a.n / 512)) c.if-n-eq0.false (at_page_law (tree_of (unpack a.t.now).sets) ((unpack a.t.now).files a.f) a.s (a.n / 512) c.new.result.0 (entry_meant c.resolve_in-r.result.entry) c.is_stored.result false c.new.ensures c.resolve_in-r.ensures.0 c.is_stored.ensures (not-true c.is_stored.result c.if-not-is_stored.true-raw)) c.cut_away-then-not-is_stored.ensures
 
 pub cut_kept-requires : goal.cut_kept-requires
 cut_kept-requires c =
@@ -60,7 +60,7 @@ cut_kept-requires c =
       omega arith,
       omega (arith, c.requires.3, c.requires.4),
       omega (arith, c.requires.3, c.requires.4),
-      need_kept a.t.now a.f a.s a.n a.k.left (resolve (tree_of (unpack a.t.now).sets) ((unpack a.t.now).files a.f) a.s (a.n / 512)) (kept_stored a.n a.z (resolve (tree_of (unpack a.t.now).sets) ((unpack a.t.now).files a.f) a.s (a.n / 512)) c.if-n-eq0.false (at_page_law (tree_of (unpack a.t.now).sets) ((unpack a.t.now).files a.f) a.s (a.n / 512) c.new.result.0 (entry_meant c.resolve_in-r.result.entry) c.is_stored.result true c.new.ensures c.resolve_in-r.ensures.0 c.is_stored.ensures (not-false c.is_stored.result c.if-not-is_stored.false))) c.requires.5,
+      need_kept a.t.now a.f a.s a.n a.k.left (resolve (tree_of (unpack a.t.now).sets) ((unpack a.t.now).files a.f) a.s (a.n / 512)) (kept_stored a.n a.z (resolve (tree_of (unpack a.t.now).sets) ((unpack a.t.now).files a.f) a.s (a.n / 512)) c.if-n-eq0.false (at_page_law (tree_of (unpack a.t.now).sets) ((unpack a.t.now).files a.f) a.s (a.n / 512) c.new.result.0 (entry_meant c.resolve_in-r.result.entry) c.is_stored.result true c.new.ensures c.resolve_in-r.ensures.0 c.is_stored.ensures (not-false c.is_stored.result c.if-not-is_stored.false-raw))) c.requires.5,
     )
 
 pub shape_of-t : goal.shape_of-t
@@ -69,4 +69,4 @@ shape_of-t c = c.cut_kept.ensures.packed.len ∙ sym c.requires.0.packed.len
 pub returns : goal.returns
 returns c =
     let a = c.args in
-    cut_stored a.s a.n a.z (resolve (tree_of (unpack a.t.now).sets) ((unpack a.t.now).files a.f) a.s (a.n / 512)) c.if-n-eq0.false (at_page_law (tree_of (unpack a.t.now).sets) ((unpack a.t.now).files a.f) a.s (a.n / 512) c.new.result.0 (entry_meant c.resolve_in-r.result.entry) c.is_stored.result true c.new.ensures c.resolve_in-r.ensures.0 c.is_stored.ensures (not-false c.is_stored.result c.if-not-is_stored.false)) c.cut_kept.ensures
+    cut_stored a.s a.n a.z (resolve (tree_of (unpack a.t.now).sets) ((unpack a.t.now).files a.f) a.s (a.n / 512)) c.if-n-eq0.false (at_page_law (tree_of (unpack a.t.now).sets) ((unpack a.t.now).files a.f) a.s (a.n / 512) c.new.result.0 (entry_meant c.resolve_in-r.result.entry) c.is_stored.result true c.new.ensures c.resolve_in-r.ensures.0 c.is_stored.ensures (not-false c.is_stored.result c.if-not-is_stored.false-raw)) c.cut_kept.ensures

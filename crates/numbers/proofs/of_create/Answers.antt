@@ -25,10 +25,10 @@ pub returns-then-not-is_absent : goal.returns-then-not-is_absent
 returns-then-not-is_absent c =
     let a = c.args in
     create_then (store_of a.t.now a.p.now) a.set a.file _ c.read_only_place-n.ensures c.if-n-ne0.false 9
-    (here _ 9 [] (ap not (ap is_absent (sym c.state_at.ensures) ∙ sym c.is_absent.ensures) ∙ c.if-not-is_absent.true))
+    (here _ 9 [] (ap not (ap is_absent (sym c.state_at.ensures) ∙ sym c.is_absent.ensures) ∙ c.if-not-is_absent.true-raw))
 
 pub returns : goal.returns
 returns c =
     let a = c.args in
     create_then (store_of a.t.now a.p.now) a.set a.file _ c.read_only_place-n.ensures c.if-n-ne0.false 0
-    (past _ 9 0 [] (ap not (ap is_absent (sym c.state_at.ensures) ∙ sym c.is_absent.ensures) ∙ c.if-not-is_absent.false) none_left)
+    (past _ 9 0 [] (ap not (ap is_absent (sym c.state_at.ensures) ∙ sym c.is_absent.ensures) ∙ c.if-not-is_absent.false-raw) none_left)

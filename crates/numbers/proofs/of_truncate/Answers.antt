@@ -32,11 +32,11 @@ returns-then-not-has_free c =
     let a = c.args in
     let st = store_of a.t.now a.p.now in
     truncate_then st a.set a.file _ c.not_changeable-n.ensures a.size c.if-n-ne0.false 8
-    (over_need st a.size _ (le-ltb 32768 a.size c.if-size-gt32768.false) _ _ c.has_free.ensures c.truncate_need-own.ensures (not-true c.has_free.result c.if-not-has_free.true))
+    (over_need st a.size _ (le-ltb 32768 a.size c.if-size-gt32768.false) _ _ c.has_free.ensures c.truncate_need-own.ensures (not-true c.has_free.result c.if-not-has_free.true-raw))
 
 pub returns : goal.returns
 returns c =
     let a = c.args in
     let st = store_of a.t.now a.p.now in
     truncate_then st a.set a.file _ c.not_changeable-n.ensures a.size c.if-n-ne0.false 0
-    (not_over st a.size _ (le-ltb 32768 a.size c.if-size-gt32768.false) _ _ c.has_free.ensures c.truncate_need-own.ensures (not-false c.has_free.result c.if-not-has_free.false))
+    (not_over st a.size _ (le-ltb 32768 a.size c.if-size-gt32768.false) _ _ c.has_free.ensures c.truncate_need-own.ensures (not-false c.has_free.result c.if-not-has_free.false-raw))

@@ -36,7 +36,7 @@ returns-then-not-has_free c =
     let st = store_of a.t.now a.p.now in
     write_then st a.set a.file _ c.not_changeable-n.ensures a.offset a.«data».now c.if-n-ne0.false 8
     (over_need st (a.offset + length a.«data».now) _ (sym c.end_over.ensures ∙ c.if-end_over.false) _ _
-    c.has_free.ensures c.write_need-need.ensures (not-true c.has_free.result c.if-not-has_free.true))
+    c.has_free.ensures c.write_need-need.ensures (not-true c.has_free.result c.if-not-has_free.true-raw))
 
 pub returns : goal.returns
 returns c =
@@ -44,4 +44,4 @@ returns c =
     let st = store_of a.t.now a.p.now in
     write_then st a.set a.file _ c.not_changeable-n.ensures a.offset a.«data».now c.if-n-ne0.false 0
     (not_over st (a.offset + length a.«data».now) _ (sym c.end_over.ensures ∙ c.if-end_over.false) _ _
-    c.has_free.ensures c.write_need-need.ensures (not-false c.has_free.result c.if-not-has_free.false))
+    c.has_free.ensures c.write_need-need.ensures (not-false c.has_free.result c.if-not-has_free.false-raw))

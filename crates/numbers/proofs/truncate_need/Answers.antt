@@ -36,7 +36,7 @@ pub returns-then-not-is_stored : goal.returns-then-not-is_stored
 returns-then-not-is_stored c =
     let a = c.args in
     need_hole (tree_of (unpack a.t.now).sets) ((unpack a.t.now).files a.f) a.s a.n c.if-n-eq0.false
-    (resolved (goal.at.returns-then-not-is_stored c).After-is_stored ∙ not-true c.is_stored.result c.if-not-is_stored.true)
+    (resolved (goal.at.returns-then-not-is_stored c).After-is_stored ∙ not-true c.is_stored.result c.if-not-is_stored.true-raw)
 
 pub returns : goal.returns
 returns c =
@@ -45,4 +45,4 @@ returns c =
     let files = (unpack a.t.now).files a.f in
     let l : a.n < size_by_reading tree files a.s = omega (arith, c.size_of.ensures.0) in
     c.missing.ensures.0 ∙ ap (λ x. digit (not (is_stored x))) c.entry_at.ensures ∙ ap (λ q. digit (not (is_stored ((files a.s).map q)))) c.new-page.ensures
-    ∙ need_one tree files a.s a.n l c.if-n-eq0.false (resolved (goal.at.returns c).After-is_stored ∙ not-false c.is_stored.result c.if-not-is_stored.false)
+    ∙ need_one tree files a.s a.n l c.if-n-eq0.false (resolved (goal.at.returns c).After-is_stored ∙ not-false c.is_stored.result c.if-not-is_stored.false-raw)

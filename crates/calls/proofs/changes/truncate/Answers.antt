@@ -11,22 +11,22 @@ use Rattle.calls.proofs.changes.truncate.Goals as goal
 
 pub returns-then-not-well_formed : goal.returns-then-not-well_formed
 returns-then-not-well_formed c =
-    unformed_as _ _ _ (truncate _ _ _) refl _ c.counts_0.ensures c.well_formed-2.ensures c.if-not-well_formed.true
+    unformed_as _ _ _ (truncate _ _ _) refl _ c.counts_0.ensures c.well_formed-2.ensures c.if-not-well_formed.true-raw
 
 pub of_truncate-n-requires : goal.of_truncate-n-requires
 of_truncate-n-requires c =
-    formed_store _ _ (is_formed _ _ _ c.well_formed-2.ensures c.if-not-well_formed.false)
+    formed_store _ _ (is_formed _ _ _ c.well_formed-2.ensures c.if-not-well_formed.false-raw)
 
 pub returns-then-n-ne0 : goal.returns-then-n-ne0
 returns-then-n-ne0 c =
-    refused_as _ _ _ (truncate _ _ _) refl _ (is_formed _ _ _ c.well_formed-2.ensures c.if-not-well_formed.false) c.counts_0-then-n-ne0.ensures c.of_truncate-n.ensures (omega arith)
+    refused_as _ _ _ (truncate _ _ _) refl _ (is_formed _ _ _ c.well_formed-2.ensures c.if-not-well_formed.false-raw) c.counts_0-then-n-ne0.ensures c.of_truncate-n.ensures (omega arith)
 
 pub truncate_file-k-requires : goal.truncate_file-k-requires
 truncate_file-k-requires c =
     let k = truncate_requires _ _ _ _ _ (zero_is c.of_truncate-n.ensures (omega arith)) in
-    ((is_formed _ _ _ c.well_formed-2.ensures c.if-not-well_formed.false), k.0, k.1, k.2, k.3, k.4)
+    ((is_formed _ _ _ c.well_formed-2.ensures c.if-not-well_formed.false-raw), k.0, k.1, k.2, k.3, k.4)
 
 pub returns : goal.returns
 returns c =
-    truncated_as _ _ _ _ _ _ _ (is_formed _ _ _ c.well_formed-2.ensures c.if-not-well_formed.false) refl (λ (j : ℕ). (c.type_inv.t j).fits) (search rules)
+    truncated_as _ _ _ _ _ _ _ (is_formed _ _ _ c.well_formed-2.ensures c.if-not-well_formed.false-raw) refl (λ (j : ℕ). (c.type_inv.t j).fits) (search rules)
     _ _ (zero_is c.of_truncate-n.ensures (omega arith)) c.truncate_file-k.ensures

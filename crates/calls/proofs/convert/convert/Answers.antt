@@ -4,8 +4,8 @@ use Rattle.calls.proofs.convert.convert.Goals as goal
 
 pub returns-then-not-convert_tables : goal.returns-then-not-convert_tables
 returns-then-not-convert_tables c =
-    convert_refused _ _ _ _ _ _ c.convert_tables.ensures.0 c.convert_tables.ensures.1 c.if-not-convert_tables.true c.counts_0.ensures
+    convert_refused _ _ _ _ _ _ c.convert_tables.ensures.0 c.convert_tables.ensures.1 c.if-not-convert_tables.true-raw c.counts_0.ensures
 
 pub returns : goal.returns
 returns c =
-    convert_done _ _ _ _ _ _ c.convert_tables.ensures.0 c.convert_tables.ensures.1 c.if-not-convert_tables.false c.counts_0-2.ensures
+    convert_done _ _ _ _ _ _ c.convert_tables.ensures.0 c.convert_tables.ensures.1 c.if-not-convert_tables.false-raw c.counts_0-2.ensures

@@ -10,21 +10,21 @@ use Rattle.calls.proofs.records.make.Goals as goal
 
 pub returns-then-not-well_formed : goal.returns-then-not-well_formed
 returns-then-not-well_formed c =
-    unformed_as _ _ _ (make _ _ _) refl _ c.counts_0.ensures c.well_formed-2.ensures c.if-not-well_formed.true
+    unformed_as _ _ _ (make _ _ _) refl _ c.counts_0.ensures c.well_formed-2.ensures c.if-not-well_formed.true-raw
 
 pub of_make-n-requires : goal.of_make-n-requires
 of_make-n-requires c =
-    formed_store _ _ (is_formed _ _ _ c.well_formed-2.ensures c.if-not-well_formed.false)
+    formed_store _ _ (is_formed _ _ _ c.well_formed-2.ensures c.if-not-well_formed.false-raw)
 
 pub returns-then-n-ne0 : goal.returns-then-n-ne0
 returns-then-n-ne0 c =
-    refused_as _ _ _ (make _ _ _) refl _ (is_formed _ _ _ c.well_formed-2.ensures c.if-not-well_formed.false) c.counts_0-then-n-ne0.ensures c.of_make-n.ensures (omega arith)
+    refused_as _ _ _ (make _ _ _) refl _ (is_formed _ _ _ c.well_formed-2.ensures c.if-not-well_formed.false-raw) c.counts_0-then-n-ne0.ensures c.of_make-n.ensures (omega arith)
 
 pub make_set-requires : goal.make_set-requires
 make_set-requires c =
-    make_requires _ _ (is_formed _ _ _ c.well_formed-2.ensures c.if-not-well_formed.false) _ _ _ (zero_is c.of_make-n.ensures (omega arith))
+    make_requires _ _ (is_formed _ _ _ c.well_formed-2.ensures c.if-not-well_formed.false-raw) _ _ _ (zero_is c.of_make-n.ensures (omega arith))
 
 pub returns : goal.returns
 returns c =
-    made_as _ _ _ _ (is_formed _ _ _ c.well_formed-2.ensures c.if-not-well_formed.false) c.counts_0-2.ensures (λ (j : ℕ). (c.type_inv.t j).fits)
+    made_as _ _ _ _ (is_formed _ _ _ c.well_formed-2.ensures c.if-not-well_formed.false-raw) c.counts_0-2.ensures (λ (j : ℕ). (c.type_inv.t j).fits)
     _ _ _ (zero_is c.of_make-n.ensures (omega arith)) c.make_set.ensures

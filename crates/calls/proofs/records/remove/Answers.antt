@@ -10,21 +10,21 @@ use Rattle.calls.proofs.records.remove.Goals as goal
 
 pub returns-then-not-well_formed : goal.returns-then-not-well_formed
 returns-then-not-well_formed c =
-    unformed_as _ _ _ (remove _) refl _ c.counts_0.ensures c.well_formed-2.ensures c.if-not-well_formed.true
+    unformed_as _ _ _ (remove _) refl _ c.counts_0.ensures c.well_formed-2.ensures c.if-not-well_formed.true-raw
 
 pub of_remove-n-requires : goal.of_remove-n-requires
 of_remove-n-requires c =
-    formed_store _ _ (is_formed _ _ _ c.well_formed-2.ensures c.if-not-well_formed.false)
+    formed_store _ _ (is_formed _ _ _ c.well_formed-2.ensures c.if-not-well_formed.false-raw)
 
 pub returns-then-n-ne0 : goal.returns-then-n-ne0
 returns-then-n-ne0 c =
-    refused_as _ _ _ (remove _) refl _ (is_formed _ _ _ c.well_formed-2.ensures c.if-not-well_formed.false) c.counts_0-then-n-ne0.ensures c.of_remove-n.ensures (omega arith)
+    refused_as _ _ _ (remove _) refl _ (is_formed _ _ _ c.well_formed-2.ensures c.if-not-well_formed.false-raw) c.counts_0-then-n-ne0.ensures c.of_remove-n.ensures (omega arith)
 
 pub remove_set-requires : goal.remove_set-requires
 remove_set-requires c =
-    remove_requires _ _ (is_formed _ _ _ c.well_formed-2.ensures c.if-not-well_formed.false) _ (zero_is c.of_remove-n.ensures (omega arith))
+    remove_requires _ _ (is_formed _ _ _ c.well_formed-2.ensures c.if-not-well_formed.false-raw) _ (zero_is c.of_remove-n.ensures (omega arith))
 
 pub returns : goal.returns
 returns c =
-    removed_as _ _ _ _ (is_formed _ _ _ c.well_formed-2.ensures c.if-not-well_formed.false) c.counts_0-2.ensures (λ (j : ℕ). (c.type_inv.t j).fits)
+    removed_as _ _ _ _ (is_formed _ _ _ c.well_formed-2.ensures c.if-not-well_formed.false-raw) c.counts_0-2.ensures (λ (j : ℕ). (c.type_inv.t j).fits)
     _ (zero_is c.of_remove-n.ensures (omega arith)) c.remove_set.ensures

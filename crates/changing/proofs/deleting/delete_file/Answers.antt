@@ -25,7 +25,7 @@ shape_of-t-then-not-is_live c =
 pub returns-then-not-is_live : goal.returns-then-not-is_live
 returns-then-not-is_live c =
     let a = c.args in
-    deleted_not a.p.now a.s (ap live (sym c.state_at.ensures) ∙ sym c.is_live.ensures ∙ not-true c.is_live.result c.if-not-is_live.true) c.erase_file.ensures
+    deleted_not a.p.now a.s (ap live (sym c.state_at.ensures) ∙ sym c.is_live.ensures ∙ not-true c.is_live.result c.if-not-is_live.true-raw) c.erase_file.ensures
 
 pub free_blocks-left-requires : goal.free_blocks-left-requires
 free_blocks-left-requires c =
@@ -46,4 +46,4 @@ shape_of-t c =
 pub returns : goal.returns
 returns c =
     let a = c.args in
-    deleted_so a.s c.free_blocks-left.result (ap live (sym c.state_at.ensures) ∙ sym c.is_live.ensures ∙ not-false c.is_live.result c.if-not-is_live.false) c.delete_live.ensures
+    deleted_so a.s c.free_blocks-left.result (ap live (sym c.state_at.ensures) ∙ sym c.is_live.ensures ∙ not-false c.is_live.result c.if-not-is_live.false-raw) c.delete_live.ensures

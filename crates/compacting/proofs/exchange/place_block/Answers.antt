@@ -17,7 +17,7 @@ returns-then-k-number c =
 
 -- block k is free
 unused : (c : Then-not-is_used) → (unpack c.args.t.now).bits c.args.k ≡ false
-unused c = sym c.is_used.ensures ∙ not-true c.is_used.result c.if-not-is_used.true
+unused c = sym c.is_used.ensures ∙ not-true c.is_used.result c.if-not-is_used.true-raw
 
 pub move_to-requires : goal.move_to-requires
 move_to-requires c =
@@ -38,7 +38,7 @@ owner : (c : After-owner_of-o) → (c.owner_of-o.result < 8192) × (entry_in (un
 owner c =
     owner_found _ _ c.window-first.result c.args.n c.args.k _
     (window_moved _ _ _ _ c.args.w c.args.n c.args.k _ c.requires.0 c.requires.1 c.requires.6 c.window-first.ensures)
-    (c.requires.4 (sym c.is_used.ensures ∙ not-false c.is_used.result c.if-not-is_used.false)) c.owner_of-o.ensures
+    (c.requires.4 (sym c.is_used.ensures ∙ not-false c.is_used.result c.if-not-is_used.false-raw)) c.owner_of-o.ensures
 
 pub entry_in-requires : goal.entry_in-requires
 entry_in-requires c = (c.requires.0.packed.len, (owner (goal.at.entry_in-requires c).After-owner_of-o).0)

@@ -10,11 +10,11 @@ use Rattle.compacting.proofs.owners.note.Goals.{Else-not-in_window}
 
 -- the block is in the window
 inside : (c : Else-not-in_window) → in_window c.args.w c.args.b ≡ true
-inside c = sym c.in_window.ensures ∙ not-false c.in_window.result c.if-not-in_window.false
+inside c = sym c.in_window.ensures ∙ not-false c.in_window.result c.if-not-in_window.false-raw
 
 pub returns-then-not-in_window : goal.returns-then-not-in_window
 unfolding noted
-returns-then-not-in_window c = simp (sym c.in_window.ensures ∙ not-true c.in_window.result c.if-not-in_window.true)
+returns-then-not-in_window c = simp (sym c.in_window.ensures ∙ not-true c.in_window.result c.if-not-in_window.true-raw)
 
 pub overflow_sub-i : goal.overflow_sub-i
 overflow_sub-i c = omega (arith, (in_window_law _ _ (inside (goal.at.overflow_sub-i c).Else-not-in_window)).0)

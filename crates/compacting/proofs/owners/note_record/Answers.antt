@@ -8,4 +8,4 @@ use Rattle.compacting.proofs.owners.note_record.Goals as goal
 pub returns-then-not-may_hold : goal.returns-then-not-may_hold
 returns-then-not-may_hold c =
     let m = c.may_hold in
-    sym (noted_blank c.args.t.now c.args.w c.args.owners.now (c.args.r * 64) 64 (record_blank _ c.args.r c.requires.1 (sym m.ensures ∙ not-true m.result c.if-not-may_hold.true)))
+    sym (noted_blank c.args.t.now c.args.w c.args.owners.now (c.args.r * 64) 64 (record_blank _ c.args.r c.requires.1 (sym m.ensures ∙ not-true m.result c.if-not-may_hold.true-raw)))

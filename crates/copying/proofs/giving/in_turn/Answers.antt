@@ -7,9 +7,9 @@ use Rattle.copying.proofs.giving.in_turn.Goals as goal
 pub returns-then-not-over : goal.returns-then-not-over
 returns-then-not-over c =
     let a = c.args in
-    turns_all (unpack a.t.now) a.f a.page.0 a.child a.over (not-true a.over c.if-not-over.true)
+    turns_all (unpack a.t.now) a.f a.page.0 a.child a.over (not-true a.over c.if-not-over.true-raw)
 
 pub returns : goal.returns
 returns c =
     let a = c.args in
-    turns_heir (unpack a.t.now) a.f a.page.0 a.child a.over c.behind_heir.result (not-false a.over c.if-not-over.false) c.behind_heir.ensures
+    turns_heir (unpack a.t.now) a.f a.page.0 a.child a.over c.behind_heir.result (not-false a.over c.if-not-over.false-raw) c.behind_heir.ensures

@@ -18,13 +18,13 @@ pass_record-requires c =
 pub returns-then-not-pass_record : goal.returns-then-not-pass_record
 returns-then-not-pass_record c =
     let p = c.requires in
-    records_refused _ _ p.0 _ c.block_count-limit.ensures.0 p.5 _ _ _ _ c.loop-i.invariant.1 (omega (arith, p.4.most)) _ _ _ _ c.pass_record.ensures c.if-not-pass_record.true _ _ _
+    records_refused _ _ p.0 _ c.block_count-limit.ensures.0 p.5 _ _ _ _ c.loop-i.invariant.1 (omega (arith, p.4.most)) _ _ _ _ c.pass_record.ensures c.if-not-pass_record.true-raw _ _ _
     c.not_passed.ensures
 
 pub loop-i-preserved : goal.loop-i-preserved
 loop-i-preserved c =
     let p = c.requires in
-    (omega arith, records_next _ _ _ _ _ _ c.loop-i.invariant.1 (omega (arith, p.4.most)) _ _ _ _ c.pass_record.ensures c.if-not-pass_record.false)
+    (omega arith, records_next _ _ _ _ _ _ c.loop-i.invariant.1 (omega (arith, p.4.most)) _ _ _ _ c.pass_record.ensures c.if-not-pass_record.false-raw)
 
 pub maps_equal-requires : goal.maps_equal-requires
 maps_equal-requires c =
@@ -33,12 +33,12 @@ maps_equal-requires c =
 pub returns-then-not-maps_equal : goal.returns-then-not-maps_equal
 returns-then-not-maps_equal c =
     let p = c.requires in
-    bits_refused _ _ p.0 _ c.block_count-limit.ensures.0 p.5 _ _ _ _ c.loop-i.invariant.1 _ p.4 (omega arith) _ c.maps_equal.ensures c.if-not-maps_equal.true _ _ _ c.not_passed-then-not-maps_equal.ensures
+    bits_refused _ _ p.0 _ c.block_count-limit.ensures.0 p.5 _ _ _ _ c.loop-i.invariant.1 _ p.4 (omega arith) _ c.maps_equal.ensures c.if-not-maps_equal.true-raw _ _ _ c.not_passed-then-not-maps_equal.ensures
 
 pub returns : goal.returns
 returns c =
     let p = c.requires in
-    records_done _ _ p.0 _ c.block_count-limit.ensures.0 p.5 _ _ _ _ c.loop-i.invariant.1 _ p.4 (omega arith) _ c.maps_equal.ensures c.if-not-maps_equal.false
+    records_done _ _ p.0 _ c.block_count-limit.ensures.0 p.5 _ _ _ _ c.loop-i.invariant.1 _ p.4 (omega arith) _ c.maps_equal.ensures c.if-not-maps_equal.false-raw
 
 pub block_count-limit-requires : goal.block_count-limit-requires
 block_count-limit-requires c = omega (arith, c.requires.0)

@@ -16,7 +16,7 @@ returns-then-not-blocks_plain c =
     let m = c.kind_masks-k in
     let p = c.requires in
     reads_block _ _ (λ i. (c.type_inv.t i).fits) _ _ p.1 m.result.stored m.result.holes m.ensures.0 m.ensures.1
-    c.if-k-ne0.false b.result b.ensures p.2 (not-true b.result c.if-not-blocks_plain.true) _ _ c.not_passed-then-not-blocks_plain.ensures
+    c.if-k-ne0.false b.result b.ensures p.2 (not-true b.result c.if-not-blocks_plain.true-raw) _ _ c.not_passed-then-not-blocks_plain.ensures
 
 pub returns-then-not-left : goal.returns-then-not-left
 returns-then-not-left c =
@@ -25,7 +25,7 @@ returns-then-not-left c =
     let m = c.kind_masks-k in
     let p = c.requires in
     reads_rows _ _ (λ i. (c.type_inv.t i).fits) _ _ p.1 m.result.stored m.result.holes m.ensures.0 m.ensures.1
-    c.if-k-ne0.false b.result b.ensures (not-false b.result c.if-not-blocks_plain.false) _ r.result r.ensures (not-true r.result.ok c.if-not-left.true) _ _ c.not_passed-then-not-left.ensures
+    c.if-k-ne0.false b.result b.ensures (not-false b.result c.if-not-blocks_plain.false-raw) _ r.result r.ensures (not-true r.result.ok c.if-not-left.true) _ _ c.not_passed-then-not-left.ensures
 
 pub returns-then-not-see_pages : goal.returns-then-not-see_pages
 returns-then-not-see_pages c =
@@ -35,8 +35,8 @@ returns-then-not-see_pages c =
     let m = c.kind_masks-k in
     let p = c.requires in
     reads_page _ _ (λ i. (c.type_inv.t i).fits) _ _ p.1 m.result.stored m.result.holes m.ensures.0 m.ensures.1
-    c.if-k-ne0.false b.result b.ensures (not-false b.result c.if-not-blocks_plain.false) _ r.result r.ensures (not-false r.result.ok c.if-not-left.false)
-    _ g.result g.ensures (not-true g.result c.if-not-see_pages.true) _ _ c.not_passed-then-not-see_pages.ensures
+    c.if-k-ne0.false b.result b.ensures (not-false b.result c.if-not-blocks_plain.false-raw) _ r.result r.ensures (not-false r.result.ok c.if-not-left.false)
+    _ g.result g.ensures (not-true g.result c.if-not-see_pages.true-raw) _ _ c.not_passed-then-not-see_pages.ensures
 
 pub returns : goal.returns
 returns c =
@@ -46,5 +46,5 @@ returns c =
     let m = c.kind_masks-k in
     let p = c.requires in
     reads_whole _ _ (λ i. (c.type_inv.t i).fits) _ _ p.1 m.result.stored m.result.holes m.ensures.0 m.ensures.1
-    c.if-k-ne0.false b.result b.ensures (not-false b.result c.if-not-blocks_plain.false) _ r.result r.ensures (not-false r.result.ok c.if-not-left.false)
-    _ g.result g.ensures (not-false g.result c.if-not-see_pages.false)
+    c.if-k-ne0.false b.result b.ensures (not-false b.result c.if-not-blocks_plain.false-raw) _ r.result r.ensures (not-false r.result.ok c.if-not-left.false)
+    _ g.result g.ensures (not-false g.result c.if-not-see_pages.false-raw)

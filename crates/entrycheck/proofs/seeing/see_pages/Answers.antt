@@ -1,5 +1,4 @@
 -- `entrycheck::seeing::see_pages` meets its contract. The loop's invariant: the blocks of the pages that are no longer left are seen. Assumes nothing.
-use mathlib.Core.Bool.{true}
 use native.Mathlib.Omega.{arith}
 use borrow.Author.Tests.{not-false, not-true}
 use Rattle.masks.proofs.LowestBit.{less, less_lt}
@@ -20,7 +19,7 @@ returns-then-not-see_block c =
     let z = c.lowest-k in
     let l = c.loop-left in
     page_not _ _ _ _ _ _ _ l.left z.result b.result l.invariant.1 (omega arith) l.invariant.0 z.ensures.0 b.ensures.0
-    (as_said _ _ _ f.result _ (not-true f.result c.if-not-see_block.true) f.ensures)
+    (as_said _ _ _ f.result _ (not-true f.result c.if-not-see_block.true-raw) f.ensures)
 
 pub loop-left-smaller : goal.loop-left-smaller
 loop-left-smaller c = less c.loop-left.left (omega arith)
@@ -33,7 +32,7 @@ loop-left-preserved c =
     let l = c.loop-left in (
       less_lt l.left l.invariant.0,
       page_next _ _ _ _ _ _ _ l.left z.result b.result l.invariant.1 (omega arith) l.invariant.0 z.ensures.0 b.ensures.0
-          (as_said _ _ _ f.result _ (not-false f.result c.if-not-see_block.false) f.ensures),
+          (as_said _ _ _ f.result _ (not-false f.result c.if-not-see_block.false-raw) f.ensures),
     )
 
 pub returns : goal.returns

@@ -10,20 +10,20 @@ pub see_four-requires : goal.see_four-requires
 see_four-requires c =
     let b = c.block_of-b in
     let r = c.in_row in
-    (c.requires.1, b.ensures.1, room_of _ _ b.result (r.ensures (not-false r.result c.if-not-in_row.false)) b.ensures.0)
+    (c.requires.1, b.ensures.1, room_of _ _ b.result (r.ensures (not-false r.result c.if-not-in_row.false-raw)) b.ensures.0)
 
 pub returns-then-not-see_four : goal.returns-then-not-see_four
 returns-then-not-see_four c =
     let f = c.see_four in
     let b = c.block_of-b in
     let r = c.in_row in
-    row_no _ _ _ _ _ _ _ c.requires.2 c.requires.3 (r.ensures (not-false r.result c.if-not-in_row.false)) b.result b.ensures.0
-    (as_said _ _ _ f.result _ (not-true f.result c.if-not-see_four.true) f.ensures)
+    row_no _ _ _ _ _ _ _ c.requires.2 c.requires.3 (r.ensures (not-false r.result c.if-not-in_row.false-raw)) b.result b.ensures.0
+    (as_said _ _ _ f.result _ (not-true f.result c.if-not-see_four.true-raw) f.ensures)
 
 pub returns : goal.returns
 returns c =
     let f = c.see_four in
     let b = c.block_of-b in
     let r = c.in_row in
-    row_yes _ _ _ _ _ _ _ c.requires.2 c.requires.3 (r.ensures (not-false r.result c.if-not-in_row.false)) b.result b.ensures.0
-    (as_said _ _ _ f.result _ (not-false f.result c.if-not-see_four.false) f.ensures)
+    row_yes _ _ _ _ _ _ _ c.requires.2 c.requires.3 (r.ensures (not-false r.result c.if-not-in_row.false-raw)) b.result b.ensures.0
+    (as_said _ _ _ f.result _ (not-false f.result c.if-not-see_four.false-raw) f.ensures)

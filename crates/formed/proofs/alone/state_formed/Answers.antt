@@ -4,12 +4,12 @@ use Rattle.formed.proofs.AloneRules.{marked_kept, marked_other, other_root, own_
 use Rattle.formed.proofs.alone.state_formed.Goals as goal
 
 pub returns-then-not-root : goal.returns-then-not-root
-returns-then-not-root c = own_other _ _ _ _ _ _ c.if-k-eq1.true c.if-not-root.true
+returns-then-not-root c = own_other _ _ _ _ _ _ c.if-k-eq1.true c.if-not-root.true-raw
 
 pub returns-then-k-eq1 : goal.returns-then-k-eq1
 returns-then-k-eq1 c =
     let a = c.args in
-    own_root a.older a.k a.n a.u _ a.root c.if-not-root.false c.if-k-eq1.true
+    own_root a.older a.k a.n a.u _ a.root c.if-not-root.false-raw c.if-k-eq1.true
 
 pub returns-then-root : goal.returns-then-root
 returns-then-root c =

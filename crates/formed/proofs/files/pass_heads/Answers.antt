@@ -20,7 +20,7 @@ returns-then-not-pass_head c =
     let a = c.args in
     let p = c.requires in
     heads_refused _ _ _ _ _ _ c.loop-s.invariant.1 p.6 (omega (arith, p.7.most)) _ _ _ (sym (head_files a.front.now a.files.now p.0 _ _)) (p.2 _ (omega (arith, p.7.most))) (p.5 _ (omega (arith, p.7.most))) _ _ _
-    c.pass_head.ensures c.if-not-pass_head.true
+    c.pass_head.ensures c.if-not-pass_head.true-raw
 
 pub loop-s-preserved : goal.loop-s-preserved
 loop-s-preserved c =
@@ -28,7 +28,7 @@ loop-s-preserved c =
     let p = c.requires in (
       omega arith,
       heads_next _ _ _ _ _ _ c.loop-s.invariant.1 p.6 (omega (arith, p.7.most)) _ _ _ (sym (head_files a.front.now a.files.now p.0 _ _)) (p.2 _ (omega (arith, p.7.most))) (p.5 _ (omega (arith, p.7.most))) _ _ _
-          c.pass_head.ensures c.if-not-pass_head.false,
+          c.pass_head.ensures c.if-not-pass_head.false-raw,
     )
 
 pub returns : goal.returns

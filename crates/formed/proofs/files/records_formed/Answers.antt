@@ -1,5 +1,4 @@
 -- `formed::files::records_formed` meets its contract. The loop's invariant: the files of the numbers below f have passed. Assumes nothing.
-use mathlib.Core.Bool.{true}
 use mathlib.Core.Path.{subst, sym}
 use Prim.Native.Nat.{◌-◌}
 use native.Mathlib.Omega.{arith}
@@ -26,11 +25,11 @@ number_formed-requires c =
 
 pub returns-then-not-number_formed : goal.returns-then-not-number_formed
 returns-then-not-number_formed c =
-    numbers_refused _ _ _ c.loop-f.invariant.1 (omega arith) _ c.number_formed.ensures c.if-not-number_formed.true
+    numbers_refused _ _ _ c.loop-f.invariant.1 (omega arith) _ c.number_formed.ensures c.if-not-number_formed.true-raw
 
 pub loop-f-preserved : goal.loop-f-preserved
 loop-f-preserved c =
-    (omega arith, numbers_next _ _ _ c.loop-f.invariant.1 _ c.number_formed.ensures c.if-not-number_formed.false)
+    (omega arith, numbers_next _ _ _ c.loop-f.invariant.1 _ c.number_formed.ensures c.if-not-number_formed.false-raw)
 
 pub returns : goal.returns
 returns c = numbers_done _ _ _ c.loop-f.invariant.1 (omega arith)

@@ -27,7 +27,7 @@ returns-then-not-link_file c =
     let g = c.link_file in
     let z = c.lowest-s in
     let p = c.requires in
-    linking_refused _ _ _ _ _ _ _ _ p _ c.loop-left.left c.loop-left.invariant (omega arith) z.result z.ensures.0 z.ensures.1 _ _ g.ensures c.if-not-link_file.true
+    linking_refused _ _ _ _ _ _ _ _ p _ c.loop-left.left c.loop-left.invariant (omega arith) z.result z.ensures.0 z.ensures.1 _ _ g.ensures c.if-not-link_file.true-raw
 
 pub loop-left-smaller : goal.loop-left-smaller
 loop-left-smaller c = let l = c.loop-left in lt_of_le_of_lt (and_le_r l.left (l.left - 1)) (omega arith)
@@ -37,7 +37,7 @@ loop-left-preserved c =
     let g = c.link_file in
     let z = c.lowest-s in
     let p = c.requires in
-    linking_next _ _ _ _ _ _ _ _ p _ c.loop-left.left c.loop-left.invariant (omega arith) z.result z.ensures.0 z.ensures.1 _ _ g.ensures c.if-not-link_file.false
+    linking_next _ _ _ _ _ _ _ _ p _ c.loop-left.left c.loop-left.invariant (omega arith) z.result z.ensures.0 z.ensures.1 _ _ g.ensures c.if-not-link_file.false-raw
 
 pub returns : goal.returns
 returns c = linking_done _ _ _ _ _ _ _ _ c.requires _ c.loop-left.left c.loop-left.invariant (omega arith)

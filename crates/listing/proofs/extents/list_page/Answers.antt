@@ -13,7 +13,7 @@ use Rattle.listing.proofs.extents.list_page.Goals as goal
 
 pub returns-then-not-starts : goal.returns-then-not-starts
 returns-then-not-starts c = let a = c.args in let m = ((unpack a.t.now).files a.f a.s).map in
-    (wrote_as (page_none (eqb a.s 0) m a.p (sym c.starts.ensures ∙ not-true c.starts.result c.if-not-starts.true)) (wrote_none a.out.now a.cur), omega arith)
+    (wrote_as (page_none (eqb a.s 0) m a.p (sym c.starts.ensures ∙ not-true c.starts.result c.if-not-starts.true-raw)) (wrote_none a.out.now a.cur), omega arith)
 
 pub put_ext-requires : goal.put_ext-requires
 put_ext-requires c =
@@ -27,6 +27,6 @@ pub returns : goal.returns
 returns c =
     let a = c.args in
     let m = ((unpack a.t.now).files a.f a.s).map in (
-      wrote_as (ap (ext_line (eqb a.s 0) a.p) (c.entry_at-e.ensures ∙ ap m c.new.ensures) ∙ page_some (eqb a.s 0) m a.p (sym c.starts.ensures ∙ not-false c.starts.result c.if-not-starts.false)) c.put_ext.ensures.0,
+      wrote_as (ap (ext_line (eqb a.s 0) a.p) (c.entry_at-e.ensures ∙ ap m c.new.ensures) ∙ page_some (eqb a.s 0) m a.p (sym c.starts.ensures ∙ not-false c.starts.result c.if-not-starts.false-raw)) c.put_ext.ensures.0,
       omega arith,
     )

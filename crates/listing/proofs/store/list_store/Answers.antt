@@ -7,19 +7,19 @@ use Rattle.listing.proofs.Writing.{wrote_length}
 use Rattle.listing.proofs.store.list_store.Goals as goal
 
 pub returns-then-not-well_formed : goal.returns-then-not-well_formed
-returns-then-not-well_formed c = let a = c.args in (not_listed a.t.now a.n a.out.now (sym c.well_formed-2.ensures ∙ not-true c.well_formed-2.result c.if-not-well_formed.true), tt)
+returns-then-not-well_formed c = let a = c.args in (not_listed a.t.now a.n a.out.now (sym c.well_formed-2.ensures ∙ not-true c.well_formed-2.result c.if-not-well_formed.true-raw), tt)
 
 pub list_set-w-requires : goal.list_set-w-requires
 list_set-w-requires c =
     let a = c.args in
-    ((formed_tables a.t.now a.n (sym c.well_formed-2.ensures ∙ not-false c.well_formed-2.result c.if-not-well_formed.false)).packed.len, omega arith, omega arith, omega arith, omega arith)
+    ((formed_tables a.t.now a.n (sym c.well_formed-2.ensures ∙ not-false c.well_formed-2.result c.if-not-well_formed.false-raw)).packed.len, omega arith, omega arith, omega arith, omega arith)
 
 pub returns-then-out-wanted : goal.returns-then-out-wanted
 returns-then-out-wanted c =
     let a = c.args in
     let v = c.NOFIELD-List-set_of_Decides.ensures.0 16 (omega arith) in
     let q = wrote_length v.wrote in (
-      listed_short a.t.now a.n (sym c.well_formed-2.ensures ∙ not-false c.well_formed-2.result c.if-not-well_formed.false) a.out.now _ c.NOFIELD-List-set_of_Decides.result v (omega (arith, q, c.if-out-wanted.true)),
+      listed_short a.t.now a.n (sym c.well_formed-2.ensures ∙ not-false c.well_formed-2.result c.if-not-well_formed.false-raw) a.out.now _ c.NOFIELD-List-set_of_Decides.result v (omega (arith, q, c.if-out-wanted.true)),
       omega arith,
     )
 
@@ -28,6 +28,6 @@ returns c =
     let a = c.args in
     let v = c.NOFIELD-List-set_of_Decides.ensures.0 16 (omega arith) in
     let q = wrote_length v.wrote in (
-      listed_whole a.t.now a.n (sym c.well_formed-2.ensures ∙ not-false c.well_formed-2.result c.if-not-well_formed.false) a.out.now _ c.NOFIELD-List-set_of_Decides.result v (omega (arith, q, c.if-out-wanted.false)),
+      listed_whole a.t.now a.n (sym c.well_formed-2.ensures ∙ not-false c.well_formed-2.result c.if-not-well_formed.false-raw) a.out.now _ c.NOFIELD-List-set_of_Decides.result v (omega (arith, q, c.if-out-wanted.false)),
       omega arith,
     )

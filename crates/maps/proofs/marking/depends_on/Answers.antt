@@ -23,7 +23,7 @@ pub returns-then-not-dependent : goal.returns-then-not-dependent
 returns-then-not-dependent c =
     let a = c.args in
     sym (c.loop-left.invariant ∙ dep_stop (unpack a.t.now) a.f a.c c.loop-left.at c.loop-left.left c.if-c-at.false
-    (sym c.dependent.ensures ∙ not-true c.dependent.result c.if-not-dependent.true))
+    (sym c.dependent.ensures ∙ not-true c.dependent.result c.if-not-dependent.true-raw))
 
 pub loop-left-preserved : goal.loop-left-preserved
 loop-left-preserved c =
@@ -31,7 +31,7 @@ loop-left-preserved c =
     let tb = unpack a.t.now in
     c.loop-left.invariant
     ∙ dep_up tb a.f a.c c.loop-left.at c.loop-left.left (omega arith) c.if-c-at.false
-    (sym c.dependent.ensures ∙ not-false c.dependent.result c.if-not-dependent.false)
+    (sym c.dependent.ensures ∙ not-false c.dependent.result c.if-not-dependent.false-raw)
     ∙ ap (λ (x : ℕ). depends_on (tree_of tb.sets) (tb.files a.f) a.c (c.loop-left.left - 1) x) (sym c.parent_in-at.ensures.0)
 
 pub returns : goal.returns

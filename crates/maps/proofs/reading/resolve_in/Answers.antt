@@ -12,7 +12,7 @@ returns-then-not-is_unmapped c =
     let a = c.args in
     let tb = unpack a.t.now in
     let n = (tb.sets a.s).level in
-    let h = sym c.is_unmapped.ensures ∙ not-true c.is_unmapped.result c.if-not-is_unmapped.true in (
+    let h = sym c.is_unmapped.ensures ∙ not-true c.is_unmapped.result c.if-not-is_unmapped.true-raw in (
       resolve_here tb a.f a.page.0 a.s n (entry_meant c.entry_at-e.result) c.entry_at-e.ensures h ∙ resolve_level _ _ _ _ n refl,
       sym (looks_here tb a.f a.page.0 a.s n (ap is_unmapped (sym c.entry_at-e.ensures) ∙ h)) ∙ looks_level _ _ _ _ n refl,
     )

@@ -14,7 +14,7 @@ returns-then-not-is_virgin c =
     let a = c.args in (
       c.size_in.ensures.0
           ∙ sym (c.loop-left.invariant ∙ size_here (unpack a.t.now) a.f c.loop-left.at c.loop-left.left
-          (ap is_virgin (sym c.state_in.ensures) ∙ sym c.is_virgin.ensures ∙ not-true c.is_virgin.result c.if-not-is_virgin.true)),
+          (ap is_virgin (sym c.state_in.ensures) ∙ sym c.is_virgin.ensures ∙ not-true c.is_virgin.result c.if-not-is_virgin.true-raw)),
       c.size_in.ensures.1,
     )
 
@@ -24,7 +24,7 @@ loop-left-preserved c =
     let tb = unpack a.t.now in
     c.loop-left.invariant
     ∙ size_above tb a.f c.loop-left.at c.loop-left.left (omega arith)
-    (ap is_virgin (sym c.state_in.ensures) ∙ sym c.is_virgin.ensures ∙ not-false c.is_virgin.result c.if-not-is_virgin.false)
+    (ap is_virgin (sym c.state_in.ensures) ∙ sym c.is_virgin.ensures ∙ not-false c.is_virgin.result c.if-not-is_virgin.false-raw)
     ∙ ap (λ (x : ℕ). size_from tb a.f x (c.loop-left.left - 1)) (sym c.parent_in-at.ensures.0)
 
 pub returns-then-is_virgin : goal.returns-then-is_virgin
