@@ -8,9 +8,9 @@ use Rattle.tables.specs.Meaning.{entry_meant}
 use Rattle.tables.specs.OneReading.{block_fits}
 use Rattle.tables.specs.declared.entries.Entry.{Entry}
 use Rattle.tables.proofs.entries.encode.Goals as goal
-use Rattle.tables.proofs.entries.encode.Goals.{After-struct_known-1}
+use Rattle.tables.proofs.entries.encode.Goals.{In-Stored}
 
-fits : (c : After-struct_known-1) → c.in-Stored.b.0 < 16384
+fits : (c : In-Stored) → c.in-Stored.b.0 < 16384
 unfolding entry_meant
 fits c = subst (λ (e : Entry). block_fits (entry_meant e)) c.in-Stored.is c.requires
 
@@ -24,7 +24,7 @@ returns-in-Hole c = sym (ap (λ (e : Entry). write_entry (entry_meant e)) c.in-H
 
 pub returns-in-Stored : goal.returns-in-Stored
 unfolding entry_meant
-returns-in-Stored c = let e = c.e-1.given in stored_word e.0.0.0 ∙ sym (ap (λ (e : Entry). write_entry (entry_meant e)) e.1)
+returns-in-Stored c = stored_word c.in-Stored.b.0 ∙ sym (ap (λ (e : Entry). write_entry (entry_meant e)) c.in-Stored.is)
 
 pub overflow_add-result : goal.overflow_add-result
-overflow_add-result c = omega (arith, fits (goal.at.overflow_add-result c).After-struct_known-1)
+overflow_add-result c = omega (arith, fits (goal.at.overflow_add-result c).In-Stored)
