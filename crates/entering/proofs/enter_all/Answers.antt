@@ -13,7 +13,7 @@ use Rattle.entering.proofs.enter_all.Goals.{After-own-1}
 pub loop-n-init : goal.loop-n-init
 loop-n-init c =
     let a = c.args in
-    (c.requires.3, entering_start (pending_of a.t3) a.s a.first a.m (overlay a.off a.«data».now) c.requires.0)
+    (c.requires.3, entering_start (pending_of a.pending) a.s a.first a.m (overlay a.off a.«data».now) c.requires.0)
 
 -- what is pending for the page whose turn it is
 own_is : (c : After-own-1) → pending_meant (get_or c.args.pending c.loop-n.q (record { 0 = 0 })) ≡ pending_of c.args.pending c.loop-n.q

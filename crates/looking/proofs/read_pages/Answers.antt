@@ -20,10 +20,10 @@ bounds-kept-q c = omega arith
 
 -- the entry of the page that is read now
 entry_is : (c : After-e-1) → let a = c.args in
-    kept_meant (get_or a.t2 ((a.off + c.loop-done.done) / 512) (record { 0 = 0 })) ≡ entries_of a.t2 ((a.off + c.loop-done.done) / 512)
+    kept_meant (get_or a.kept ((a.off + c.loop-done.done) / 512) (record { 0 = 0 })) ≡ entries_of a.kept ((a.off + c.loop-done.done) / 512)
 entry_is c =
     let a = c.args in
-    entries_at a.t2 ((a.off + c.loop-done.done) / 512) _ (omega (arith, c.requires.0.len))
+    entries_at a.kept ((a.off + c.loop-done.done) / 512) _ (omega (arith, c.requires.0.len))
 
 pub read_part-requires : goal.read_part-requires
 read_part-requires c =
@@ -33,15 +33,15 @@ pub loop-done-preserved : goal.loop-done-preserved
 loop-done-preserved c =
     let a = c.args in (
       omega arith,
-      c.read_part.auto.1.1.1.0 ∙ c.loop-done.invariant.1,
-      read_more a.t2 a.p.now a.off a.buffer.now c.loop-done.buffer _ c.loop-done.done c.smaller-m.result _ (entry_is (goal.at.loop-done-preserved c).After-e-1) (omega arith) c.loop-done.invariant.2 c.read_part.ensures,
+      c.read_part.auto.buffer ∙ c.loop-done.invariant.1,
+      read_more a.kept a.p.now a.off a.buffer.now c.loop-done.buffer _ c.loop-done.done c.smaller-m.result _ (entry_is (goal.at.loop-done-preserved c).After-e-1) (omega arith) c.loop-done.invariant.2 c.read_part.ensures,
     )
 
 pub returns : goal.returns
 returns c =
     let a = c.args in
     let e : c.loop-done.done ≡ a.n = omega arith in
-    c.loop-done.invariant.2 ∙ ap (λ k. run a.buffer.now 0 (λ i. byte_kept a.t2 a.p.now (a.off + i)) k) e
+    c.loop-done.invariant.2 ∙ ap (λ k. run a.buffer.now 0 (λ i. byte_kept a.kept a.p.now (a.off + i)) k) e
 
 pub shape_of-buffer : goal.shape_of-buffer
 shape_of-buffer c = c.loop-done.invariant.1

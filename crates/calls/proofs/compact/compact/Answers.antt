@@ -18,4 +18,4 @@ compact_store-requires c =
 pub returns : goal.returns
 returns c =
     compact_done_as _ _ _ _ _ _ _ (is_formed _ _ _ c.well_formed-2.ensures c.if-not-well_formed.false-raw) c.compact_store.ensures c.counts_0-2.ensures c.if-spare-ne512.false
-    (λ (j : ℕ). (c.type_inv.t j).fits) c.compact_store.auto.1.0
+    (λ (j : ℕ). (c.type_inv.t j).fits) c.compact_store.auto.p

@@ -20,8 +20,8 @@ loop-r-preserved c =
     let g = c.place_record-done in
     let l = c.loop-r in (
       omega (arith, c.loop-r-test.true),
-      g.auto.1.0 ∙ l.invariant.1,
-      g.auto.1.1.0 ∙ l.invariant.2,
+      g.auto.p ∙ l.invariant.1,
+      g.auto.spare ∙ l.invariant.2,
       gathered_at _ _ _ _ _ _ _ (gather_then _ _ _ _ _ _ (l.r * 64) _ _ _ l.invariant.3 g.ensures.0) (omega arith),
       tracked_later _ _ _ _ g.ensures.1 _ (omega arith),
     )

@@ -35,6 +35,6 @@ returns-in-Stored c =
     let p = c.requires in
     let here = sym p.3 ∙ ap entry_meant c.in-Stored.is in
     let z = ap (λ x. digit (is_stored (entry_meant x))) c.in-Stored.is in (
-      gathered_as _ _ _ _ _ _ _ (gather_more _ _ p.0 c.args.n c.args.k p.1 _ p.2 here _ _ c.place_block.auto.1.0 c.place_block.ensures.0) (omega (arith, z)),
+      gathered_as _ _ _ _ _ _ _ (gather_more _ _ p.0 c.args.n c.args.k p.1 _ p.2 here _ _ c.place_block.auto.p c.place_block.ensures.0) (omega (arith, z)),
       c.place_block.ensures.1,
     )

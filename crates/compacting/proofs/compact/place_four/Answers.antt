@@ -38,8 +38,8 @@ loop-q-preserved c =
     let g = c.place_entry-w in
     let l = c.loop-q in (
       omega (arith, c.loop-q-test.true),
-      g.auto.1.0 ∙ l.invariant.1,
-      g.auto.1.1.0 ∙ l.invariant.2,
+      g.auto.p ∙ l.invariant.1,
+      g.auto.spare ∙ l.invariant.2,
       gathered_at _ _ _ _ _ _ _
           (gathered_as _ _ _ _ _ _ _ (gather_then _ _ _ _ _ _ (c.args.r * 64 + c.args.g * 4 + l.q) l.k _ _ l.invariant.3 g.ensures.0) (sym c.given-k.ensures)) (omega arith),
       tracked_later _ _ _ _ g.ensures.1 _ (omega arith),

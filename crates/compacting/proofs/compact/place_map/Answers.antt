@@ -25,8 +25,8 @@ loop-g-preserved c =
     let g = c.place_group-x in
     let l = c.loop-g in (
       omega (arith, c.loop-g-test.true),
-      g.auto.1.0 ∙ l.invariant.1,
-      g.auto.1.1.0 ∙ l.invariant.2,
+      g.auto.p ∙ l.invariant.1,
+      g.auto.spare ∙ l.invariant.2,
       gathered_at _ _ _ _ _ _ _ (gather_then _ _ _ _ _ _ (c.args.r * 64 + l.g * 4) _ _ _ l.invariant.3 g.ensures.0) (omega arith),
       tracked_later _ _ _ _ g.ensures.1 _ (omega arith),
     )

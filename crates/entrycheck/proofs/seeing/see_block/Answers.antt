@@ -8,8 +8,8 @@ returns-then-b-limit c = run_limit c.args.limit c.args.b 1 _ c.requires.0 (omega
 
 pub returns-then-x-y-ne0 : goal.returns-then-x-y-ne0
 returns-then-x-y-ne0 c =
-    one_clash _ _ (λ i. (c.type_inv.seen i).fits) c.requires.0 c.args.b c.requires.1 c.if-x-y-ne0.true
+    one_clash _ _ (λ i. (c.slice_known-1.given i).fits) c.requires.0 c.args.b c.requires.1 c.if-x-y-ne0.true
 
 pub returns : goal.returns
 returns c =
-    one_seen _ _ (λ i. (c.type_inv.seen i).fits) c.requires.0 c.args.b c.requires.1 c.if-b-limit.false c.if-x-y-ne0.false
+    one_seen _ _ (λ i. (c.slice_known-1.given i).fits) c.requires.0 c.args.b c.requires.1 c.if-b-limit.false c.if-x-y-ne0.false

@@ -17,7 +17,7 @@ pub returns-then-x-y-ne0 : goal.returns-then-x-y-ne0
 returns-then-x-y-ne0 c =
     let r = c.read64-x in
     let b = c.args.b in
-    four_clash _ _ (λ i. (c.type_inv.seen i).fits) c.requires.0 b c.requires.1 c.requires.2 (λ e. c.if-x-y-ne0.true (ap (λ x. bit_and x (0xF000000000000000 / 2 ^ (b % 64))) r.ensures ∙ e))
+    four_clash _ _ (λ i. (c.slice_known-1.given i).fits) c.requires.0 b c.requires.1 c.requires.2 (λ e. c.if-x-y-ne0.true (ap (λ x. bit_and x (0xF000000000000000 / 2 ^ (b % 64))) r.ensures ∙ e))
 
 pub returns : goal.returns
 returns c =
@@ -28,4 +28,4 @@ returns c =
     let l = c.args.seen.now in
     subst (λ l'. Sees (run_pass c.args.limit b 4) l l' true)
     (sym (w.ensures ∙ ap (λ x. put_word 7 l (b / 64 * 8) (bit_or x y)) r.ensures))
-    (four_seen _ l (λ i. (c.type_inv.seen i).fits) c.requires.0 b c.requires.1 c.requires.2 c.if-b-limit.false (ap (λ x. bit_and x y) (sym r.ensures) ∙ c.if-x-y-ne0.false))
+    (four_seen _ l (λ i. (c.slice_known-1.given i).fits) c.requires.0 b c.requires.1 c.requires.2 c.if-b-limit.false (ap (λ x. bit_and x y) (sym r.ensures) ∙ c.if-x-y-ne0.false))

@@ -10,7 +10,7 @@ use Rattle.entrycheck.proofs.seeing.see_rows.Goals as goal
 
 pub loop-q-init : goal.loop-q-init
 loop-q-init c =
-    let e = sym c.NOFIELD-rows_of_lem.ensures in
+    let e = sym c.rows_of-q.ensures in
     let m = c.args.m in
     (subst (λ q. q < 2 ^ 64) e (rows_lt m), refl, subst (λ q. Whole q m) e (whole_start m), moved_none _ _ _ _ c.requires.1)
 

@@ -17,4 +17,4 @@ returns-then-v-eq128 c =
 pub returns : goal.returns
 returns c =
     let w = c.head_of-w.ensures ∙ head_turned _ _ _ (λ j. (c.type_inv.files j).fits) c.low64-v.ensures in
-    bytes_any _ _ _ _ _ _ _ c.low64-v.ensures _ _ _ w _ _ _ c.NOFIELD-end_of_lem.ensures c.live_digit.ensures c.head_formed.ensures
+    bytes_any _ _ _ _ _ _ _ c.low64-v.ensures _ _ _ w _ _ _ c.end_of.ensures c.live_digit.ensures c.head_formed.ensures

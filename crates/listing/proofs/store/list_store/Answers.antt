@@ -17,17 +17,17 @@ list_set-w-requires c =
 pub returns-then-out-wanted : goal.returns-then-out-wanted
 returns-then-out-wanted c =
     let a = c.args in
-    let v = c.NOFIELD-List-set_of_Decides.ensures.0 16 (omega arith) in
+    let v = c.list_set-w.ensures.0 16 (omega arith) in
     let q = wrote_length v.wrote in (
-      listed_short a.t.now a.n (sym c.well_formed-2.ensures ∙ not-false c.well_formed-2.result c.if-not-well_formed.false-raw) a.out.now _ c.NOFIELD-List-set_of_Decides.result v (omega (arith, q, c.if-out-wanted.true)),
+      listed_short a.t.now a.n (sym c.well_formed-2.ensures ∙ not-false c.well_formed-2.result c.if-not-well_formed.false-raw) a.out.now _ c.list_set-w.result v (omega (arith, q, c.if-out-wanted.true)),
       omega arith,
     )
 
 pub returns : goal.returns
 returns c =
     let a = c.args in
-    let v = c.NOFIELD-List-set_of_Decides.ensures.0 16 (omega arith) in
+    let v = c.list_set-w.ensures.0 16 (omega arith) in
     let q = wrote_length v.wrote in (
-      listed_whole a.t.now a.n (sym c.well_formed-2.ensures ∙ not-false c.well_formed-2.result c.if-not-well_formed.false-raw) a.out.now _ c.NOFIELD-List-set_of_Decides.result v (omega (arith, q, c.if-out-wanted.false)),
+      listed_whole a.t.now a.n (sym c.well_formed-2.ensures ∙ not-false c.well_formed-2.result c.if-not-well_formed.false-raw) a.out.now _ c.list_set-w.result v (omega (arith, q, c.if-out-wanted.false)),
       omega arith,
     )
