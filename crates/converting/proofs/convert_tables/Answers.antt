@@ -47,5 +47,5 @@ pub returns : goal.returns
 returns c =
     let a = c.args in (
       sym (not-false c.parts_formed.result c.if-not-parts_formed.false-raw) ∙ by_check a.old.now a.tables.now a.n _ c.put_front.ensures _ c.parts_formed.ensures c.if-tables-ne-TABLE_BYTES.false,
-      converted a.old.now a.tables.now a.n _ c.put_front.ensures _ c.parts_formed.ensures _ _ (λ (j : ℕ). (c.type_inv.tables j).ranges) c.put_parts.ensures c.clear_marked.ensures,
+      converted a.old.now a.tables.now a.n _ c.put_front.ensures _ c.parts_formed.ensures _ _ (λ (j : ℕ). (c.type_inv.tables j).fits) c.put_parts.ensures c.clear_marked.ensures,
     )

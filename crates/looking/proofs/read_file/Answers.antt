@@ -25,7 +25,7 @@ returns-then-n-eq0 c = read_none _ _ _ _ _ _ _ (counted (goal.at.returns-then-n-
 fits : (c : Else-n-eq0) → let a = c.args in (a.off + c.read_count-n.result ≤ 32768) × (c.read_count-n.result ≤ length a.buffer.now)
 fits c =
     let a = c.args in
-    in_file (length a.buffer.now) a.off _ c.read_count-n.result (counted c.After-read_count-n) (size_in_law a.t.now a.p.now c.requires.0 a.s a.f) c.if-n-eq0.false
+    in_file (length a.buffer.now) a.off _ c.read_count-n.result (c.read_count-n.ensures ∙ ap (read_count (length a.buffer.now) a.off) c.size_of.ensures.0) (size_in_law a.t.now a.p.now c.requires.0 a.s a.f) c.if-n-eq0.false
 
 pub resolve_range-r-requires : goal.resolve_range-r-requires
 resolve_range-r-requires c =

@@ -1,5 +1,5 @@
 -- `numbers::not_changeable` meets its contract. Assumes nothing.
-use mathlib.Core.List.{◌∷◌}
+use mathlib.Core.List.{[], ◌∷◌}
 use Rattle.rules.specs.Numbers.{View, read_only}
 use Rattle.tables.specs.Calls.{store_of}
 use Rattle.numbers.specs.Shared.{view_in}

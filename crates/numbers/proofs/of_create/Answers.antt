@@ -1,6 +1,6 @@
 -- `numbers::of_create` meets its contract. Assumes nothing.
 use mathlib.Core.Bool.{not}
-use mathlib.Core.List.{◌∷◌}
+use mathlib.Core.List.{[], ◌∷◌}
 use mathlib.Core.Path.{ap, sym, ◌∙◌}
 use Rattle.rules.specs.Numbers.{View, read_only}
 use Rattle.rules.specs.State.{is_absent}

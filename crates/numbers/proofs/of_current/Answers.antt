@@ -1,4 +1,5 @@
 -- `numbers::of_current` meets its contract. Assumes nothing.
+use mathlib.Core.List.{[]}
 use mathlib.Core.Bool.{not}
 use mathlib.Core.Path.{ap, sym, ◌∙◌}
 use Rattle.numbers.proofs.Rows.{current_row, here, none_left, past}

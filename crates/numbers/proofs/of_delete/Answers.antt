@@ -1,5 +1,5 @@
 -- `numbers::of_delete` meets its contract. Assumes nothing.
-use mathlib.Core.List.{◌∷◌}
+use mathlib.Core.List.{[], ◌∷◌}
 use mathlib.Core.Path.{ap, sym, ◌∙◌}
 use Rattle.rules.specs.Numbers.{View, read_only}
 use Rattle.rules.specs.State.{is_absent}

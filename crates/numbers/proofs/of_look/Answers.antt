@@ -1,4 +1,5 @@
 -- `numbers::of_look` meets its contract. Assumes nothing.
+use mathlib.Core.List.{[]}
 use Rattle.tables.specs.Calls.{store_of}
 use Rattle.numbers.specs.Shared.{view_in}
 use Rattle.numbers.proofs.Rows.{in_place, look_first, look_then}

@@ -1,4 +1,5 @@
 -- `numbers::of_make` meets its contract. Assumes nothing.
+use mathlib.Core.List.{[]}
 use mathlib.Core.Bool.{◌&&◌, not}
 use mathlib.Core.Path.{ap, sym, ◌∙◌}
 use native.Mathlib.Omega.{arith}

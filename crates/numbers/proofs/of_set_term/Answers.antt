@@ -1,4 +1,5 @@
 -- `numbers::of_set_term` meets its contract. Assumes nothing.
+use mathlib.Core.List.{[]}
 use mathlib.Core.Bool.{not}
 use mathlib.Core.Path.{ap, sym, ◌∙◌}
 use Rattle.numbers.proofs.Rows.{here, none_left, past, term_row}

@@ -1,5 +1,5 @@
 -- `numbers::of_truncate` meets its contract. Assumes nothing.
-use mathlib.Core.List.{◌∷◌}
+use mathlib.Core.List.{[], ◌∷◌}
 use borrow.Author.Tests.{le-ltb, lt-ltb, not-false, not-true}
 use Rattle.rules.specs.Numbers.{View, file_absent, file_marked, read_only}
 use Rattle.tables.specs.Calls.{store_of}

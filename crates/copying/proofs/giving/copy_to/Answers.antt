@@ -13,4 +13,4 @@ unfolding entry_meant
 returns c =
     let a = c.args in
     copied _ _ a.f a.c a.page.0 a.b.0 c.take_block-d.result.0 a.k c.requires.0 c.requires.4 c.take_block-d.ensures c.copy_page.ensures
-    c.copy_page.auto.p c.put_entry.ensures
+    c.copy_page.auto.pages c.put_entry.ensures

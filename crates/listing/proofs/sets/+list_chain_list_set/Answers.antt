@@ -23,7 +23,7 @@ list_chain-returns t c =
     let a = c.args in (
       λ f h.
           chain_visited (unpack a.t.now) f a.left a.k c.next_sibling_of.result (omega arith) c.if-left-eq0.false c.if-k-ge8.false
-          c.next_sibling_of.ensures.0 (c.list_set.ensures.0 (f - 1) (omega arith)) (c.list_chain.ensures.0 (f - 1) (omega arith)),
+          c.next_sibling_of.ensures.0 (c.list_set-w.ensures.0 (f - 1) (omega arith)) (c.list_chain.ensures.0 (f - 1) (omega arith)),
       omega arith,
       omega arith,
     )
