@@ -12,7 +12,7 @@ use Rattle.cutting.proofs.Cutting.{cut_kept}
 use Rattle.entering.proofs.Pending.{pending_kept, reserves_ready}
 use Rattle.changing.proofs.Whole.{both_need, both_ready, both_used, ready_in, same_used, settled_used}
 use Rattle.cutting.proofs.cut_kept.Goals as goal
-use Rattle.cutting.proofs.cut_kept.Goals.{After-enter_cut, After-own-1}
+use Rattle.cutting.proofs.cut_kept.Goals.{After-enter_cut, After-give_all-b}
 
 pub settle_children-requires : goal.settle_children-requires
 settle_children-requires c =
@@ -53,7 +53,7 @@ give_all-b-requires c =
     )
 
 -- what is pending for the page
-own_is : (c : After-own-1) → let a = c.args in
+own_is : (c : After-give_all-b) → let a = c.args in
     pending_meant (get_or c.reserve_all-r.result.pending a.first (record { 0 = 0 })) ≡ pending_of c.reserve_all-r.result.pending a.first
 own_is c =
     pending_at c.reserve_all-r.result.pending c.args.first _ (omega (arith, c.reserve_all-r.ensures.pending.len, c.requires.3, c.requires.4))
@@ -61,7 +61,7 @@ own_is c =
 pub enter_cut-requires : goal.enter_cut-requires
 enter_cut-requires c = (
   c.give_all-b.ensures.ready,
-  (λ b e. (pending_kept c.reserve_all-r.ensures c.give_all-b.ensures).below c.args.first b (sym (own_is (goal.at.enter_cut-requires c).After-own-1) ∙ e)),
+  (λ b e. (pending_kept c.reserve_all-r.ensures c.give_all-b.ensures).below c.args.first b (sym (own_is (goal.at.enter_cut-requires c).After-give_all-b) ∙ e)),
   c.requires.1,
   omega (arith, c.new.ensures, c.requires.3, c.requires.4),
   omega arith,
@@ -78,7 +78,7 @@ overflow_sub-m-2 c =
 -- the page enters
 entered : (c : After-enter_cut) → pending_of c.reserve_all-r.result.pending c.new.result.0 ≡ pending_meant (get_or c.reserve_all-r.result.pending c.args.first (record { 0 = 0 }))
 entered c =
-    ap (pending_of c.reserve_all-r.result.pending) c.new.ensures ∙ sym (own_is c.After-own-1)
+    ap (pending_of c.reserve_all-r.result.pending) c.new.ensures ∙ sym (pending_at c.reserve_all-r.result.pending c.args.first _ (omega (arith, c.reserve_all-r.ensures.pending.len, c.requires.3, c.requires.4)))
 
 pub drop_pages-requires : goal.drop_pages-requires
 drop_pages-requires c =

@@ -13,19 +13,19 @@ enter_block-requires c =
 
 pub returns-in-Unmapped : goal.returns-in-Unmapped
 unfolding entry_meant
-returns-in-Unmapped c =
+returns-in-Unmapped c h eh =
     let a = c.args in
     enter_none h a.s a.page.0 (overlay a.off a.«data».now) (entry_meant c.held-e.result) c.requires.0 (c.held-e.ensures ∙ sym eh) (ap is_stored (ap entry_meant c.in-Unmapped.is))
 
 pub returns-in-Hole : goal.returns-in-Hole
 unfolding entry_meant
-returns-in-Hole c =
+returns-in-Hole c h eh =
     let a = c.args in
     enter_none h a.s a.page.0 (overlay a.off a.«data».now) (entry_meant c.held-e.result) c.requires.0 (c.held-e.ensures ∙ sym eh) (ap is_stored (ap entry_meant c.in-Hole.is))
 
 pub returns-in-Stored : goal.returns-in-Stored
 unfolding entry_meant
-returns-in-Stored c =
+returns-in-Stored c h eh =
     let a = c.args in
     enter_some h a.s a.page.0 (overlay a.off a.«data».now) _ _
     (eh ∙ sym c.held-e.ensures ∙ ap entry_meant c.in-Stored.is) refl c.enter_block.ensures

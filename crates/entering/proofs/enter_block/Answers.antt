@@ -24,4 +24,4 @@ returns c =
     let e = resolve tree ((unpack a.t.now).files a.f) a.s a.page.0 in
     enters a.s a.page.0 a.b.0 e (overlay a.off a.«data».now a.page.0) c.put_entry.ensures
     (carried_laid (pages_of a.p.now) _ _ a.b.0 a.page.0 a.off a.«data».now e c.carry.ensures c.lay_bytes.ensures)
-    (c.lay_bytes.auto.t ∙ c.carry.auto.p) c.requires.0 c.requires.3 tree
+    (c.lay_bytes.auto.pages ∙ c.carry.auto.p) c.requires.0 c.requires.3 tree

@@ -25,4 +25,4 @@ returns c =
     let a = c.args in
     enters a.s a.page.0 a.b.0 (entry_meant a.e) (zero_from a.n) c.put_entry.ensures
     (laid (pages_of a.p.now) _ _ a.b.0 (bytes_of (pages_of a.p.now) (entry_meant a.e)) (zero_from a.n) c.prepare.ensures c.zero_tail.ensures)
-    (c.zero_tail.auto.p ∙ c.prepare.auto.p) c.requires.0 c.requires.3 (tree_of (unpack a.t.now).sets)
+    (c.zero_tail.auto.pages ∙ c.prepare.auto.p) c.requires.0 c.requires.3 (tree_of (unpack a.t.now).sets)

@@ -21,19 +21,19 @@ cut_block-requires c =
 
 pub returns-in-Unmapped : goal.returns-in-Unmapped
 unfolding entry_meant
-returns-in-Unmapped c =
+returns-in-Unmapped c h eh =
     let a = c.args in
     enter_none h a.s a.page.0 (λ q. zero_from a.n) (entry_meant c.held-e.result) c.requires.0 (c.held-e.ensures ∙ sym eh) (ap is_stored (ap entry_meant c.in-Unmapped.is))
 
 pub returns-in-Hole : goal.returns-in-Hole
 unfolding entry_meant
-returns-in-Hole c =
+returns-in-Hole c h eh =
     let a = c.args in
     enter_none h a.s a.page.0 (λ q. zero_from a.n) (entry_meant c.held-e.result) c.requires.0 (c.held-e.ensures ∙ sym eh) (ap is_stored (ap entry_meant c.in-Hole.is))
 
 pub returns-in-Stored : goal.returns-in-Stored
 unfolding entry_meant
-returns-in-Stored c =
+returns-in-Stored c h eh =
     let a = c.args in
     enter_some h a.s a.page.0 (λ q. zero_from a.n) _ (entry_meant c.resolve_in-r.result.entry)
     (eh ∙ sym c.held-e.ensures ∙ ap entry_meant c.in-Stored.is) c.resolve_in-r.ensures.0 c.cut_block.ensures
