@@ -11,7 +11,7 @@ import re
 import sys
 
 LAWS = "crates/tables/proofs/LayoutNumbers.antt"
-NAMES = ("setsAt", "filesAt", "mapsAt", "fileBytes", "setFilesBytes", "tableBytes", "oldFilesAt", "oldTableBytes")
+NAMES = ("sets_at", "files_at", "maps_at", "file_bytes", "set_files_bytes", "table_bytes", "old_files_at", "old_table_bytes")
 NUMBER = re.compile(r"(?<![\w.])(0x[0-9a-fA-F_]+|\d{1,3}(?:,\d{3})+|\d[\d_]*)(?:[iu](?:8|16|32|64|size))?(?!\w)")
 
 

@@ -501,7 +501,7 @@ PROMISES = """\
 """
 RULES = """\
 -- What is believed.
-use Prim.Native.Nat.{ℕ, _+_}
+use Rattle.std.specs.Prelude.{ℕ, ◌+◌}
 
 -- twice a number
 unfoldable pub twice : ℕ → ℕ
@@ -516,19 +516,21 @@ pub record Pair : Type 0 where
   pub right : ℕ
 """
 LAWS = """\
-pub twice-zero : twice 0 ≡ 0
+pub twice_zero : twice 0 ≡ 0
 unfolding twice
-twice-zero = refl
+twice_zero = refl
 
-pub more-zero : (k : ℕ) → more k 0 ≡ k
-more-zero k = refl
+pub more_zero : (k : ℕ) → more k 0 ≡ k
+more_zero k = refl
 
 abbrev helper : ℕ
 helper = 3
 """
 CODE = """\
+#![tactic(auto)]
+
 pub fn double(n: u32) -> u64
-    ensures { λ r. ⌜ r ≡ twice n ⌝ }
+    ensures { result ≡ twice n }
 {
     n as u64 + n as u64
 }
@@ -578,7 +580,7 @@ class Moved(unittest.TestCase):
 
     def test_comments_layout_and_marks_do_not_count(self):
         self.put("crates/low/specs/Rules.antt", RULES.replace("-- twice a number\n", "").replace("twice n = n + n", "twice n =\n    n + n"))
-        self.put("crates/low/proofs/Laws.antt", LAWS.replace("pub twice-zero", "twice-zero"))
+        self.put("crates/low/proofs/Laws.antt", LAWS.replace("pub twice_zero", "twice_zero"))
         self.put("crates/low/src/lib.rt", CODE.replace("    1\n", "    // one\n    1\n").replace("pub fn", "fn"))
         said = self.moved("HEAD")
         self.assertIn("definitions that must be believed: 0 added, 0 changed, 0 removed, 0 moved, 3 kept", said)
@@ -594,17 +596,17 @@ class Moved(unittest.TestCase):
         self.assertIn("  changed: low/specs/Rules: more, twice\n", said)
 
     def test_a_proof_changed_and_a_statement_changed(self):
-        self.put("crates/low/proofs/Laws.antt", LAWS.replace("more-zero k = refl", "more-zero k = sym refl"))
+        self.put("crates/low/proofs/Laws.antt", LAWS.replace("more_zero k = refl", "more_zero k = sym refl"))
         self.assertEqual(self.line("theorems and laws", "HEAD")[-6:], "2 kept")
         self.assertIn("1 changed", self.line("proofs", "HEAD"))
         self.assertIn("1 changed", self.line("proofs of theorems whose statement is the same", "HEAD"))
-        self.assertIn("changed: low/proofs/Laws: more-zero", self.moved("--all", "HEAD"))
+        self.assertIn("changed: low/proofs/Laws: more_zero", self.moved("--all", "HEAD"))
         self.put("crates/low/proofs/Laws.antt", LAWS.replace("more k 0 ≡ k", "more 0 k ≡ k"))
         self.assertIn("1 changed", self.line("theorems and laws", "HEAD"))
         self.assertIn("0 changed", self.line("proofs of theorems whose statement is the same", "HEAD"))
 
     def test_a_contract_changed_and_code_changed(self):
-        self.put("crates/low/src/lib.rt", CODE.replace("r ≡ twice n", "twice n ≡ r"))
+        self.put("crates/low/src/lib.rt", CODE.replace("result ≡ twice n", "twice n ≡ result"))
         self.assertIn("  changed: low/src/lib: double\n", self.moved("HEAD"))
         self.put("crates/low/src/lib.rt", CODE.replace("    1\n", "    0 + 1\n"))
         said = self.moved("HEAD")
@@ -614,17 +616,17 @@ class Moved(unittest.TestCase):
     def test_moved_removed_and_added(self):
         self.put("crates/low/specs/Rules.antt", RULES[: RULES.index("pub record")])
         self.put("crates/high/specs/Pairs.antt", RULES[RULES.index("pub record") :] + "\npub data Side : Type 0 where\n  near far : Side\n")
-        self.put("crates/low/proofs/Laws.antt", LAWS[LAWS.index("pub more-zero") :])
+        self.put("crates/low/proofs/Laws.antt", LAWS[LAWS.index("pub more_zero") :])
         said = self.moved("--all", "HEAD")
         self.assertIn("  moved: low/specs/Rules -> high/specs/Pairs: Pair\n", said)
         self.assertIn("  added: high/specs/Pairs: Side\n", said)
-        self.assertIn("  removed: low/proofs/Laws: twice-zero\n", said)
+        self.assertIn("  removed: low/proofs/Laws: twice_zero\n", said)
         self.put("crates/high/specs/Pairs.antt", RULES[RULES.index("pub record") :].replace("left", "first"))
         self.assertIn("  moved and changed: low/specs/Rules -> high/specs/Pairs: Pair\n", self.moved("--all", "HEAD"))
 
     def test_clauses_of_a_contract_on_several_lines(self):
-        clause = "ensures { λ r. ⌜ r ≡ twice n ⌝ }"
-        self.put("crates/low/src/lib.rt", CODE.replace(clause, "ensures {\n        λ r. ⌜ r ≡ twice n ⌝\n    }"))
+        clause = "ensures { result ≡ twice n }"
+        self.put("crates/low/src/lib.rt", CODE.replace(clause, "ensures {\n        result ≡ twice n\n    }"))
         said = self.moved("HEAD")
         self.assertIn("contracts that must be believed: 0 added, 0 changed, 0 removed, 0 moved, 2 kept", said)
 
@@ -648,15 +650,15 @@ class Cited(unittest.TestCase):
         self.assertEqual(cited.main(), 0)
 
     def test_a_row_with_a_wrong_name(self):
-        self.assertEqual(self.row("def rules/specs/State: Entry, Tables.files, stored; law packing/specs/Fields: split-join"), [])
+        self.assertEqual(self.row("def rules/specs/State: Entry, Tables.files, stored; law packing/specs/Fields: split_join"), [])
         self.wrong(self.row("def rules/specs/State: Entri"), "rules/specs/State.antt has no Entri")
         self.wrong(self.row("rules/specs/State: Entri"), "rules/specs/State.antt has no Entri")
         self.wrong(self.row("def rules/specs/State: Tables.filez"), "has no Tables.filez")
         self.wrong(self.row("def rules/specs/Storage: real.zeroes"), "has no real.zeroes")
         self.wrong(self.row("def rules/specs/Stat: Entry"), "there is no file rules/specs/Stat")
-        self.wrong(self.row("def packing/specs/Fields: join; law split-joins"), "has no split-joins")
+        self.wrong(self.row("def packing/specs/Fields: join; law split_joins"), "has no split_joins")
         self.wrong(self.row("def packing/specs/Fields: join and split"), "cannot read")
-        self.wrong(self.row("thm rules/proofs/Whole/Rows: rows-hold, Row: x"), "there is no file Row")
+        self.wrong(self.row("thm rules/proofs/Whole/Rows: rows_hold, Row: x"), "there is no file Row")
 
     def test_a_row_with_a_wrong_function_edit_or_test(self):
         self.assertEqual(self.row("contracts packing bitmap::first_free, bitmap::set_bit; code tables entries::Page::new"), [])
@@ -707,7 +709,7 @@ class Cited(unittest.TestCase):
         self.wrong(cited.believed_troubles(text.replace("`eqb`, ", "")), "the kit's eqb is used and not named")
         row = next(line for line in text.split("\n") if line.startswith("| `rules/specs/Trees.antt`"))
         found = cited.believed_troubles(text.replace(row + "\n", ""))
-        self.assertTrue(any("addChild is used and not listed" in trouble for trouble in found), found)
+        self.assertTrue(any("add_child is used and not listed" in trouble for trouble in found), found)
         self.wrong(cited.believed_troubles(text.replace(row, re.sub(r"\d+ \|$", "9 |", row))), "lines, not 9")
         self.wrong(cited.believed_troubles(re.sub(r"together \| \d+", "together | 9", text)), "together they are")
 
@@ -728,11 +730,11 @@ class Places(unittest.TestCase):
     def test_each_bare_number_is_found(self):
         told = sorted(places.numbers(ROOT).values())
         text = "".join(f"let at = {number} + (s * 16 + f);\n" for number in told)
-        for path in ("crates/maps/src/lib.rt", "crates/maps/proofs/a/b/Proof.antt", "crates/tables/specs/Layout.antt"):
+        for path in ("crates/maps/src/lib.rt", "crates/maps/proofs/a/b/Answers.antt", "crates/tables/specs/Layout.antt"):
             self.assertEqual(self.found(path, text), told, path)
 
     def test_forms_of_a_number(self):
-        total = places.numbers(ROOT)["tableBytes"]
+        total = places.numbers(ROOT)["table_bytes"]
         for text in (f"[0u8; {total}usize]", f"{total:#x}", f"{total:_}", f"// all {total:,} bytes", f'-- "whole" is {total}'):
             self.assertEqual(self.found("crates/maps/src/lib.rt", text), [total], text)
         for text in (f'// "The tables are {total:,} bytes"', f"x{total}", f"{total}0", f"1{total}", f"pair.{total}"):
@@ -740,7 +742,7 @@ class Places(unittest.TestCase):
 
     def test_a_law_that_is_gone_is_missed(self):
         with self.assertRaises(SystemExit):
-            self.found(places.LAWS, "bytes-said : (tableBytes ≡ 17468)")
+            self.found(places.LAWS, "bytes_said : (table_bytes ≡ 17468)")
 
 
 if __name__ == "__main__":

@@ -1,5 +1,5 @@
 #!/usr/bin/env python3
-"""Do the documents cite what is there? Run: python3 tests/trace.py
+"""Do the documents cite what is there? Run: python3 tests/trace.py [--lines]
 
 - docs/TRACE.md: every `crate/file: name`, function, must-fail edit, test and heading that a row cites exists.
 - README, tests/README and the documents of docs/: every path in them exists, and the names that stand after a file or a crate are in it.
@@ -9,6 +9,7 @@
   by a theorem of just that type. Every public function has an `ensures`.
 - docs/PROMISES.md, "What must be believed": the table of files is closed under what their definitions use, each file after those that
   it uses, with the right number of lines; the general definitions and the notions of the kit are just those that are used besides.
+With --lines the numbers of lines in that table are written anew first.
 Exit status: 0 all well, 1 not. Each trouble is a line.
 """
 import functools
@@ -45,7 +46,7 @@ def declared(path):
 
 
 def crates():
-    return [line.split(":")[0] for line in read("crates.txt").split("\n") if ":" in line and not line.startswith("#")]
+    return [line.split(":")[0].split()[0] for line in read("crates.txt").split("\n") if ":" in line and not line.startswith("#")]
 
 
 def source(path):
@@ -277,16 +278,20 @@ def architecture_troubles(text):
 
 
 def unfolded(crate):
-    """(definition, module) wherever a definition of a crate is unfolded by name in another"""
+    """(definition, module) wherever a definition of a crate is unfolded by name in another, in a proof or by a function's tactic"""
     found = set()
+    for path in sorted(glob.glob(os.path.join(ROOT, "crates/*/src/**/*.rt"), recursive=True)):
+        path = os.path.relpath(path, os.path.join(ROOT, "crates"))
+        opened = re.findall(rf"\b{crate}::specs::[\w:]*::(\w+)", " ".join(re.findall(r"\bunfolding\(([^)]*)\)", read("crates/" + path))))
+        found |= {(name, path[: -len(".rt")]) for name in opened if not path.startswith(crate + "/")}
     for path in sorted(glob.glob(os.path.join(ROOT, "crates/*/*/**/*.antt"), recursive=True)):
         path = os.path.relpath(path, os.path.join(ROOT, "crates"))
-        if path.startswith(crate + "/"):
+        if path.startswith(crate + "/") or path.split("/")[1] not in ("specs", "proofs"):
             continue
         names = Uses.imports(path)[0]
         for d in declared(path):
             mine = [names[name] for name in d.unfolds if name in names]
-            found |= {(name, path[: -len(".antt")]) for module, name in mine if re.match(rf"Rattle·{crate}\.", module)}
+            found |= {(name, path[: -len(".antt")]) for module, name in mine if module.startswith(f"Rattle.{crate}.")}
     return found
 
 
@@ -354,23 +359,23 @@ class Uses:
             return
         self.found.add((path, d.name))
         names, modules = self.imports(path)
-        operators = {name.strip("_"): name for name in names if "_" in name}
+        operators = {name.strip("◌"): name for name in names if "◌" in name}
         own = {name: other for other in declared(path) if other.kind != "law" for name in (other.name, *other.members)}
         text = d.statement if d.kind == "fn" else f"{d.statement} {d.body}"
         for word in re.split(r"[\s(){}\[\];,]+", text):
             word = word.rstrip(".")
             name = word if word in names else operators.get(word)
-            owner, _, inner = word.partition(".")
-            if name:
-                self.target(path, d, *names[name])
+            owner, _, inner = word.partition(".")  # `module.name`, or `value.field`
+            if name or owner in names:
+                self.target(path, d, *names[name or owner])
             elif owner in modules and inner:
                 self.target(path, d, modules[owner], inner)
-            elif word in own:
-                self.follow(path, own[word])
+            elif owner in own:
+                self.follow(path, own[owner])
 
     def target(self, path, d, module, name):
-        ours = re.match(r"Rattle·([^.·]+)(?:·specs|·proofs)?\.(specs|proofs)\.(.+)", module)
-        if not ours:
+        ours = re.match(r"Rattle\.(\w+)\.(specs|proofs)\.(.+)", module)
+        if not ours or ours[1] not in crates():
             self.kit.add(name)
             return
         crate, folder, inner = ours.groups()
@@ -386,8 +391,18 @@ class Uses:
 
 # notions of the kit that every reader knows, or that the prelude has
 PLAIN = set(
-    "Bool true false not _&&_ _||_ List [] _∷_ _++_ Option none some ℕ zero suc _+_ _*_ _/_ _%_ _^_ _<_ _≤_ _≡_ _↔_ _⊎_ min max".split()
+    "Bool true false not ◌&&◌ ◌||◌ List [] ◌∷◌ ◌++◌ Option none some ℕ zero suc ◌+◌ ◌*◌ ◌/◌ ◌%◌ ◌^◌ ◌<◌ ◌≤◌ ◌≡◌ ◌↔◌ ◌⊎◌ min max".split()
 )
+
+
+def with_lines(promises):
+    """the document with the numbers of lines of its table of files written anew"""
+    files, total = sources.believed(promises)[0], 0
+    for path in filter(source, files):
+        count = read("crates/" + path).count("\n")
+        promises = re.sub(rf"^(\| `{re.escape(path)}` \| .* \| )\d+( \|)$", rf"\g<1>{count}\2", promises, count=1, flags=re.M)
+        total += count
+    return re.sub(r"^(\| \| together \| )\d+( \|)$", rf"\g<1>{total}\2", promises, flags=re.M)
 
 
 def believed_troubles(promises):
@@ -426,7 +441,7 @@ def believed_troubles(promises):
 def claim_troubles():
     """the theorem that inhabits the closed claims, with no parameter and no hypothesis"""
     place = "history/proofs/Claims.antt"
-    right = Uses.imports(place)[0].get("Claims") == ("Rattle·history·specs.specs.Claims", "Claims")
+    right = Uses.imports(place)[0].get("Claims") == ("Rattle.history.specs.Claims", "Claims")
     stated = any(d.public and d.statement == "claims : Claims" for d in declared(place))
     return [] if right and stated else [f"crates/{place}: there is no 'pub claims : Claims'"]
 
@@ -440,6 +455,11 @@ def kit_troubles(promises):
 
 
 def main():
+    if "--lines" in sys.argv[1:]:
+        text = with_lines(read("docs/PROMISES.md"))
+        with open(os.path.join(ROOT, "docs/PROMISES.md"), "w", encoding="utf-8") as file:
+            file.write(text)
+        read.cache_clear()
     troubles, rows, cited = trace_troubles(read("docs/TRACE.md"))
     for document in DOCUMENTS:
         troubles += path_troubles(document, read(document))

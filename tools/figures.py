@@ -1,7 +1,8 @@
 #!/usr/bin/env python3
 """figures.py [LOG]: lines of code, definitions and proof of each crate, its edits that must be refused, and the seconds that its check took.
 
-The seconds are read from LOG, what `rt ci` printed (target-gate/rt-ci.log of the last run of the gate); without it they are left out.
+The seconds are read from LOG, what `rt ci` of an older kit printed (without it target-gate/rt-ci.log of the last run of the gate); today's
+prints none, and a crate of which LOG has none gets a dash.
 Lines count without empty ones. Code is src/ without the lines of contracts and `ghost use`; definitions are specs/, laws in them included.
 """
 import glob
@@ -24,7 +25,7 @@ def lines(pattern, skip=None):
 
 def crates():
     with open(os.path.join(ROOT, "crates.txt"), encoding="utf-8") as file:
-        return [line.split(":")[0] for line in file if ":" in line and not line.startswith("#")]
+        return [line.split(":")[0].split()[0] for line in file if ":" in line and not line.startswith("#")]
 
 
 def seconds(log):

@@ -106,7 +106,7 @@ def pairs_by(key, before, after):
 def own_place(item):
     """what tells apart the many proofs that name their parts alike: the folder of the function"""
     parts = item.path.split("/")
-    return parts[-2] if parts[-1] == "Proof.antt" else ""
+    return parts[-2] if parts[-1] in ("Answers.antt", "Invariants.antt", "Proof.antt") else ""
 
 
 def compare(old, new):

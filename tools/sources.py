@@ -44,9 +44,10 @@ def items(lines):
     return found
 
 
-def is_law(marks, name, proofs):
-    """a fact and not a notion: neither `abbrev` nor `unfoldable`; in specs/ it is named as laws are, with a hyphen or a question mark"""
-    return not re.search(r"abbrev|unfoldable", marks) and (proofs or bool(re.search(r"-|\?$", name)))
+def is_law(marks, type_text, proofs):
+    """a fact and not a notion: neither `abbrev` nor `unfoldable`; in specs/ its type speaks of values: it names an argument or has
+    a relation"""
+    return not re.search(r"abbrev|unfoldable", marks) and (proofs or bool(re.search(r"\([^(){}:]+ : |[≡≤<¬]", type_text)))
 
 
 def block_members(lines):
@@ -89,7 +90,7 @@ class Module:
         signed = SIGNATURE.match(flat)
         if signed:
             marks, name, levels, type_text = signed.groups()
-            kind = "law" if is_law(marks, name, self.proofs) else "definition"
+            kind = "law" if is_law(marks, " ".join([*context, type_text]), self.proofs) else "definition"
             self.add(name, kind, marks, context + [f"{name}{levels} : {type_text}"], ())
         elif not self.closed:
             self.clause(flat)
@@ -169,7 +170,8 @@ def read_type(flat):
 def read_rt(text):
     """functions with contract and body, structs, enums and constants, without `pub`; functions of `impl T` are named T::f"""
     found = []
-    for item in code_items(without_comments(text, "//").split("\n")):
+    lines = [line for line in without_comments(text, "//").split("\n") if not line.startswith("#![")]
+    for item in code_items(lines):
         flat = squeeze("\n".join(item))
         owner = re.match(r"impl (\w+)", flat)
         if owner:

@@ -1,9 +1,10 @@
 #!/usr/bin/env python3
-"""uses.py FILE...: writes the `use` lines of logic modules (specs/ and proofs/, not Proof.antt) anew from the names in them.
+"""uses.py FILE...: writes the `use` lines of logic modules (specs/ and proofs/, not the proofs of functions) anew from the names in them.
 
 A name is looked up in the public names of the crates that the file's crate rests on (crates.txt), then among the names of
 the kit's libraries as other modules of this repository import them. A line with `as`, without braces, or of declared structs is kept. A local
-variable with the name of a public definition is imported too: look at what changed.
+variable with the name of a public definition is imported too: look at what changed. (`rt check --fix-imports` writes missing `use` lines of a
+crate that is being checked, and `rt tidy` drops needless ones of one that is proved; this looks at the text alone.)
 """
 import collections
 import glob
@@ -14,6 +15,8 @@ import sys
 ROOT = os.path.dirname(os.path.dirname(os.path.abspath(__file__)))
 PLACE = re.compile(re.escape(ROOT) + r"/crates/([^/]+)/(specs|proofs)/(.*)\.antt")
 NAME = r"([^\s:{(]+)(?: \{[^}]*\})? :"
+OWN = re.compile(r"Rattle\.(?!std\b|core\b)")  # paths of this repository; those of the kit's libraries begin otherwise
+OF_FUNCTIONS = ("Answers", "Invariants", "Proof")
 KEYWORDS = set(
     "data record where let in if module pub abbrev unfoldable unfolding use mod elim as Type tt rw simp cc search omega"
     " absurd".split()
@@ -32,16 +35,17 @@ def modules():
     )
 
 
-def library_names():
-    """name -> module of the kit, the one most used"""
+def library_names(kind):
+    """name -> module of the kit, the one most used in specs/ or in proofs/; what only the other uses too"""
     found = collections.defaultdict(collections.Counter)
     for path in modules():
+        weight = 1000 if PLACE.match(path)[2] == kind else 1
         for m in re.finditer(r"^use ([^\s{]+)\.\{([^}]*)\}", text(path), re.M):
-            if m.group(1).startswith("Rattle"):
+            if OWN.match(m.group(1)):
                 continue
             for name in m.group(2).split(","):
                 if name.strip() and " as " not in name:
-                    found[name.strip()][m.group(1)] += 1
+                    found[name.strip()][m.group(1)] += weight
     return {name: c.most_common(1)[0][0] for name, c in found.items()}
 
 
@@ -74,7 +78,7 @@ def near(crate):
     """a crate and those that it rests on: only these can be named"""
     for line in text(ROOT + "/crates.txt").split("\n"):
         name, _, on = line.split("#")[0].partition(":")
-        if name.strip() == crate:
+        if name.split()[:1] == [crate]:
             return {crate, *on.split()}
     return {crate}
 
@@ -90,7 +94,7 @@ def repository_names(mine):
     known, crates = {}, near(crate)
     for path in modules():
         c, k, p = PLACE.match(path).groups()
-        if p == "Lib" or p.endswith("/Proof") or c not in crates or path == mine:
+        if p == "Lib" or p.split("/")[-1] in OF_FUNCTIONS or c not in crates or path == mine:
             continue
         if c == crate:
             if k == "proofs" and kind == "specs":
@@ -100,17 +104,16 @@ def repository_names(mine):
                 continue
         elif k == "proofs" and "/" in p:
             continue
-        inner = f"{c}·{k}" if c == crate else c
         for name in public_names(path):
-            known.setdefault(name, f"Rattle·{inner}.{k}.{p.replace('/', '.')}")
+            known.setdefault(name, f"Rattle.{c}.{k}.{p.replace('/', '.')}")
     return known
 
 
 def rank(module):
-    for i, start in enumerate(("mathlib", "Prim", "native", "lib.")):
+    for i, start in enumerate(("mathlib", "Prim", "native", "lib.", "Rattle.core", "Rattle.std")):
         if module.startswith(start):
             return (i, module)
-    return (5 if module.startswith("Rattle") else 4, module)
+    return (7 if module.startswith("Rattle") else 6, module)
 
 
 def rewrite(path, library):
@@ -129,9 +132,9 @@ def rewrite(path, library):
     body = "\n".join(body).strip("\n")
     code = re.sub(r"--[^\n]*", "", body)
     words = {w for w in re.split(r"[\s(){}\[\];,]+", code) if w and not w.startswith(".")}
-    words |= {part for w in words for part in w.split(".")}
+    words |= {w.split(".")[0] for w in words}  # `value.field`
     own = set(public_names(path)) | set(re.findall(r"^ *(?:unfoldable |abbrev |pub )*" + NAME + " ", code, re.M))
-    operators = {k.replace("_", ""): k for k in library if "_" in k}
+    operators = {k.replace("◌", ""): k for k in library if "◌" in k}
     need = collections.defaultdict(list)
     for word in sorted(words - KEYWORDS - own):
         name = word if word in known or word in library else operators.get(word)
@@ -145,9 +148,9 @@ def rewrite(path, library):
 
 
 def main():
-    library = library_names()
-    for path in sys.argv[1:]:
-        rewrite(os.path.abspath(path), library)
+    library = {kind: library_names(kind) for kind in ("specs", "proofs")}
+    for path in map(os.path.abspath, sys.argv[1:]):
+        rewrite(path, library[PLACE.match(path)[2]])
 
 
 main()
