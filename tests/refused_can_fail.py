@@ -1,103 +1,133 @@
 #!/usr/bin/env python3
-"""refused_can_fail.py: shows that tests/refused can fail, on a crate of one function and edits made for it, below target/refused-test."""
+"""refused_can_fail.py: shows that tests/refused can fail, on a crate of one function and edits made for it, in a folder of its own."""
 import os
-import shutil
 import subprocess
 import sys
+import tempfile
 
 HERE = os.path.dirname(os.path.abspath(__file__))
-ROOM = os.path.join(os.path.dirname(HERE), "target", "refused-test")
 CRATE = {
     "crates.txt": "tiny:\n",
     "crates/tiny/src/lib.rt": """\
 // A number is given back.
-ghost use mathlib.Core.Path.{_≡_};
-ghost use Rattle·tiny·specs.specs.Tiny.{given};
+#![tactic(auto)]
+
+ghost use Rattle.std.specs.Prelude.{◌≡◌};
+ghost use Rattle.tiny.specs.Tiny.{given};
 
 pub fn give(x: usize) -> usize
-    ensures { λ r. ⌜ r ≡ given x ⌝ }
+    ensures { result ≡ given x }
 {
     x
 }
 """,
     "crates/tiny/specs/Lib.antt": "pub mod Tiny\n",
     "crates/tiny/specs/Tiny.antt": """\
-use Prim.Native.Nat.{ℕ}
-use mathlib.Core.Path.{_≡_, refl}
+use Rattle.std.specs.Prelude.{ℕ}
 
 unfoldable pub given : ℕ → ℕ
 given x = x
+""",
+    "crates/tiny/proofs/Lib.antt": "pub mod Same\n",
+    "crates/tiny/proofs/Same.antt": """\
+use Rattle.std.specs.Prelude.{◌≡◌, refl, ℕ}
+use Rattle.tiny.specs.Tiny.{given}
 
 pub same : (x : ℕ) → x ≡ given x
 unfolding given
 same x = refl
 """,
-    "crates/tiny/proofs/give/Proof.antt": """\
-use Rattle·tiny·specs.specs.Tiny.{same}
-use Rattle·tiny·proofs.proofs.give.Statement.{statement}
-use Rattle·tiny·proofs.proofs.give.Tie as tie
+    "crates/tiny/proofs/give/Answers.antt": """\
+use Rattle.tiny.proofs.Same.{same}
+use Rattle.tiny.proofs.give.Goals as goal
 
-returns : tie.Need-returns
-returns c = same (c .args .x)
-
-pub give-spec : {M : Type 1} → statement M
-give-spec = tie.close (tie.spec returns)
+pub returns : goal.returns
+returns c = same c.args.x
 """,
 }
 # name, the edit, what tests/refused must say of it
-EDITS = (
-    ("another_number", "file: src/lib.rt\nold:     x\nnew:     7\n", "refused, first at proofs/give/Proof.antt"),
+GOOD = (
+    ("another_number", "file: src/lib.rt\nold:     x\nnew:     7\n", "refused, first at proofs/give/Answers.antt:5:13"),
+    ("another_definition", "file: specs/Tiny.antt\nold: given x = x\nnew: given x = 7\n", "refused, first at proofs/Same.antt:6:10"),
+)
+BAD = (
     ("comment", "file: src/lib.rt\nold: given back\nnew: handed back\n", "NOT REFUSED"),
+    ("no_program", "file: src/lib.rt\nold:     x\nnew:     true\n", "BAD EDIT: it did not reach the prover"),
+    ("renamed", "file: proofs/Same.antt\nold: pub same\nnew: pub equal\nold: same x =\nnew: equal x =\n", "SHOWS NOTHING: refused (only because a proof file names"),
+    ("no_text", "file: proofs/Same.antt\nold: same x = refl\nnew: same x = (refl\n", "BAD EDIT: the prover cannot read the edited text"),
+    ("no_type", "file: specs/Tiny.antt\nold: given x = x\nnew: given x = λ y. y\n", "SHOWS NOTHING: the first error refuses no fact"),
+)
+UNFIT = (
     ("not_there", "file: src/lib.rt\nold: nothing of the kind\nnew: 7\n", "BAD EDIT: its old text does not stand just once"),
-    ("twice", "file: specs/Tiny.antt\nold: given x\nnew: 7\n", "BAD EDIT: its old text does not stand just once"),
+    ("twice", "file: specs/Tiny.antt\nold: ℕ\nnew: 7\n", "BAD EDIT: its old text does not stand just once"),
     ("outside", "file: src/../../../crates.txt\nold: tiny:\nnew: tiny: std\n", "BAD EDIT: its file is not one of the crate's"),
     ("no_pair", "# nothing\n", "BAD EDIT: it has no pair"),
-    ("no_program", "file: src/lib.rt\nold:     x\nnew:     true\n", "BAD EDIT: it did not reach the prover"),
-    ("renamed", "file: specs/Tiny.antt\nold: pub same\nnew: pub equal\nold: same x =\nnew: equal x =\n", "SHOWS NOTHING"),
-    ("no_text", "file: specs/Tiny.antt\nold: same x = refl\nnew: same x = (refl\n", "SHOWS NOTHING"),
+    ("same", "file: src/lib.rt\nold:     x\nnew:     x\n", "BAD EDIT: it changes nothing"),
 )
 
 
-def write(path, text):
-    os.makedirs(os.path.dirname(os.path.join(ROOM, path)), exist_ok=True)
-    with open(os.path.join(ROOM, path), "w", encoding="utf-8") as file:
-        file.write(text)
+class Room:
+    def __init__(self, folder):
+        self.folder, self.troubles = folder, []
+        for path, text in CRATE.items():
+            self.write(path, text)
 
+    def write(self, path, text):
+        os.makedirs(os.path.dirname(os.path.join(self.folder, path)), exist_ok=True)
+        with open(os.path.join(self.folder, path), "w", encoding="utf-8") as file:
+            file.write(text)
 
-def run(*options):
-    done = subprocess.run([os.path.join(HERE, "refused"), "--root", ROOM, *options], stdout=subprocess.PIPE, stderr=subprocess.STDOUT, encoding="utf-8")
-    return done.returncode, done.stdout
+    def edits(self, edits, folder="refused"):
+        for name, edit, _ in edits:
+            self.write(f"crates/tiny/{folder}/{name}.edit", edit)
+
+    def remove(self, edits, folder="refused"):
+        for name, _, _ in edits:
+            os.remove(f"{self.folder}/crates/tiny/{folder}/{name}.edit")
+
+    def run(self, *options):
+        command = [os.path.join(HERE, "refused"), "--root", self.folder, *options]
+        done = subprocess.run(command, stdout=subprocess.PIPE, stderr=subprocess.STDOUT, encoding="utf-8")
+        return done.returncode, done.stdout
+
+    def expect(self, what, ran, status, last, said=()):
+        """What a run must end with, and say of each edit."""
+        lines = [f"refused tiny/{name}: {verdict}" for name, _, verdict in said]
+        wrong = [line for line in lines if line not in ran[1]]
+        if ran[0] != status or not ran[1].endswith(last + "\n") or wrong:
+            self.troubles.append(f"{what}: status {ran[0]}, not {status}, or not the end: {last}, or not: {wrong}\n{ran[1]}")
 
 
 def main():
-    shutil.rmtree(ROOM, ignore_errors=True)
-    for path, text in CRATE.items():
-        write(path, text)
-    for name, edit, _ in EDITS:
-        write(f"crates/tiny/refused/{name}.edit", edit)
-    troubles = []
-    status, said = run()
-    for name, _, verdict in EDITS:
-        if f"refused tiny/{name}: {verdict}" not in said:
-            troubles.append(f"{name} is not: {verdict}")
-    last = f"tests/refused: 1 edits refused, {len(EDITS) - 1} not\n"
-    if status != 1 or not said.endswith(last):
-        troubles.append(f"status {status}, and the end is not: {last}")
-    nothing, more = run("--nothing")
-    if nothing != 1 or not more.endswith(last):
-        troubles.append(f"--nothing: status {nothing}, and the end is not: {last}")
-    # one good edit alone passes; a crate that is not proved fails
-    for name, _, _ in EDITS[1:]:
-        os.remove(f"{ROOM}/crates/tiny/refused/{name}.edit")
-    if run()[0] != 0:
-        troubles.append("an edit that is refused does not pass")
-    write("crates/tiny/src/lib.rt", CRATE["crates/tiny/src/lib.rt"].replace("    x\n", "    7\n"))
-    if run()[0] == 0:
-        troubles.append("a crate that is not proved passes")
-    if troubles:
-        sys.exit("\n".join([said, more, *troubles, "refused_can_fail: tests/refused does not fail where it must"]))
-    shutil.rmtree(ROOM)
-    print(f"refused_can_fail: {len(EDITS)} edits tried over a folder and from nothing, each judged as it must be")
+    with tempfile.TemporaryDirectory(prefix="refused-can-fail-") as folder:
+        room, every = Room(folder), (*GOOD, *BAD, *UNFIT)
+        room.edits(every)
+        room.expect("--fits", room.run("--fits"), 1, f"refused: {len(GOOD + BAD)} edits fit, {len(UNFIT)} do not", UNFIT)
+        last = f"tests/refused: {len(GOOD)} edits refused, {len(BAD + UNFIT)} not"
+        room.expect("over what rt check kept", room.run("tiny"), 1, last, every)
+        room.expect("by rt ci", room.run("--ci"), 1, last, every)
+        # without those that show nothing it passes, also by the clock; with no time nothing is tried
+        room.remove((*BAD, *UNFIT))
+        last = f"tests/refused: {len(GOOD)} edits refused, 0 not"
+        room.expect("the good ones", room.run(), 0, last, GOOD)
+        room.expect("the good ones by the clock", room.run("--ci", "--seconds", "600", "--seed", "1"), 0, last, GOOD)
+        room.expect("no time", room.run("--ci", "--seconds", "0"), 0, f"tests/refused: 0 edits refused, 0 not, {len(GOOD)} left for other runs")
+        # what rt ci prints of must-fail/ is looked at in the same way
+        room.remove(GOOD)
+        room.edits((*GOOD, *BAD), "must-fail")
+        room.write("ci.log", subprocess.run(["rt", "ci"], cwd=folder, stdout=subprocess.PIPE, stderr=subprocess.STDOUT, encoding="utf-8").stdout)
+        room.expect("--look", room.run("--look", f"{folder}/ci.log"), 1, f"tests/refused --look: {len(GOOD)} edits of must-fail/ refused by a fact, {len(BAD)} not", BAD)
+        room.write("ci.log", "")
+        room.expect("--look at nothing", room.run("--look", f"{folder}/ci.log"), 1, f"tests/refused --look: 0 edits of must-fail/ refused by a fact, {len(GOOD + BAD)} not")
+        # a crate that is not proved fails
+        room.remove((*GOOD, *BAD), "must-fail")
+        room.edits(GOOD[1:])
+        room.write("crates/tiny/src/lib.rt", CRATE["crates/tiny/src/lib.rt"].replace("    x\n", "    7\n"))
+        for options in ((), ("--ci",)):
+            room.expect(f"not proved {options}", room.run(*options), 1, "tests/refused: 0 edits refused, 1 not")
+    if room.troubles:
+        sys.exit("\n".join([*room.troubles, "refused_can_fail: tests/refused does not fail where it must"]))
+    print(f"refused_can_fail: {len(every)} edits tried over what rt check kept and by rt ci, each judged as it must be")
 
 
 if __name__ == "__main__":

@@ -28,8 +28,8 @@ import sources  # noqa: E402
 DOCUMENTS = ("README.md", "tests/README.md", "CHANGELOG.md") + tuple(
     f"docs/{name}.md" for name in ("ARCHITECTURE", "DECISIONS", "MANUAL", "PERFORMANCE", "PROMISES", "TRACE")
 )
-# what the check, the gate and `make` write; lib/ is in the package
-MADE = ("target/", "target-gate/", "dist/", "build/", "lib/")
+# what rt, the gate and `make` write; lib/ is in the package
+MADE = re.compile(r"(target-gate|dist|build|lib|crates/\w+/out)/")
 EDIT_FOLDERS = ("must-fail", "refused")
 
 
@@ -197,7 +197,7 @@ def trace_troubles(text):
 
 def exists(path, near):
     """a path of the repository, near the document, below crates/ or inside a crate; globs allowed; a module without its ending too"""
-    if path.startswith(MADE):
+    if MADE.match(path):
         return True
     path = path.rstrip("/")
     for start in ("", near, "crates/", "crates/*/"):
