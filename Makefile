@@ -2,10 +2,10 @@
 #   make dist      the package: header, archive, pkg-config file and a note on licences, in dist/
 #   make examples  the programs of examples/ against the package, run, their output compared
 #   make clean     removes dist/
-# The archive is made by the Rattle kit (rt); it is made again when the code of a crate has changed.
+# The archive is made by the Rattle kit (rt, by tools/archive); it is made again when the code of a crate has changed.
 # The version is the header's.
 VERSION := $(shell sed -n 's/^.define SWEEP_VERSION "\(.*\)"$$/\1/p' include/sweep.h)
-ARCHIVE = target/staticlib/libsweep.a
+ARCHIVE = crates/sweep/out/libsweep.a
 WARNINGS = -std=c99 -Wall -Wextra -Wpedantic -Werror
 PACKAGE = $(CURDIR)/dist
 BUILT = target-gate/examples
@@ -22,8 +22,8 @@ dist: $(ARCHIVE)
 	sed 's/@VERSION@/$(VERSION)/' include/sweep.pc.in >dist/lib/pkgconfig/sweep.pc
 	cp docs/LICENCES.md dist/
 
-$(ARCHIVE): crates.txt $(shell find crates -name '*.rt')
-	rt staticlib sweep
+$(ARCHIVE): crates.txt $(shell find crates/*/src -name '*.rt')
+	tools/archive
 
 examples: dist
 	mkdir -p $(BUILT)
