@@ -23,7 +23,7 @@ returns-then-n-ne0 c =
 
 pub returns-then-data-eq0 : goal.returns-then-data-eq0
 returns-then-data-eq0 c =
-    nothing_written _ _ _ (is_formed _ _ _ c.well_formed-2.ensures c.if-not-well_formed.false-raw) c.counts_0-then-data-eq0.ensures (λ (j : ℕ). (c.type_inv.t j).fits)
+    nothing_written _ _ _ (is_formed _ _ _ c.well_formed-2.ensures c.if-not-well_formed.false-raw) c.counts_0-then-data-eq0.ensures (λ (j : ℕ). (c.slice_known-1.given j).fits)
     _ _ _ _ _ (omega arith) (zero_is (c.of_write-n.ensures _) (omega arith))
 
 pub write_file-k-requires : goal.write_file-k-requires
