@@ -5,7 +5,6 @@ use mathlib.Core.Path.{ap, refl, sym, ◌∙◌, ◌≡◌}
 use Prim.Native.Nat.{◌*◌, ◌<◌, ℕ}
 use native.Mathlib.Omega.{arith}
 use lib.ListN.{length}
-use lib.Pow.{low}
 use Rattle.calls.proofs.CallCases.{call_accepted, number_in, on_store}
 use Rattle.pages.proofs.Whole.{pages_packed}
 use Rattle.calls.specs.Outcomes.{answer_meant, outcome}

@@ -9,7 +9,6 @@ use Rattle.calls.proofs.CallCases.{number_on, number_in}
 use Rattle.calls.specs.Outcomes.{answer_meant, outcome}
 use Rattle.looking.proofs.Outcome.{free_outcome, read_outcome, size_outcome, tells}
 use Rattle.looking.specs.Read.{ReadDone}
-use Rattle.packing.specs.Bitmap.{number}
 use Rattle.rules.proofs.Whole.Accepted.{passed_size}
 use Rattle.rules.specs.Calls.{Store, view_of}
 use Rattle.rules.specs.Numbers.{Answer, conditions, lowest, number_of, read, tell_free, tell_size}

@@ -13,7 +13,6 @@ use Rattle.calls.proofs.ChangedRecords.{done_as, finished}
 use Rattle.calls.specs.Outcomes.{answer_meant, outcome}
 use Rattle.changing.specs.Whole.{Changed, counts_of, start_counts}
 use Rattle.copying.specs.Work.{Rest, rest, work}
-use Rattle.packing.specs.Bitmap.{number}
 use Rattle.packing.specs.Words.{Bytes}
 use Rattle.rules.proofs.Whole.Accepted.{passed_delete, passed_truncate, passed_write}
 use Rattle.rules.proofs.Steps.WriterSteps.{bytes}

@@ -1,5 +1,5 @@
 -- The marked files cleared one after another: each leaves what clearing all of them comes to, and where none is left nothing is to be cleared. Assumes nothing.
-use mathlib.Core.Bool.{◌&&◌, Bool, cond, false, not, true, true≢false, ◌||◌}
+use mathlib.Core.Bool.{◌&&◌, Bool, false, not, true, true≢false, ◌||◌}
 use mathlib.Core.List.{List}
 use mathlib.Core.Path.{◌≡◌, ap, refl, subst, sym, ◌∙◌}
 use Prim.Native.Nat.{◌%◌, ◌*◌, ◌+◌, ◌/◌, ◌<◌, suc, zero, ℕ}
@@ -14,15 +14,14 @@ use Rattle.converting.specs.Clearing.{cleared_file_in}
 use Rattle.rules.proofs.Blocks.RealStore.{none_stored}
 use Rattle.rules.proofs.Formed.Tests.{files_at_law, files_of_law, not_of, not_then, pages_at, pages_of}
 use Rattle.rules.proofs.Tally.TallyLoops.{from_last, from_none}
-use Rattle.rules.specs.Rules.{each, free_map, from, marked_file}
-use Rattle.rules.specs.State.{Entry, File, State, Tables, absent, absent_file, file_count, hole, is_marked, largest_blocks, page_count, set_count, stored, unmapped}
-use Rattle.rules.specs.Storage.{Memory, real}
+use Rattle.rules.specs.Rules.{each, from, marked_file}
+use Rattle.rules.specs.State.{Entry, File, State, Tables, hole, is_marked, largest_blocks, page_count, stored, unmapped}
+use Rattle.rules.specs.Storage.{Memory}
 use Rattle.rules.specs.WellFormed.{all_files, all_pages, bits_formed, block_below, blocks_formed, header_formed, names, pages_fit}
 use Rattle.setchanges.proofs.Freeing.{free_map_bits, free_bit, freed_bits}
 use Rattle.setchanges.specs.Changes.{BlocksIn, freed_in, marked_in, no_pages}
 use Rattle.tables.proofs.FormedStore.{header_in}
 use Rattle.tables.proofs.InRange.{file_in, page_in}
-use Rattle.tables.proofs.OneReading.{termed_packed}
 use Rattle.tables.proofs.ReadParts.{map_default, state_default}
 use Rattle.tables.specs.Convert.{cleared, cleared_file, held_by_marked}
 use Rattle.tables.specs.Layout.{table_bytes}

@@ -19,7 +19,6 @@ use Rattle.entrycheck.specs.Moving.{FourInARow, Full, Moved, RowMoved, block_at,
 use Rattle.packing.specs.Bitmap.{is_one}
 use Rattle.packing.specs.Bits.{bit, bit_none}
 use Rattle.packing.specs.Words.{get_word}
-use Rattle.entrycheck.specs.declared.seeing.Left.{Left}
 
 -- ---- one page
 

@@ -8,7 +8,7 @@ use lib.Bits.{bit_or}
 use lib.Dec.{eqb, ltb}
 use lib.ListN.{get_or, length, length-set, set}
 use lib.Pow.{pow_pos, shl_exact}
-use lib.Seq.{get_or-set_other, get_or-set_same}
+use lib.Seq.{get_or-set_other}
 use borrow.Author.Tests.{ltb-false, ltb-true, ne_eqb, not-false, not-true}
 use Rattle.base.specs.Logic.{or_false, same?, test?}
 use Rattle.entrycheck.proofs.Lists.{put_more}

@@ -4,7 +4,7 @@ use mathlib.Core.List.{List, ◌∷◌, []}
 use mathlib.Core.Logic.{inl, inr, ◌⊎◌}
 use mathlib.Core.Option.{Option, none, some}
 use mathlib.Core.Path.{ap, refl, subst, sym, ◌∙◌, ◌≡◌}
-use Prim.Native.Nat.{◌%◌, ◌*◌, ◌+◌, ◌-◌, ◌<◌, min, ℕ, ◌≤◌}
+use Prim.Native.Nat.{◌%◌, ◌*◌, ◌+◌, ◌-◌, ◌<◌, ℕ, ◌≤◌}
 use native.Mathlib.Omega.{arith}
 use lib.Bits.{and_mask, bit_and, bit_or, or_lt}
 use lib.Dec.{eqb, ltb}
@@ -14,12 +14,12 @@ use borrow.Author.Tests.{eq-eqb, eqb-false, eqb-true, ltb-false}
 use Rattle.base.specs.Count.{all, all_at}
 use Rattle.base.specs.Logic.{and_left, and_right, digit, same?, test?}
 use Rattle.base.specs.Update.{upd, upd_other, upd_same}
-use Rattle.history.specs.Events.{Event, check, check_blocks, compact, convert, current, event_on, events_on, listed, panel_line, panel_read, panel_reset, panel_write, runs, set_term}
+use Rattle.history.specs.Events.{Event, check, check_blocks, compact, convert, current, event_on, events_on, listed, panel_line, panel_read, panel_reset, panel_write, set_term}
 use Rattle.history.specs.Image.{Held, Image, gave}
 use Rattle.history.specs.Panel.{FromReset, FromResetClaim, Since, cleared_by, command_given, just_reset, since_after, since_of, wrote_at}
 use Rattle.packing.specs.Bitmap.{is_one}
 use Rattle.packing.specs.Bits.{bit, bit_mod}
-use Rattle.rules.specs.Numbers.{Answer, Call, no_counts}
+use Rattle.rules.specs.Numbers.{Answer, Call}
 use Rattle.tables.proofs.NumberFits.{answer_low}
 use Rattle.tables.proofs.Registers.{cause_low, cause_masked, offset_told, reset_zero, written_byte, written_full, written_none}
 use Rattle.tables.specs.Calls.{call_on}

@@ -13,7 +13,6 @@ use Rattle.listing.specs.Written.{Visited, Wrote, visit_set}
 use Rattle.tables.proofs.FormedStore.{FormedStore, formed_store}
 use Rattle.tables.specs.Packed.{unpack, well_formed}
 use Rattle.listing.specs.declared.sets.Place.{Place}
-use Rattle.listing.specs.declared.store.Listed.{Listed}
 use Rattle.listing.specs.declared.store.Listed.TheVariants.{NotWellFormed, TooSmall, Written}
 
 -- what well-formed tables give, whatever the pages hold

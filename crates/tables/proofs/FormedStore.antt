@@ -8,14 +8,12 @@ use lib.Dec.{eqb, leb, ltb}
 use lib.ListN.{length}
 use borrow.Author.Tests.{eqb-true, le-ltb, leb-true, ltb-true}
 use Rattle.base.specs.Logic.{and_false, and_left, and_right, test?}
-use Rattle.packing.specs.Bits.{bit}
 use Rattle.rules.proofs.Formed.BitsFormed.{AbsentBeyond, EmptyBeyond, blocks_formed_law}
 use Rattle.rules.proofs.Formed.FilesFormed.{Ranged, formed_state}
 use Rattle.rules.proofs.Formed.Tests.{and_4}
 use Rattle.rules.proofs.Blocks.RealStore.{BlocksOk}
 use Rattle.rules.proofs.Tree.SetsOk.{SetsOk}
 use Rattle.rules.proofs.Formed.Shape.{FilesFormed}
-use Rattle.rules.proofs.Tally.TallyLoops.{no_pages}
 use Rattle.rules.specs.State.{File, SetRecord, Tables, absent_file, page_bytes, tree_of}
 use Rattle.rules.specs.WellFormed.{bits_formed, blocks_formed, files_formed, header_formed, marks_formed, older_sets_formed, pages_fit, sets_formed, terms_formed, tree_formed, zeros_formed}
 use Rattle.tables.proofs.OneReading.{formed_packed}

@@ -1,6 +1,5 @@
 -- The rows of accesses to the registers of the front panel, by computing their definitions. Assumes nothing.
 use mathlib.Core.Path.{refl}
-use lib.ListN.{set}
 use Rattle.tables.specs.Panel.{answered, cause_of, command_of, commanded, line_of, no_register, panel_line_on, panel_read_on, panel_reset_on, panel_write_on, reset_values, shown, value_read, writable_bits, written}
 use Rattle.tables.specs.PanelRows.{PanelRowsClaim, accesses, command_rows, panel_rows}
 

@@ -5,7 +5,7 @@ use mathlib.Core.Logic.{◌⊎◌, ⊎_elim}
 use mathlib.Core.Path.{ap, refl, subst, sym, ◌∙◌, ◌≡◌}
 use Prim.Native.Nat.{◌%◌, ◌-◌, ◌<◌, ℕ, ◌≤◌}
 use native.Mathlib.Omega.{arith}
-use lib.Bits.{and_le_l, and_le_r, and_mask, and_zero_r, bit_and, bit_or, or_lt, or_zero_r}
+use lib.Bits.{and_le_l, and_le_r, and_mask, and_zero_r, bit_and, or_lt, or_zero_r}
 use lib.Dec.{eqb, leb, ltb}
 use lib.ListN.{get_or, length}
 use borrow.Author.Tests.{eq-eqb, eqb-true, le-leb, lt-leb, ltb-false, ne_eqb, not-false}

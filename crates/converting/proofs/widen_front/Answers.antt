@@ -1,6 +1,6 @@
 -- `converting::widen_front` meets its contract. Assumes nothing.
 use mathlib.Core.Path.{◌≡◌, subst, sym, ◌∙◌}
-use Prim.Native.Nat.{◌-◌, ℕ}
+use Prim.Native.Nat.{ℕ}
 use native.Mathlib.Omega.{arith}
 use Rattle.converting.proofs.Fronts.{front_start}
 use Rattle.converting.specs.Front.{FrontTo}

@@ -1,6 +1,6 @@
 -- `cutting::truncate_file` meets its contract. Assumes nothing.
 use mathlib.Core.Path.{refl, sym, ◌∙◌}
-use Prim.Native.Nat.{◌-◌, ◌<◌}
+use Prim.Native.Nat.{◌<◌}
 use native.Mathlib.Omega.{arith}
 use Rattle.tables.proofs.FormedStore.{formed_store}
 use Rattle.copying.proofs.Begin.{formed_packed, ready_begin}

@@ -1,6 +1,5 @@
 -- `entrycheck::maps_equal` meets its contract. The loop's invariant: x is zero exactly where the first i bytes are the same; and after a turn it is known
 use mathlib.Core.Path.{ap, ◌∙◌, ◌≡◌}
-use Prim.Native.Nat.{◌-◌}
 use native.Mathlib.Omega.{arith}
 use Rattle.entrycheck.proofs.BytesEqual.{same_bytes, same_more, same_none, same_to}
 use Rattle.entrycheck.proofs.maps_equal.Goals as goal

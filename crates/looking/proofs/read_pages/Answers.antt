@@ -1,6 +1,6 @@
 -- `looking::read_pages` meets its contract. The loop's invariant: `done` bytes are read. The measure is the number of bytes left. Assumes nothing.
 use mathlib.Core.Path.{◌≡◌, ap, refl, sym, ◌∙◌}
-use Prim.Native.Nat.{◌+◌, ◌-◌, ◌/◌}
+use Prim.Native.Nat.{◌+◌, ◌/◌}
 use native.Mathlib.Omega.{arith}
 use lib.ListN.{get_or}
 use Rattle.pages.specs.Run.{run, run_none}

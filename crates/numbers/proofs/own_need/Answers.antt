@@ -1,5 +1,5 @@
 -- `numbers::own_need` meets its contract. The loop's invariant: the pages counted and the need of those that are left are the whole need.
-use Prim.Native.Nat.{◌+◌, ◌-◌}
+use Prim.Native.Nat.{◌+◌}
 use mathlib.Core.Path.{ap, refl, ◌∙◌}
 use mathlib.Core.Bool.{not}
 use native.Mathlib.Omega.{arith}

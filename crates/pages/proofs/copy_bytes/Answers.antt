@@ -1,7 +1,7 @@
 -- `pages::copy_bytes` meets its contract. The loop's invariant: the bytes up to `i` are copied.
 use mathlib.Core.Path.{◌≡◌, refl, sym, ap, ◌∙◌}
 use mathlib.Core.List.{List}
-use Prim.Native.Nat.{ℕ, ◌+◌, ◌-◌}
+use Prim.Native.Nat.{ℕ, ◌+◌}
 use native.Mathlib.Omega.{arith}
 use lib.ListN.{get_or, set, length-set}
 use borrow.Author.Rules.{rules}

@@ -8,7 +8,6 @@ use native.Mathlib.Omega.{arith}
 use lib.Dec.{eqb, ltb}
 use lib.ListN.{length}
 use borrow.Author.Tests.{eqb-false, eqb-true, ltb-false, ltb-true}
-use borrow.Fn.PlainCycle.{is}
 use Rattle.base.specs.Logic.{same?}
 use Rattle.base.specs.Update.{upd, upd_other, upd_same}
 use Rattle.rules.proofs.Whole.Accepted.{MayMake, MayRemove, passed_create, passed_make, passed_remove, passed_truncate, passed_write}

@@ -6,12 +6,10 @@ use mathlib.Core.Path.{◌≡◌, ap, refl, subst, sym, ◌∙◌}
 use Prim.Native.Nat.{◌<◌, ℕ, ◌≤◌}
 use native.Mathlib.Omega.{arith}
 use lib.Dec.{eqb, ltb}
-use lib.ListN.{set}
 use borrow.Author.Tests.{eq-eqb, eqb-true, ne_eqb}
 use Rattle.base.specs.Count.{count_all}
 use Rattle.base.specs.Logic.{same?}
 use Rattle.base.specs.Update.{upd, upd_keeps, upd_map, upd_other, upd_same}
-use Rattle.rules.proofs.Agreement.Truncate.{apart}
 use Rattle.rules.proofs.Blocks.GoodWork.{not_stored}
 use Rattle.rules.proofs.Blocks.RealSim.{pages_seen, real_demands, to_model}
 use Rattle.rules.proofs.Blocks.RealStore.{BlocksOk, Outer, PagesInside, RealKept, good_begin, kept_finish, none_stored}
@@ -21,13 +19,11 @@ use Rattle.rules.proofs.Storages.Model.{model}
 use Rattle.rules.proofs.Storages.StoreSim.{Same, Standing, StoreSim, calls_same}
 use Rattle.rules.specs.Calls.{Store, blank_memory, created, formatted, made, new_file, step, tree_in}
 use Rattle.rules.specs.Numbers.{Call}
-use Rattle.rules.specs.Plain.{present}
 use Rattle.rules.specs.Rules.{holes}
 use Rattle.rules.specs.Sets.{append_set, child_file, link_behind, link_last, root_alone, unlink_set}
 use Rattle.rules.specs.State.{Entry, File, Files, SetRecord, absent_file, children_of, hole, is_absent, is_stored, stored, unmapped, unused_set}
 use Rattle.rules.specs.Storage.{Memory, free_blocks, real}
 use Rattle.rules.specs.Terms.{default_term}
-use Rattle.rules.specs.WellFormed.{names}
 
 -- FILES THAT CHANGE WITHOUT BLOCKS: each is as it was, or nothing was stored in it and nothing is
 abbrev NoneStored : File ℕ → Type 0

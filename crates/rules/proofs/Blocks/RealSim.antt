@@ -6,12 +6,10 @@ use mathlib.Core.Logic.{inl, inr, ◌⊎◌, ⊎_elim}
 use mathlib.Core.Path.{◌≡◌, ap, ap₂, fun_ext, refl, subst, subst₂, sym, ◌∙◌}
 use Prim.Native.Nat.{◌<◌, ℕ}
 use native.Mathlib.Omega.{arith}
-use lib.ListN.{set}
 use Rattle.base.specs.Count.{count_less}
 use Rattle.base.specs.Logic.{same?, test?}
 use Rattle.base.specs.Update.{upd, upd_keeps, upd_other, upd_same}
 use Rattle.rules.proofs.Agreement.Agree.{from_mem, from_once}
-use Rattle.rules.proofs.Agreement.Truncate.{apart}
 use Rattle.rules.proofs.Blocks.GoodWork.{Good, PagesIn, Place, ShortPage, Used, at, good_alike, good_more, not_stored, overlay_short, put_in, put_entry_named, put_entry_still, slot, upd_named, zero_short}
 use Rattle.rules.proofs.Blocks.TakeBlock.{take_below, take_bits, take_blocks, take_count, take_next, take_pages, take_unused}
 use Rattle.rules.proofs.Blocks.Tidy.{Tidy, resolve_named, settle_presence, tidy_fewer, tidy_put}
@@ -29,7 +27,6 @@ use Rattle.rules.specs.Reading.{needs, reaches, resolve}
 use Rattle.rules.specs.Rules.{Work, copy, drop_page, each, enter_as, free_entry, free_map, free_sets, from, hand_over, mark, mark_down, put_entry, reserve, reserve_as, resize, settle, take_own, with_files}
 use Rattle.rules.specs.State.{Entry, File, Files, Tree, absent_file, hole, is_absent, is_stored, live, stored, unmapped}
 use Rattle.rules.specs.Storage.{Memory, PageData, free_blocks, real, take_block}
-use Rattle.rules.specs.WellFormed.{names}
 
 drop_pages : (e : Entry ℕ) (m : Memory) (b : ℕ) → (free_entry real e m).pages b ≡ m.pages b
 unfolding free_entry

@@ -14,7 +14,6 @@ use Rattle.rules.specs.Calls.{Store, begin, finish, tree_in}
 use Rattle.rules.specs.Rules.{Work}
 use Rattle.rules.specs.State.{Entry, Files, is_absent, is_stored, stored, unmapped}
 use Rattle.rules.specs.Storage.{real}
-use lib.Pow.{low}
 
 -- an entry that names block b
 pub record Named (r : Store real) (b : ℕ) : Type 0 where

@@ -4,7 +4,6 @@ use mathlib.Core.Path.{ap, refl, ◌≡◌}
 use Prim.Native.Nat.{◌-◌, ◌<◌, ℕ}
 use native.Mathlib.Nat.{mod-lt}
 use native.Mathlib.Omega.{arith}
-use lib.Pow.{low}
 use Rattle.base.specs.Count.{count_less}
 use Rattle.base.specs.Logic.{pick}
 use Rattle.base.specs.Search.{Free, first_found, first_says, first_free}

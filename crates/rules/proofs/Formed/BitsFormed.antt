@@ -5,17 +5,14 @@ use mathlib.Core.Path.{ap, fun_ext, refl, sym, ◌∙◌, ◌≡◌}
 use Prim.Native.Nat.{◌<◌, ℕ, ◌≤◌}
 use native.Mathlib.Omega.{arith}
 use lib.Dec.{eqb, leb, ltb}
-use lib.ListN.{set}
 use borrow.Author.Tests.{eq-eqb, eqb-true, le-leb, leb-true, lt-ltb, ltb-false, ltb-true}
 use Rattle.base.specs.Count.{all, all_at, all_of, sum}
 use Rattle.base.specs.Logic.{and_both, and_left, and_right, digit, same?, test?}
-use Rattle.rules.proofs.Blocks.GoodWork.{Used, at}
+use Rattle.rules.proofs.Blocks.GoodWork.{Used}
 use Rattle.rules.proofs.Blocks.RealStore.{BlocksOk, Named, Placed, none_stored}
 use Rattle.rules.proofs.Blocks.Sums.{count_sum, sum3, sum3_one, sum3_some, sum3_term, sum3_two, sum3_zero}
-use Rattle.rules.proofs.Agreement.Truncate.{apart}
 use Rattle.rules.proofs.Formed.Tests.{files_at_law, files_of_law}
 use Rattle.rules.specs.Calls.{Store, tables_of}
-use Rattle.rules.specs.Plain.{present}
 use Rattle.rules.specs.State.{Entry, Tables, absent, hole, is_absent, is_unmapped, stored, unmapped}
 use Rattle.rules.specs.Storage.{real}
 use Rattle.rules.specs.WellFormed.{all_files, all_pages, all_sets, bits_formed, block_below, header_formed, names, times_named, zero_file, zero_set, zeros_formed}

@@ -3,13 +3,13 @@ use mathlib.Core.Bool.{◌&&◌, Bool, cond, false, not, true, true≢false}
 use mathlib.Core.List.{List, Memᴰ, ◌∷◌, []}
 use mathlib.Core.Logic.{inl, inr, ◌⊎◌, ⊎_elim}
 use mathlib.Core.Path.{◌≡◌, ap, refl, subst, sym, ◌∙◌}
-use Prim.Native.Nat.{◌+◌, ◌<◌, suc, zero, ℕ, ◌≤◌}
+use Prim.Native.Nat.{◌+◌, suc, zero, ℕ, ◌≤◌}
 use native.Mathlib.Omega.{arith}
 use lib.Dec.{eqb}
 use lib.ListN.{length}
 use Rattle.base.specs.Count.{count, count_fewer, count_same}
 use Rattle.base.specs.Logic.{and_both, and_left, and_right, same?, test?}
-use Rattle.base.specs.Update.{upd, upd_keeps, upd_other, upd_same}
+use Rattle.base.specs.Update.{upd, upd_other, upd_same}
 use Rattle.rules.proofs.Steps.Handing.{ProperTree, give_parent}
 use Rattle.rules.proofs.Steps.OneStep.{put_entry_ent, put_entry_other, put_entry_page, put_entry_state}
 use Rattle.rules.proofs.Steps.Pending.{give_one_pending}

@@ -1,7 +1,7 @@
 -- How much room a write can take, of any store in order: what it shows before and after, as a tally and as a bitmap. Assumes nothing.
 use mathlib.Core.Bool.{◌&&◌, Bool, cond, false, not, true, true≢false}
 use mathlib.Core.List.{List, ◌∷◌, []}
-use mathlib.Core.Logic.{inl, inr, ◌⊎◌, ⊎_elim}
+use mathlib.Core.Logic.{inr, ◌⊎◌, ⊎_elim}
 use mathlib.Core.Path.{ap, refl, subst, sym, ◌∙◌, ◌≡◌}
 use Prim.Native.Nat.{◌+◌, suc, zero, ℕ, ◌≤◌}
 use native.Mathlib.Omega.{arith}

@@ -1,6 +1,6 @@
 -- How many blocks a write takes on the tally: an own one for a touched page at most, and a copy for a turn at most; how many come free by marking; while a block is free
 -- for every turn at a touched page, no file becomes marked. Assumes nothing.
-use mathlib.Core.Bool.{◌&&◌, Bool, cond, false, true}
+use mathlib.Core.Bool.{◌&&◌, Bool, cond, false}
 use mathlib.Core.List.{List, ◌∷◌, []}
 use mathlib.Core.Path.{ap, refl, subst, ◌∙◌, ◌≡◌}
 use Prim.Native.Nat.{◌*◌, ◌+◌, suc, zero, ℕ, ◌≤◌}

@@ -6,7 +6,6 @@ use Rattle.rules.proofs.Storages.CountSim.{bytes_forgotten, no_demands, to_count
 use Rattle.rules.proofs.Storages.MapBlocks.{map_files}
 use Rattle.rules.proofs.Storages.Model.{counting, model}
 use Rattle.rules.proofs.Blocks.RealCalls.{Stands}
-use Rattle.rules.proofs.Blocks.RealStore.{good_begin, kept_finish}
 use Rattle.rules.proofs.Storages.StoreSim.{Standing, StoreSim, calls_same, view_same}
 use Rattle.rules.specs.Calls.{Result, Store, step, tree_in, view_of}
 use Rattle.rules.specs.Numbers.{Call, number_of}

@@ -3,7 +3,6 @@ use mathlib.Core.Bool.{Bool, cond}
 use mathlib.Core.List.{List, ◌∷◌, []}
 use mathlib.Core.Path.{ap, refl, ◌∙◌, ◌≡◌}
 use Prim.Native.Nat.{ℕ}
-use Rattle.rules.proofs.Blocks.GoodWork.{Good}
 use Rattle.rules.proofs.Storages.MapBlocks.{map_entry, map_files}
 use Rattle.rules.proofs.Storages.Model.{counting, model}
 use Rattle.rules.proofs.Storages.Sim.{Demands, Sim, Translation}

@@ -1,7 +1,6 @@
 -- Two more storages: the model, whose entries hold their bytes, so that nothing is shared; and the count, which has neither blocks nor bytes. Assumes nothing.
 use Prim.Native.Nat.{◌+◌, ◌-◌, ℕ}
-use lib.ListN.{take}
-use Rattle.rules.specs.Storage.{PageData, Memory, Storage, overlay, zero_from}
+use Rattle.rules.specs.Storage.{PageData, Storage, overlay, zero_from}
 
 abbrev pub model : Storage
 model = record {

@@ -6,7 +6,7 @@ use mathlib.Core.Path.{◌≡◌, ap, ap₂, refl, sym, ◌∙◌}
 use Prim.Native.Nat.{◌+◌, ◌-◌, ◌<◌, suc, zero, ℕ, ◌≤◌}
 use native.Mathlib.Omega.{arith}
 use lib.Dec.{eqb}
-use Rattle.base.specs.Count.{count, sum}
+use Rattle.base.specs.Count.{count}
 use Rattle.rules.proofs.Blocks.Sums.{sum_same}
 use Rattle.base.specs.Logic.{test?}
 use Rattle.base.specs.Update.{upd, upd_is, upd_other, upd_same, upd_swap}

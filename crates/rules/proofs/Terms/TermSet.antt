@@ -1,5 +1,5 @@
 -- A set record with another term: the tree stays, the rules on sets hold again, and a store in order is in order again. Assumes nothing.
-use mathlib.Core.Bool.{false, true, true≢false}
+use mathlib.Core.Bool.{true, true≢false}
 use mathlib.Core.Path.{◌≡◌, ap, refl, subst, sym, ◌∙◌}
 use Prim.Native.Nat.{suc, zero, ℕ}
 use lib.Dec.{ltb}

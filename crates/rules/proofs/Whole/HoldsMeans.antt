@@ -19,7 +19,7 @@ use Rattle.rules.proofs.Steps.WriterSteps.{bytes}
 use Rattle.rules.specs.Agreement.{AgreesPlain, AgreesTally, both_answer, both_give, buffer_after, buffer_of, front, front_of, kind_of, plain_bytes, plain_first, store_give}
 use Rattle.rules.specs.Calls.{Store, accepted, blank_memory, byte_by_reading, read_count, read_into, read_looks, result_of, step, tree_in, view_of, worked}
 use Rattle.rules.specs.Numbers.{Answer, Call, Look, bytes_asked, create, delete, format, look_of, make, none_asked, number_of, read, refusal, remove, size_asked, tell_free, tell_size, truncate, write}
-use Rattle.rules.specs.Plain.{Plain, bytes_in, is_none, present}
+use Rattle.rules.specs.Plain.{Plain, bytes_in, is_none}
 use Rattle.rules.specs.Reading.{resolve, size_by_reading}
 use Rattle.rules.specs.Rules.{page_of}
 use Rattle.rules.specs.State.{Entry, hole, is_marked, live, stored, unmapped}

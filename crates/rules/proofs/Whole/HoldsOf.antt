@@ -13,7 +13,6 @@ use Rattle.base.specs.Logic.{test?}
 use Rattle.rules.proofs.Agreement.Agree.{Agree}
 use Rattle.rules.proofs.Agreement.AgreeCalls.{has_list}
 use Rattle.rules.proofs.Steps.States.{live_present, live_unmarked}
-use Rattle.rules.proofs.Steps.WriterSteps.{bytes}
 use Rattle.rules.proofs.Storages.CountCalls.{count_of, model_of}
 use Rattle.rules.proofs.Tally.TallyNumbers.{Tallies}
 use Rattle.rules.proofs.Whole.Holds.{Holds}

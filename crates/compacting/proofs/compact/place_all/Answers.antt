@@ -1,6 +1,6 @@
 -- `compacting::compact::place_all` meets its contract. The loop's invariant: the records before record r are done, and the owners' window is right. Assumes nothing.
 use mathlib.Core.Path.{refl, sym, ◌∙◌}
-use Prim.Native.Nat.{◌*◌, ◌-◌}
+use Prim.Native.Nat.{◌*◌}
 use native.Mathlib.Omega.{arith}
 use Rattle.compacting.proofs.Tracking.{tracked_later, tracked_start}
 use Rattle.compacting.proofs.Turning.{gather_start, gather_then, gathered_at}

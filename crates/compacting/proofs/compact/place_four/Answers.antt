@@ -1,6 +1,6 @@
 -- `compacting::compact::place_four` meets its contract. The loop's invariant: the places before page q are done, k blocks are given, and the owners' window is right. Assumes nothing.
 use mathlib.Core.Path.{◌≡◌, ap, refl, sym, ◌∙◌}
-use Prim.Native.Nat.{◌*◌, ◌+◌, ◌-◌}
+use Prim.Native.Nat.{◌*◌, ◌+◌}
 use native.Mathlib.Omega.{arith}
 use Rattle.compaction.specs.Compact.{entry_in}
 use Rattle.tables.specs.Packed.{unpack}

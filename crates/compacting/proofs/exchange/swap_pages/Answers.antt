@@ -1,6 +1,6 @@
 -- `compacting::exchange::swap_pages` meets its contract. The loop's invariant: the bytes before byte i have changed places. Assumes nothing.
 use mathlib.Core.Path.{◌≡◌, ap, refl, sym, ◌∙◌}
-use Prim.Native.Nat.{◌*◌, ◌+◌, ◌-◌, suc}
+use Prim.Native.Nat.{◌*◌, ◌+◌, suc}
 use native.Mathlib.Omega.{arith}
 use lib.ListN.{length-set}
 use Rattle.compacting.specs.Exchange.{traded, traded_none}

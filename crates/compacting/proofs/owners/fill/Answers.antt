@@ -1,5 +1,5 @@
 -- `compacting::owners::fill` meets its contract. The loop's invariant: the entries of the records before record r are noted. Assumes nothing.
-use Prim.Native.Nat.{◌*◌, ◌-◌}
+use Prim.Native.Nat.{◌*◌}
 use native.Mathlib.Omega.{arith}
 use Rattle.compacting.proofs.Tracking.{fill_done, fill_next, fill_none, map_long}
 use Rattle.compacting.proofs.owners.fill.Goals as goal

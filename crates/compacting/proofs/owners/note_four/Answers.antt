@@ -1,6 +1,6 @@
 -- `compacting::owners::note_four` meets its contract. The loop's invariant: the entries before page q are noted. Assumes nothing.
 use mathlib.Core.Path.{◌≡◌, ap, sym, ◌∙◌}
-use Prim.Native.Nat.{◌*◌, ◌+◌, ◌-◌, ◌<◌}
+use Prim.Native.Nat.{◌*◌, ◌+◌, ◌<◌}
 use native.Mathlib.Omega.{arith}
 use Rattle.compaction.specs.Compact.{entry_in}
 use Rattle.tables.specs.Packed.{unpack}

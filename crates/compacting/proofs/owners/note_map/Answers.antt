@@ -1,6 +1,6 @@
 -- `compacting::owners::note_map` meets its contract. The loop's invariant: the entries before group g are noted. Assumes nothing.
 use mathlib.Core.Path.{◌≡◌, ap, sym, ◌∙◌}
-use Prim.Native.Nat.{◌*◌, ◌-◌}
+use Prim.Native.Nat.{◌*◌}
 use native.Mathlib.Omega.{arith}
 use Rattle.compacting.specs.Owners.{noted_none, noted_from}
 use Rattle.compacting.proofs.Tracking.{four_next, map_long}

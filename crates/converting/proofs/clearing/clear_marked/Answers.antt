@@ -1,6 +1,5 @@
 -- `converting::clearing::clear_marked` meets its contract. The loop's invariant: the first i files are done. Assumes nothing.
 use mathlib.Core.Path.{sym, ◌∙◌}
-use Prim.Native.Nat.{◌-◌}
 use native.Mathlib.Omega.{arith}
 use Rattle.converting.proofs.ClearedFiles.{clearing_done, clearing_next, clearing_start}
 use Rattle.converting.proofs.clearing.clear_marked.Goals as goal

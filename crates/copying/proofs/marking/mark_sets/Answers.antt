@@ -1,6 +1,6 @@
 -- `copying::marking::mark_sets` meets its contract. The loop's invariant: for each test g whose answers are the digits of `mask`, those from set s on are the digits of m, and the sets before s are marked where g says so. Assumes nothing.
 use mathlib.Core.Path.{◌≡◌, subst, sym, ◌∙◌}
-use Prim.Native.Nat.{ℕ, ◌-◌}
+use Prim.Native.Nat.{ℕ}
 use native.Mathlib.Omega.{arith}
 use Rattle.maps.specs.Mask.{packs_bit, packs_rest}
 use Rattle.copying.specs.Changes.{MarkedBy}

@@ -1,6 +1,6 @@
 -- `entrycheck::plain::blocks_plain` meets its contract. The loop's invariant: the two words have the bits of the first i entries. Assumes nothing.
 use mathlib.Core.Path.{ap, subst, sym, ◌∙◌}
-use Prim.Native.Nat.{◌<◌, ◌-◌}
+use Prim.Native.Nat.{◌<◌}
 use native.Mathlib.Omega.{arith}
 use lib.Bits.{bit_or, or_lt}
 use Rattle.entrycheck.proofs.PlainBlocks.{clean, clean_end, clean_more, clean_none, clean_not, unless_lt}

@@ -1,5 +1,4 @@
 -- `entrycheck::records::entries_formed` meets its contract. The loop's invariant: the records before record i have passed. Assumes nothing.
-use Prim.Native.Nat.{◌-◌}
 use native.Mathlib.Omega.{arith}
 use Rattle.entrycheck.proofs.RecordsPassed.{bits_refused, records_done, records_next, records_refused, records_start}
 use Rattle.entrycheck.proofs.records.entries_formed.Goals as goal

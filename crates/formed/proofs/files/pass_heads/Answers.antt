@@ -1,6 +1,5 @@
 -- `formed::files::pass_heads` meets its contract. The loop's invariant: the heads of the sets before set s have passed. Assumes nothing.
 use mathlib.Core.Path.{sym}
-use Prim.Native.Nat.{◌-◌}
 use native.Mathlib.Omega.{arith}
 use Rattle.formed.proofs.HeadRules.{heads_done, heads_next, heads_refused, heads_start}
 use Rattle.tables.proofs.Parts.{head_files}

@@ -1,11 +1,10 @@
 -- `formed::files::records_formed` meets its contract. The loop's invariant: the files of the numbers below f have passed. Assumes nothing.
 use mathlib.Core.Path.{subst, sym}
-use Prim.Native.Nat.{◌-◌}
 use native.Mathlib.Omega.{arith}
 use Rattle.base.specs.Count.{all_none}
 use Rattle.formed.proofs.PlaceDigits.{places_are}
 use Rattle.formed.proofs.Whole.{numbers_done, numbers_next, numbers_refused}
-use Rattle.formed.specs.Files.{Falling, number_formed}
+use Rattle.formed.specs.Files.{Falling}
 use Rattle.tables.proofs.Parts.{sets_front}
 use Rattle.formed.proofs.files.records_formed.Goals as goal
 

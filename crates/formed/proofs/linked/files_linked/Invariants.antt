@@ -1,6 +1,5 @@
 -- `formed::linked::files_linked` meets its contract. The loop's invariant: the files of the sets whose digits are not left have been looked at. Assumes nothing.
 use mathlib.Core.List.{◌++◌}
-use Prim.Native.Nat.{◌-◌}
 use Rattle.formed.proofs.LinkedRules.{Linking}
 use Rattle.formed.proofs.linked.files_linked.Given as goal
 

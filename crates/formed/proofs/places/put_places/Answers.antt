@@ -1,5 +1,4 @@
 -- `formed::places::put_places` meets its contract. The loop's invariant: the digits and the parents of the sets before set s are there. Assumes nothing.
-use Prim.Native.Nat.{◌-◌}
 use native.Mathlib.Omega.{arith}
 use Rattle.tables.specs.Meaning.{set_meant}
 use Rattle.formed.proofs.PlaceDigits.{places_done, places_next, places_start}

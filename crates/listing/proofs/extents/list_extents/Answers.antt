@@ -1,6 +1,5 @@
 -- `listing::extents::list_extents` meets its contract. The loop's invariant: the extents of the pages passed are written. The measure is the number of pages left. Assumes nothing.
 use mathlib.Core.Path.{ap, ◌∙◌, ◌≡◌}
-use Prim.Native.Nat.{◌-◌}
 use native.Mathlib.Omega.{arith}
 use lib.Dec.{eqb}
 use Rattle.tables.specs.Meaning.{entry_meant}

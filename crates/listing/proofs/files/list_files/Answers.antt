@@ -1,6 +1,5 @@
 -- `listing::files::list_files` meets its contract. The loop's invariant: the files passed are written. The measure is the number of files left. Assumes nothing.
 use mathlib.Core.Path.{ap, ◌≡◌}
-use Prim.Native.Nat.{◌-◌}
 use native.Mathlib.Omega.{arith}
 use Rattle.tables.specs.Packed.{unpack}
 use Rattle.listing.specs.Listing.{file_texts}

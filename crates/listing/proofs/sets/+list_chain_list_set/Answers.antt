@@ -1,7 +1,6 @@
 -- `listing::sets::list_set` and `listing::sets::list_chain` meet their contracts: they call each other, and the count of unvisited sets falls. Assumes nothing.
-use Prim.Native.Nat.{ℕ, ◌<◌, ◌+◌, ◌-◌, ◌*◌}
+use Prim.Native.Nat.{◌-◌}
 use native.Mathlib.Omega.{arith}
-use borrow.Author.Rules.{rules}
 use Rattle.tables.specs.Packed.{unpack}
 use Rattle.listing.proofs.Visits.{chain_visited, no_set, none_left, set_visited, stayed}
 use Rattle.listing.proofs.sets.+list_chain_list_set.Goals as goal

@@ -1,9 +1,8 @@
 -- `listing::text::put_decimal` meets its contract: it calls itself on the number without its last digit. Assumes nothing.
 use mathlib.Core.List.{[], ◌∷◌, ◌++◌}
 use mathlib.Core.Path.{sym, ap, ◌∙◌}
-use Prim.Native.Nat.{ℕ, ◌<◌, ◌/◌}
+use Prim.Native.Nat.{ℕ, ◌/◌}
 use native.Mathlib.Omega.{arith}
-use borrow.Author.Rules.{rules}
 use Rattle.listing.specs.Text.{decimal}
 use Rattle.listing.proofs.Decimals.{decimal_more, decimal_most, decimal_one}
 use Rattle.listing.proofs.Writing.{wrote_as, wrote_then}

@@ -1,6 +1,5 @@
 -- `maps::marking::depends_on` meets its contract. The loop's invariant: the file of set s is marked with that of set c exactly if that of set `at`
 use mathlib.Core.Path.{◌≡◌}
-use Prim.Native.Nat.{◌-◌}
 use Rattle.rules.specs.Reading.{depends_on, reaches}
 use Rattle.rules.specs.State.{tree_of}
 use Rattle.tables.specs.Packed.{unpack}

@@ -1,8 +1,7 @@
 -- `maps::reading::resolve` meets its contract: it calls itself on the parent set, and the level falls. Assumes nothing.
 use mathlib.Core.Path.{ap, sym, ◌∙◌}
-use Prim.Native.Nat.{ℕ, ◌<◌, ◌+◌, ◌-◌}
+use Prim.Native.Nat.{ℕ, ◌+◌, ◌-◌}
 use native.Mathlib.Omega.{arith}
-use borrow.Author.Rules.{rules}
 use Rattle.rules.specs.State.{is_unmapped}
 use Rattle.tables.specs.Meaning.{entry_meant}
 use Rattle.tables.specs.Packed.{unpack}

@@ -1,6 +1,5 @@
 -- `maps::reading::size_of` meets its contract. The loop's invariant: the size by reading is that from set `at`, at most `left` parents up.
 use mathlib.Core.Path.{◌≡◌}
-use Prim.Native.Nat.{◌-◌}
 use Rattle.rules.specs.Reading.{size_by_reading}
 use Rattle.rules.specs.State.{tree_of}
 use Rattle.tables.specs.Packed.{unpack}

@@ -1,9 +1,7 @@
 -- `maps::resolving::resolve_pages` meets its contract: it calls itself on the parent set, and the level falls. Assumes nothing.
 use mathlib.Core.Path.{ap, refl, ◌∙◌}
-use Prim.Native.Nat.{ℕ, ◌<◌}
 use native.Mathlib.Omega.{arith}
 use lib.ListN.{length}
-use borrow.Author.Rules.{rules}
 use Rattle.tables.proofs.KeptEntries.{holes_length}
 use Rattle.maps.proofs.ManyPages.{all_mapped, few_looks, resolved_above, resolved_here, resolved_low}
 use Rattle.maps.proofs.resolving.+resolve_pages.Goals as goal

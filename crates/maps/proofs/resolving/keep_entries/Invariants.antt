@@ -1,5 +1,5 @@
 -- `maps::resolving::keep_entries` meets its contract. The loop's invariant: the entries of the pages that are no longer left are kept. Assumes nothing.
-use Prim.Native.Nat.{◌-◌, ◌<◌, ◌^◌}
+use Prim.Native.Nat.{◌<◌, ◌^◌}
 use Rattle.tables.specs.Packed.{unpack}
 use Rattle.maps.proofs.ManyPages.{KeptSoFar}
 use Rattle.maps.proofs.resolving.keep_entries.Given as goal

@@ -1,6 +1,5 @@
 -- `packing::bitmap::count_set` meets its contract. The loop's invariant: n counts the set bits of the first i words. Assumes nothing.
 use mathlib.Core.Path.{◌≡◌}
-use Prim.Native.Nat.{◌-◌}
 use native.Mathlib.Omega.{arith}
 use lib.Count.{ones-le}
 use Rattle.base.specs.Count.{count}

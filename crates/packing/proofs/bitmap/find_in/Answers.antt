@@ -1,6 +1,6 @@
 -- `packing::bitmap::find_in` meets its contract. The loop's invariant: every bit from lo on and below b is set. Assumes nothing.
 use mathlib.Core.Path.{ap, ◌∙◌}
-use Prim.Native.Nat.{ℕ, ◌-◌, ◌%◌}
+use Prim.Native.Nat.{ℕ, ◌%◌}
 use native.Mathlib.Omega.{arith}
 use Rattle.packing.specs.FirstFree.{scanned}
 use Rattle.packing.proofs.bitmap.Turns.{Turn, hit, past, next, done}

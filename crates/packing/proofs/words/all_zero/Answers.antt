@@ -1,6 +1,5 @@
 -- `packing::words::all_zero` meets its contract. The loop's invariant: x is zero exactly where the first i bytes are. Assumes nothing.
 use mathlib.Core.Path.{◌≡◌}
-use Prim.Native.Nat.{◌-◌}
 use native.Mathlib.Omega.{arith}
 use Rattle.packing.specs.Zeros.{zero_more, zero_none}
 use Rattle.packing.proofs.words.all_zero.Goals as goal

@@ -1,5 +1,4 @@
 -- `panel::registers::reset_all` meets its contract. The loop's invariant: the registers below `i` have their reset values. Assumes nothing.
-use Prim.Native.Nat.{◌-◌}
 use native.Mathlib.Omega.{arith}
 use lib.ListN.{length-set}
 use borrow.Author.Rules.{rules}

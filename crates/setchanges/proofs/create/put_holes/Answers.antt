@@ -1,6 +1,5 @@
 -- `setchanges::create::put_holes` meets its contract. The loop's invariant: the first p entries are holes. Assumes nothing.
 use mathlib.Core.Path.{refl, sym, ◌∙◌}
-use Prim.Native.Nat.{◌-◌}
 use native.Mathlib.Omega.{arith}
 use Rattle.tables.specs.Meaning.{entry_meant}
 use Rattle.setchanges.proofs.Holes.{holes_start, holes_turn, holes_end}

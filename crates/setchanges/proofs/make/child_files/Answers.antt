@@ -1,6 +1,5 @@
 -- `setchanges::make::child_files` meets its contract. The loop's invariant: the first f files are done. Assumes nothing.
 use mathlib.Core.Path.{sym, ◌∙◌}
-use Prim.Native.Nat.{◌-◌}
 use native.Mathlib.Omega.{arith}
 use Rattle.setchanges.proofs.ChildFiles.{child_start, child_turn, child_end}
 use Rattle.setchanges.proofs.make.child_files.Goals as goal

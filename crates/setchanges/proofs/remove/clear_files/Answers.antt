@@ -1,6 +1,5 @@
 -- `setchanges::remove::clear_files` meets its contract. The loop's invariant: the first f files are erased, their blocks free. Assumes nothing.
 use mathlib.Core.Path.{sym, ◌∙◌}
-use Prim.Native.Nat.{◌-◌}
 use native.Mathlib.Omega.{arith}
 use Rattle.setchanges.proofs.Clearing.{cleared_start, cleared_blocks, cleared_turn, cleared_end}
 use Rattle.setchanges.proofs.remove.clear_files.Goals as goal

@@ -1,6 +1,5 @@
 -- `setchanges::remove::free_map` meets its contract. The loop's invariant: the blocks of the first p entries are free. Assumes nothing.
 use mathlib.Core.Path.{refl, sym, ◌∙◌}
-use Prim.Native.Nat.{◌-◌}
 use native.Mathlib.Omega.{arith}
 use Rattle.setchanges.proofs.Freeing.{freed_blank, freed_block, freed_end, freed_start, freed_turn}
 use Rattle.setchanges.proofs.remove.free_map.Goals as goal

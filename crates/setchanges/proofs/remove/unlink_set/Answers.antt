@@ -1,6 +1,5 @@
 -- `setchanges::remove::unlink_set` meets its contract. The loop's invariant: the links of the first x sets are past set c. Assumes nothing.
 use mathlib.Core.Path.{sym, ◌∙◌}
-use Prim.Native.Nat.{◌-◌}
 use native.Mathlib.Omega.{arith}
 use borrow.Author.Rules.{rules}
 use Rattle.setchanges.proofs.Unlinking.{past_start, past_turn, past_end}

@@ -1,5 +1,4 @@
 -- `setcheck::records::records_alone` meets its contract. Assumes nothing.
-use Prim.Native.Nat.{◌-◌}
 use native.Mathlib.Omega.{arith}
 use Rattle.setcheck.proofs.Zeros.{zeros_start, zeros_field, zeros_unused, zeros_next, zeros_all}
 use Rattle.setcheck.proofs.records.records_alone.Goals as goal

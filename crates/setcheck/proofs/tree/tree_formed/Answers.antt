@@ -1,8 +1,6 @@
 -- `setcheck::tree::tree_formed` meets its contract. Assumes nothing.
-use Prim.Native.Nat.{◌-◌}
 use native.Mathlib.Omega.{arith}
 use Rattle.base.specs.Count.{all_none}
-use Rattle.setcheck.specs.Records.{set_in_tree}
 use Rattle.setcheck.proofs.Places.{tree_root, tree_set, tree_all, tree_next}
 use Rattle.setcheck.proofs.tree.tree_formed.Goals as goal
 
