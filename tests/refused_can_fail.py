@@ -23,10 +23,20 @@ pub fn give(x: usize) -> usize
 """,
     "crates/tiny/specs/Lib.antt": "pub mod Tiny\n",
     "crates/tiny/specs/Tiny.antt": """\
-use Rattle.std.specs.Prelude.{ℕ}
+use Rattle.std.specs.Prelude.{ℕ, ◌+◌, ◌≡◌, refl}
 
 unfoldable pub given : ℕ → ℕ
 given x = x
+
+-- a sum, and two laws of it
+abbrev pub twice : ℕ → ℕ
+twice x = x + x
+
+pub twice_is : (x : ℕ) → twice x ≡ x + x
+twice_is x = refl
+
+pub twice_again : (x : ℕ) → twice x ≡ x + x
+twice_again x = twice_is x
 """,
     "crates/tiny/proofs/Lib.antt": "pub mod Same\n",
     "crates/tiny/proofs/Same.antt": """\
@@ -50,12 +60,15 @@ GOOD = (
     ("another_number", "file: src/lib.rt\nold:     x\nnew:     7\n", "refused, first at proofs/give/Answers.antt:5:13"),
     ("another_definition", "file: specs/Tiny.antt\nold: given x = x\nnew: given x = 7\n", "refused, first at proofs/Same.antt:6:10"),
 )
+# in refused/ it counts, while rt calls it bad
+FALLS = (("a_law_falls", "file: specs/Tiny.antt\nold: twice x = x + x\nnew: twice x = 7\n", "refused, the law twice_is of specs/ does not hold"),)
 BAD = (
     ("comment", "file: src/lib.rt\nold: given back\nnew: handed back\n", "NOT REFUSED"),
     ("no_program", "file: src/lib.rt\nold:     x\nnew:     true\n", "BAD EDIT: it did not reach the prover"),
     ("renamed", "file: proofs/Same.antt\nold: pub same\nnew: pub equal\nold: same x =\nnew: equal x =\n", "SHOWS NOTHING: refused (only because a proof file names"),
     ("no_text", "file: proofs/Same.antt\nold: same x = refl\nnew: same x = (refl\n", "BAD EDIT: the prover cannot read the edited text"),
     ("no_type", "file: specs/Tiny.antt\nold: given x = x\nnew: given x = λ y. y\n", "SHOWS NOTHING: the first error refuses no fact"),
+    ("falls_by_type", "file: specs/Tiny.antt\nold: twice x = x + x\nnew: twice x = twice\n", "BAD EDIT: the prover cannot read the edited text"),
 )
 UNFIT = (
     ("not_there", "file: src/lib.rt\nold: nothing of the kind\nnew: 7\n", "BAD EDIT: its old text does not stand just once"),
@@ -100,20 +113,21 @@ class Room:
 
 def main():
     with tempfile.TemporaryDirectory(prefix="refused-can-fail-") as folder:
-        room, every = Room(folder), (*GOOD, *BAD, *UNFIT)
+        good = (*GOOD, *FALLS)
+        room, every = Room(folder), (*good, *BAD, *UNFIT)
         room.edits(every)
-        room.expect("--fits", room.run("--fits"), 1, f"refused: {len(GOOD + BAD)} edits fit, {len(UNFIT)} do not", UNFIT)
-        last = f"tests/refused: {len(GOOD)} edits refused, {len(BAD + UNFIT)} not"
+        room.expect("--fits", room.run("--fits"), 1, f"refused: {len(good + BAD)} edits fit, {len(UNFIT)} do not", UNFIT)
+        last = f"tests/refused: {len(good)} edits refused, {len(BAD + UNFIT)} not"
         room.expect("over what rt check kept", room.run("tiny"), 1, last, every)
         room.expect("by rt ci", room.run("--ci"), 1, last, every)
         # without those that show nothing it passes, also by the clock; with no time nothing is tried
         room.remove((*BAD, *UNFIT))
-        last = f"tests/refused: {len(GOOD)} edits refused, 0 not"
-        room.expect("the good ones", room.run(), 0, last, GOOD)
-        room.expect("the good ones by the clock", room.run("--ci", "--seconds", "600", "--seed", "1"), 0, last, GOOD)
-        room.expect("no time", room.run("--ci", "--seconds", "0"), 0, f"tests/refused: 0 edits refused, 0 not, {len(GOOD)} left for other runs")
+        last = f"tests/refused: {len(good)} edits refused, 0 not"
+        room.expect("the good ones", room.run(), 0, last, good)
+        room.expect("the good ones by the clock", room.run("--ci", "--seconds", "600", "--seed", "1"), 0, last, good)
+        room.expect("no time", room.run("--ci", "--seconds", "0"), 0, f"tests/refused: 0 edits refused, 0 not, {len(good)} left for other runs")
         # what rt ci prints of must-fail/ is looked at in the same way
-        room.remove(GOOD)
+        room.remove(good)
         room.edits((*GOOD, *BAD), "must-fail")
         room.write("ci.log", subprocess.run(["rt", "ci"], cwd=folder, stdout=subprocess.PIPE, stderr=subprocess.STDOUT, encoding="utf-8").stdout)
         room.expect("--look", room.run("--look", f"{folder}/ci.log"), 1, f"tests/refused --look: {len(GOOD)} edits of must-fail/ refused by a fact, {len(BAD)} not", BAD)
