@@ -1,7 +1,7 @@
 -- Fields of any widths in one word, the most significant first. `join ws vs` is the word whose fields have the widths ws and hold vs;
 -- `split ws x` is what the fields of the word x hold. Assumes nothing.
-use Rattle.std.specs.Prelude.{◌≡◌, refl, List, [], ◌∷◌, ◌≢◌, ℕ, zero, suc, ◌+◌, ◌*◌, ◌/◌, ◌%◌, ◌^◌, ◌<◌, length, get_or, set}
-use Rattle.std.proofs.Common.{ap, ap₂, ◌∙◌, mod-lt, arith, pow_pos, pow-add, shr_lt, get_or-set_same, get_or-set_other}
+use Rattle.std.specs.Prelude.{◌≡◌, refl, List, [], ◌∷◌, ℕ, zero, suc, ◌+◌, ◌*◌, ◌/◌, ◌%◌, ◌^◌, ◌<◌, length, get_or, set}
+use Rattle.std.proofs.Common.{ap, ap₂, ◌∙◌, mod-lt, arith, pow_pos, pow-add, shr_lt}
 use Rattle.std.proofs.Math.Arith.{digits_lt}
 use Rattle.std.proofs.Math.Pow.{high, low}
 use Rattle.std.proofs.Math.Pow
@@ -67,12 +67,3 @@ fit_set [] (x ∷ vs) i v f h = absurd f
 fit_set (w ∷ ws) [] i v f h = absurd f
 fit_set (w ∷ ws) (x ∷ vs) zero v f h = (h, f.1)
 fit_set (w ∷ ws) (x ∷ vs) (suc i) v f h = (f.0, fit_set ws vs i v f.1 h)
-
-pub split_put : (ws : List ℕ) (x i v : ℕ) → x < 2 ^ total ws → v < 2 ^ get_or ws i 0 → split ws (put_field ws x i v) ≡ set (split ws x) i v
-split_put ws x i v hx hv = split_join ws (set (split ws x) i v) (fit_set ws (split ws x) i v (split_fit ws x hx) hv)
-
-pub field_same : (ws : List ℕ) (x i v : ℕ) → x < 2 ^ total ws → v < 2 ^ get_or ws i 0 → i < length ws → get_field ws (put_field ws x i v) i ≡ v
-field_same ws x i v hx hv hi = rw (split_put ws x i v hx hv) (get_or-set_same (split ws x) i v 0 (rw length_split hi))
-
-pub field_other : (ws : List ℕ) (x i j v : ℕ) → x < 2 ^ total ws → v < 2 ^ get_or ws i 0 → j ≢ i → get_field ws (put_field ws x i v) j ≡ get_field ws x j
-field_other ws x i j v hx hv hj = rw (split_put ws x i v hx hv) (get_or-set_other (split ws x) i j v 0 hj)

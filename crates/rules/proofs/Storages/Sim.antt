@@ -191,7 +191,7 @@ module _ {S S' : Storage} {T : Translation S S'} {D : Demands S} {t : Tree} {s :
     rel_supply must hole c p n k e = rel_hole c p n
     rel_supply must (stored b) c p n k e =
         test? (eqb (S.free w.memory) 0)
-        (λ z. rw (rel_free, z, supply) (full must))
+        (λ z. rw (rel_free, z, supply) (search (full must)))
         (λ z. rw (rel_free, z, supply) (rel_copy b c p (positive (S.free w.memory) z) n k e))
       where
         full : (must : Bool) → Rel T D (cond must (mark S t c w) w) (cond must (mark S' t c v) v)
