@@ -72,7 +72,7 @@ module _ (S : Storage) (t : Tree) (s : ℕ) where
   bare_supply must hole p c w b a = bare_entry s w.files b c p hole (λ n. a)
   bare_supply must (stored k) p c w b a =
       test? {P = BareW (supply S t must (stored k) c p w)} (eqb (S.free w.memory) 0)
-      (λ z. rw (z, supply) (full must))
+      (λ z. rw (z, supply) (search (full must)))
       (λ z. rw (z, supply) (bare_entry s w.files b c p _ (λ n. a)))
     where
       full : (must : Bool) → BareW (cond must (mark S t c w) w)

@@ -190,7 +190,7 @@ module _ (S : Storage) (t : Tree) (s : ℕ) where
   fit_supply must hole p c w l f a n = fit_put t s w.files f c p hole l (live_present (w.files c).state a) refl
   fit_supply must (stored b) p c w l f a n =
       test? {P = FitW (supply S t must (stored b) c p w)} (eqb (S.free w.memory) 0)
-      (λ z. rw (z, supply) (full must))
+      (λ z. rw (z, supply) (search (full must)))
       (λ z. rw (z, supply) (fit_put t s w.files f c p _ l (live_present (w.files c).state a) refl))
     where
       full : (must : Bool) → FitW (cond must (mark S t c w) w)

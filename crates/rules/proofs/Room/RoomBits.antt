@@ -142,7 +142,7 @@ module _ (t : Tree) (s : ℕ) (old : ℕ → Bool) where
       go : (e : Entry ℕ) → New (supply real t must e c p w)
       go unmapped = h
       go hole = h
-      go (stored k) = test? (eqb (real.free w.memory) 0) (λ e. rw e (full must)) (λ e. rw e (let a = take_new w.memory in omega arith))
+      go (stored k) = test? (eqb (real.free w.memory) 0) (λ e. rw e (search (full must))) (λ e. rw e (let a = take_new w.memory in omega arith))
 
   new_enter : (lay : ℕ → PageData → PageData) (p : ℕ) (w : Work real) → New w → New (enter real t s lay p w)
   unfolding enter enter_as
@@ -227,7 +227,7 @@ module _ (t : Tree) (s x q b : ℕ) (other : s ≡ x → ⊥) where
       go : (w.files c).map p ≡ unmapped → (e : Entry ℕ) → Held (supply real t must e c p w)
       go u unmapped = h
       go u hole = held_put w.files c p hole u h
-      go u (stored k) = test? (eqb (real.free w.memory) 0) (λ e. rw e (full must)) (λ e. rw e (held_put w.files c p _ u h))
+      go u (stored k) = test? (eqb (real.free w.memory) 0) (λ e. rw e (search (full must))) (λ e. rw e (held_put w.files c p _ u h))
 
   held_enter : (lay : ℕ → PageData → PageData) (p : ℕ) (w : Work real) → Held w → Held (enter real t s lay p w)
   unfolding enter enter_as

@@ -49,7 +49,7 @@ module _ (S : Storage) (t : Tree) (s d x : ℕ) (apart : d ≡ x → ⊥) (misse
       go : (e : Entry S.Block) → (supply S t must e d p w).files x ≡ w.files x
       go unmapped = refl
       go hole = put_entry_other w.files d p hole x apart
-      go (stored b) = test? (eqb (S.free w.memory) 0) (λ z. rw z (full must)) (λ z. rw z (put_entry_other w.files d p _ x apart))
+      go (stored b) = test? (eqb (S.free w.memory) 0) (λ z. rw z (search (full must))) (λ z. rw z (put_entry_other w.files d p _ x apart))
 
 module _ (S : Storage) (t : Tree) (ok : TreeOk t) (s : ℕ) where
   -- a sibling, and the file of the set above

@@ -49,7 +49,7 @@ module _ (S : Storage) (t : Tree) (s : ℕ) where
       go false e = refl
       go true unmapped = refl
       go true hole = refl
-      go true (stored k) = go₂ (eqb (S.free w.memory) 0) must k
+      go true (stored k) = search (go₂ (eqb (S.free w.memory) 0) must k)
 
   pub some_pending : (must : Bool) (p : ℕ) (cs : List ℕ) (w : Work S) → (each (give S t must s p) cs w).pending ≡ w.pending
   some_pending must p cs w = each_inv (give S t must s p) (λ u. u.pending ≡ w.pending) cs (λ c u m j. give_one_pending must p c u ∙ j) w refl

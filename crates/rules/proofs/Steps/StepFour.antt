@@ -176,7 +176,7 @@ module _ (t : Tree) (ok : TreeOk t) (s : ℕ) where
     }
     supply_turn must (stored b) n r =
         test? {P = Turn must p c w (supply model t must (stored b) c p w)} (eqb w.memory 0)
-        (λ z. rw (z, supply) (full must))
+        (λ z. rw (z, supply) (search (full must)))
         (λ z. rw (z, supply) (record { served = fill_served t ok s w.files k c kid p (stored b) nv n r; done = λ _. fill_done t ok s w.files k c kid p (stored b) refl; pending = refl }))
       where
         full : (must : Bool) → Turn must p c w (cond must (mark model t c w) w)

@@ -125,20 +125,30 @@ module _ (t : Tree) (proper : ProperTree t) (shallow : (x : ℕ) → t.level x �
       (λ x n. test? (reaches t fs c x) (λ e. rw e (free_map_law (fs x) n)) (λ e. rw e (sym (add-zero n)))) set_count m
       ∙ ap (λ g. m + sum set_count (λ x. cond (g x) (stored_pages (fs x)) 0)) (fun_ext (λ x. sym (marked_reaches t proper.ok fs c x (shallow x))))
 
-  supply_page : (e : Kind) (c p : ℕ) (w : Work counting) → supply counting t true e c p w ≡ with_turn w (child_page t e p c (turn_of w))
-  unfolding supply child_page needed_copy mark copy put_entry tally_kind
-  supply_page unmapped c p w = refl
-  supply_page hole c p w = refl
-  supply_page (stored b) c p w =
-      test? (eqb w.memory 0)
-      (λ e. rw e (λ i. record {
+  -- with no block free, a needed copy marks
+  supply_marks : (b : counting.Block) (c p : ℕ) (w : Work counting) → eqb w.memory 0 ≡ true → supply counting t true (stored b) c p w ≡ mark counting t c w
+  unfolding supply
+  supply_marks b c p w e = rw e
+
+  mark_page : (b : counting.Block) (c p : ℕ) (w : Work counting) → eqb w.memory 0 ≡ true → mark counting t c w ≡ with_turn w (child_page t (stored b) p c (turn_of w))
+  unfolding child_page needed_copy mark tally_kind
+  mark_page b c p w e =
+      rw e (λ i. record {
         memory = (free_reached c w.files w.memory ∙ ap (λ n. n + mark_frees t w.files c) (eqb-true w.memory 0 e) ∙ zero-add _) i;
         files = sym (mark_down_law t proper.ok w.files shallow c) i;
         pending = w.pending;
         taken = w.taken;
         copies = w.copies;
         marks = w.marks + sym (mark_count t proper.ok w.files shallow c) i;
-      }))
+      })
+
+  supply_page : (e : Kind) (c p : ℕ) (w : Work counting) → supply counting t true e c p w ≡ with_turn w (child_page t e p c (turn_of w))
+  unfolding supply child_page needed_copy mark copy put_entry tally_kind
+  supply_page unmapped c p w = refl
+  supply_page hole c p w = refl
+  supply_page (stored b) c p w =
+      test? (eqb w.memory 0)
+      (λ e. supply_marks b c p w e ∙ mark_page b c p w e)
       (λ e. rw e (λ i. record {
         memory = w.memory - 1;
         files = put_entry w.files c p (stored tt);
