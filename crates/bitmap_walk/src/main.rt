@@ -2,10 +2,9 @@
 // write fails the walk goes on.
 #![tactic(auto)]
 
-ghost use Rattle.std.specs.Prelude.{◌<◌, ◌≤◌, length};
+ghost use Rattle.std.specs.Prelude.{IfSome, ◌<◌, ◌≤◌, length};
 
 use packing::bitmap;
-use packing::bitmap::Found;
 
 const AT: usize = 4;
 
@@ -35,26 +34,26 @@ fn take_all(rt: &impl Print, t: &mut [u8], first: usize)
 {
     let mut start = first;
     for _ in 0..=BLOCKS {
-        start = take(rt, t, start);
-        if start == BLOCKS {
+        let Some(b) = take(rt, t, start) else {
             return;
-        }
+        };
+        start = b;
     }
 }
 
-// Takes the first free block from start on. Answers it, or BLOCKS where there is none.
+// Takes the first free block from start on, and answers it.
 #[tactic(auto, using(packing::specs::FirstFree::found_free))]
-fn take(rt: &impl Print, t: &mut [u8], start: usize) -> usize
+fn take(rt: &impl Print, t: &mut [u8], start: usize) -> Option<usize>
     requires { (12 ≤ length t.old) × (start < 13) }
-    ensures { result ≤ 13 }
+    ensures { IfSome result (λ b. b < 13) }
 {
-    let Found::At(b) = bitmap::first_free(t, AT, start, BLOCKS) else {
+    let Some(b) = bitmap::first_free(t, AT, start, BLOCKS) else {
         let _ = println!(rt; "none");
-        return BLOCKS;
+        return None;
     };
     bitmap::set_bit(t, AT, b);
     print(rt, "found", b as u64);
-    b
+    Some(b)
 }
 
 fn print_count(rt: &impl Print, t: &[u8])

@@ -160,7 +160,7 @@ byte_first (suc m) x j h =
     (λ e. rw (q, eq-eqb j (suc m) e, lo, ne_eqb j 0 (omega arith)))
     (λ n. rw (q, ne_eqb j (suc m) n, hi) (byte_first m x j (omega arith)))
 
-some_bytes : (k : ℕ) → 0 < 256 ^ k
+pub some_bytes : (k : ℕ) → 0 < 256 ^ k
 some_bytes zero = omega arith
 some_bytes (suc k) = omega (arith, some_bytes k)
 

@@ -5,14 +5,7 @@ ghost use Rattle.base.specs.Search.{first_free};
 ghost use Rattle.packing.specs.Bitmap.{bit_at, set_bit, clear_bit};
 ghost use Rattle.packing.specs.FirstFree.{FoundIn, found_of, scanned};
 
-use crate::words::{low64, read64};
-
-// A bit that was found, or none.
-#[derive(Clone, Copy)]
-pub enum Found {
-    At(usize),
-    Nothing,
-}
+use crate::words;
 
 pub fn bit_at(t: &[u8], at: usize, b: usize) -> bool
     requires { at + b / 8 < length t.now }
@@ -26,7 +19,7 @@ pub fn set_bit(t: &mut [u8], at: usize, b: usize)
     ensures { t.new ≡ set_bit t.old at b }
 {
     let i = at + b / 8;
-    t[i] = t[i] | 1 << (7 - b % 8);
+    t[i] |= 1 << (7 - b % 8);
 }
 
 pub fn clear_bit(t: &mut [u8], at: usize, b: usize)
@@ -34,7 +27,7 @@ pub fn clear_bit(t: &mut [u8], at: usize, b: usize)
     ensures { t.new ≡ clear_bit t.old at b }
 {
     let i = at + b / 8;
-    t[i] = t[i] & !(1 << (7 - b % 8));
+    t[i] &= !(1 << (7 - b % 8));
 }
 
 // How many bits of the map's first words of 64 bits are set.
@@ -43,10 +36,8 @@ pub fn count_set(t: &[u8], at: usize, words: usize) -> u32
     ensures { result ≡ count (64 * words) (bit_at t.now at) }
 {
     let mut n: u32 = 0;
-    let mut i: usize = 0;
-    while i < words {
-        n += u64::count_ones(low64(t, at + i * 8));
-        i += 1;
+    for i in 0..words {
+        n += words::low::<8>(t, at + i * 8).count_ones();
     }
     n
 }
@@ -58,10 +49,8 @@ pub fn has_clear(t: &[u8], at: usize, words: usize, need: usize) -> bool
     ensures { result ≡ leb need (count (64 * words) (λ b. not (bit_at t.now at b))) }
 {
     let mut n: usize = 0;
-    let mut j: usize = 0;
-    while j < words {
-        n += (64 - u64::count_ones(low64(t, at + j * 8))) as usize;
-        j += 1;
+    for j in 0..words {
+        n += words::low::<8>(t, at + j * 8).count_zeros() as usize;
         if need <= n {
             return true;
         }
@@ -74,47 +63,40 @@ fn run(w: u64, s: usize) -> usize
     requires { s < 64 }
     ensures { (result ≡ scanned w s) × (result ≤ 64) }
 {
-    u64::leading_zeros(!w << s) as usize
+    (!w << s).leading_zeros() as usize
 }
 
-// The first clear bit of lo..hi, or hi where there is none.
-fn find_in(t: &[u8], at: usize, lo: usize, hi: usize) -> usize
+// The first clear bit of lo..hi.
+fn find_in(t: &[u8], at: usize, lo: usize, hi: usize) -> Option<usize>
     requires { (lo ≤ hi) × (hi ≤ 4096) × (at + (hi + 63) / 64 * 8 ≤ length t.now) }
     ensures { FoundIn (bit_at t.now at) lo hi result }
 {
     let mut b = lo;
+    // The step is what is left of the word, so no `for` counts it.
     while b < hi {
         let s = b % 64;
-        let w = read64(t, at + b / 64 * 8);
+        let w = words::read::<8>(t, at + b / 64 * 8);
         let z = run(w, s);
         if z + s < 64 {
             let r = b + z;
             if r < hi {
-                return r;
+                return Some(r);
             }
-            return hi;
+            return None;
         }
-        b = b + (64 - s);
+        b += 64 - s;
     }
-    hi
+    None
 }
 
 // The first clear bit below limit, from start on and then from 0. The bit at start is looked at alone first: it is mostly
 // clear, and its byte can be read at once after the last bit was set in it, where a word would have to wait.
-pub fn first_free(t: &[u8], at: usize, start: usize, limit: usize) -> Found
+pub fn first_free(t: &[u8], at: usize, start: usize, limit: usize) -> Option<usize>
     requires { (start < limit) × (limit ≤ 4096) × (at + (limit + 63) / 64 * 8 ≤ length t.now) }
     ensures { result ≡ found_of (first_free limit (bit_at t.now at) start) }
 {
     if !bit_at(t, at, start) {
-        return Found::At(start);
+        return Some(start);
     }
-    let a = find_in(t, at, start, limit);
-    if a < limit {
-        return Found::At(a);
-    }
-    let b = find_in(t, at, 0, start);
-    if b < start {
-        return Found::At(b);
-    }
-    Found::Nothing
+    find_in(t, at, start, limit).or_else(|| find_in(t, at, 0, start))
 }

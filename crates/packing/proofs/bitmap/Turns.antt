@@ -2,20 +2,21 @@
 use mathlib.Core.Path.{◌≡◌, refl, sym, ap, ◌∙◌}
 use mathlib.Core.Bool.{Bool, true, false, not}
 use mathlib.Core.List.{List}
+use Rattle.std.specs.Prelude.{Option, Some, None, MatchOption}
 use Prim.Native.Nat.{ℕ, zero, suc, ◌+◌, ◌-◌, ◌*◌, ◌/◌, ◌%◌, ◌^◌, ◌<◌, ◌≤◌}
 use native.Mathlib.Decide.{dec_lt}
 use native.Mathlib.Omega.{arith}
-use lib.Count.{ones}
+use lib.Count.{ones, ones_step}
+use native.Mathlib.Nat.{pow-suc}
 use lib.Dec.{leb}
 use lib.Pow.{shl_exact}
 use borrow.Author.Tests.{le-leb}
 use Rattle.base.specs.Count.{count, count_mono, count_not}
 use Rattle.base.specs.Search.{first_free, first_ahead, first_round, first_full}
-use Rattle.packing.specs.declared.bitmap.Found.TheVariants.{At, Nothing}
 use Rattle.packing.specs.Words.{get_word, low_word, get_lt, Bytes}
 use Rattle.packing.specs.Bits.{bit, bit_not, bit_mod, bit_shl, leading_clear, leading_set}
 use Rattle.packing.specs.Bitmap.{is_one, bit_at, word_bit, count_low}
-use Rattle.packing.specs.FirstFree.{found_of, FoundIn, scanned}
+use Rattle.packing.specs.FirstFree.{found_of, FoundIn, FirstIn, scanned}
 
 -- ---- one bit
 
@@ -31,6 +32,16 @@ counted t at i n w bs e h =
     let next : 8 * (i * 8) + 64 ≡ 64 * (i + 1) = omega arith in
     let word = count_low 7 t at (i * 8) bs in
     omega (arith, ap ones e, ap (λ k. count k (bit_at t at)) here, ap (λ k. count k (bit_at t at)) next)
+
+-- the zeros and the ones of a word
+pub zeros_ones : (k x : ℕ) → x < 2 ^ k → ones ((2 ^ k - 1) - x) + ones x ≡ k
+unfolding ones
+zeros_ones zero x h = let e : x ≡ 0 = omega arith in rw e
+zeros_ones (suc k) x h =
+    let y = (2 ^ suc k - 1) - x in
+    let p = pow-suc 2 k in
+    let q : y / 2 ≡ (2 ^ k - 1) - x / 2 = omega arith in
+    omega (arith, ones_step y, ones_step x, ap ones q, zeros_ones k (x / 2) (omega arith))
 
 -- ---- are enough bits clear: of the first 64 * i bits, n are
 
@@ -102,8 +113,8 @@ pub record Turn (t : List ℕ) (at lo b z : ℕ) : Type 0 where
   pub run : z ≡ scanned (get_word 7 t (at + b / 64 * 8)) (b % 64)
   pub before : UsedTo (bit_at t at) lo b
 
-pub done : (used : ℕ → Bool) (lo hi b : ℕ) → UsedTo used lo b → hi ≤ b → lo ≤ hi → FoundIn used lo hi hi
-done used lo hi b u h l = record { low = l; high = omega arith; passed = λ c a k. u.passed c a (omega arith); free = λ k. absurd (omega arith) }
+pub done : (used : ℕ → Bool) (lo hi b : ℕ) → UsedTo used lo b → hi ≤ b → FoundIn used lo hi None
+done used lo hi b u h c a k = u.passed c a (omega arith)
 
 -- the word has a clear bit at or after b: it is the answer, or it lies past hi; otherwise the search goes on at the next word
 module _ (t : List ℕ) (at lo hi b z : ℕ) (k : Turn t at lo b z) where
@@ -119,39 +130,40 @@ module _ (t : List ℕ) (at lo hi b z : ℕ) (k : Turn t at lo b z) where
           let q : b + (c - b) ≡ c = omega arith in
           rw q at (near.passed (c - b) (omega arith) (omega arith))
 
-  pub hit : z + b % 64 < 64 → b + z < hi → FoundIn (bit_at t at) lo hi (b + z)
+  pub hit : z + b % 64 < 64 → b + z < hi → FoundIn (bit_at t at) lo hi (Some (b + z))
   hit hz h =
       let u = more (b + z) (omega arith) (omega arith) (omega arith) in
-      record { low = u.from; high = omega arith; passed = u.passed; free = λ _. near.free hz }
+      record { low = u.from; high = h; passed = u.passed; free = near.free hz }
 
-  pub past : z + b % 64 < 64 → hi ≤ b + z → b < hi → FoundIn (bit_at t at) lo hi hi
-  past hz h hb =
-      let u = more hi (omega arith) (omega arith) (omega arith) in
-      record { low = u.from; high = omega arith; passed = u.passed; free = λ l. absurd (omega arith) }
+  pub past : z + b % 64 < 64 → hi ≤ b + z → b < hi → FoundIn (bit_at t at) lo hi None
+  past hz h hb = (more hi (omega arith) (omega arith) (omega arith)).passed
 
   pub next : 64 ≤ z + b % 64 → UsedTo (bit_at t at) lo (b + (64 - b % 64))
   next hz = more (b + (64 - b % 64)) (omega arith) (omega arith) (omega arith)
 
 -- ---- the two searches of one round
 
-module _ (used : ℕ → Bool) (start limit a : ℕ) (k : FoundIn used start limit a) where
-  pub ahead : a < limit → At a ≡ found_of (first_free limit used start)
-  ahead h = sym (ap found_of (first_ahead limit used start a k.low h k.passed (k.free h)))
+-- the first clear one is found ahead
+ahead : (used : ℕ → Bool) (start limit a : ℕ) → FirstIn used start limit a → Some a ≡ found_of (first_free limit used start)
+ahead used start limit a k = sym (ap found_of (first_ahead limit used start a k.low k.high k.passed k.free))
 
-  rest : limit ≤ a → (c : ℕ) → start ≤ c → c < limit → used c ≡ true
-  rest h c l m = k.passed c l (omega arith)
-
-  pub round : limit ≤ a → start < limit → (b : ℕ) → FoundIn used 0 start b → b < start → At b ≡ found_of (first_free limit used start)
-  round h s b j l = sym (ap found_of (first_round limit used start b s l (rest h) (λ c m. j.passed c (omega arith) m) (j.free l)))
-
-  pub full : limit ≤ a → start < limit → (b : ℕ) → FoundIn used 0 start b → start ≤ b → Nothing ≡ found_of (first_free limit used start)
-  full h s b j l = sym (ap found_of (first_full limit used start s (λ c m. go c m (dec_lt c start))))
+-- none is found ahead
+module _ (used : ℕ → Bool) (start limit : ℕ) (s : start < limit) (k : (c : ℕ) → start ≤ c → c < limit → used c ≡ true) where
+  round : (o : Option ℕ) → FoundIn used 0 start o → o ≡ found_of (first_free limit used start)
+  round (Some b) j = sym (ap found_of (first_round limit used start b s j.high k (λ c m. j.passed c (omega arith) m) j.free))
+  round None j = sym (ap found_of (first_full limit used start s (λ c m. go c m (dec_lt c start))))
     where
       go : (c : ℕ) → c < limit → Dec (c < start) → used c ≡ true
-      go c m (yes y) = j.passed c (omega arith) (omega arith)
-      go c m (no n) = rest h c (omega arith) m
+      go c m (yes y) = j c (omega arith) y
+      go c m (no n) = k c (omega arith) m
+
+-- the search from start on, and where it finds none, the one from 0
+pub searched : (used : ℕ → Bool) (start limit : ℕ) → start < limit → (o r : Option ℕ) → FoundIn used start limit o
+    → MatchOption o (FoundIn used 0 start r) (λ x. r ≡ Some x) → r ≡ found_of (first_free limit used start)
+searched used start limit s (Some a) r k e = e ∙ ahead used start limit a k
+searched used start limit s None r k j = round used start limit s k r j
 
 -- the bit at start is clear
-pub at_once : (used : ℕ → Bool) (start limit : ℕ) → start < limit → used start ≡ false → At start ≡ found_of (first_free limit used start)
+pub at_once : (used : ℕ → Bool) (start limit : ℕ) → start < limit → used start ≡ false → Some start ≡ found_of (first_free limit used start)
 at_once used start limit h e =
-    ahead used start limit start (record { low = omega arith; high = omega arith; passed = λ c l m. absurd (omega arith); free = λ _. e }) h
+    ahead used start limit start (record { low = omega arith; high = h; passed = λ c l m. absurd (omega arith); free = e })

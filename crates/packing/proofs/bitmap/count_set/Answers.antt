@@ -1,6 +1,5 @@
 -- `packing::bitmap::count_set` meets its contract. The loop's invariant: n counts the set bits of the first i words. Assumes nothing.
-use mathlib.Core.Path.{◌≡◌}
-use native.Mathlib.Omega.{arith}
+use Rattle.std.proofs.Common.{◌≡◌, arith}
 use lib.Count.{ones-le}
 use Rattle.base.specs.Count.{count}
 use Rattle.packing.proofs.bitmap.Turns.{counted}
@@ -11,17 +10,15 @@ unfolding count
 loop-i-init c = omega arith
 
 pub overflow_add-n : goal.overflow_add-n
-overflow_add-n c = omega (arith, ones-le 64 c.low64.result (omega arith))
+overflow_add-n c = omega (arith, ones-le 64 c.low.result (omega arith))
 
 pub loop-i-preserved : goal.loop-i-preserved
 loop-i-preserved c = (
-  omega arith,
-  omega (arith, ones-le 64 c.low64.result (omega arith)),
-  counted c.args.t.now c.args.at c.loop-i.i c.loop-i.n c.low64.result
-      (λ i. (c.type_inv.t i).fits) c.low64.ensures c.loop-i.invariant.2,
+  omega (arith, ones-le 64 c.low.result (omega arith)),
+  counted _ _ c.loop-i.i _ _ (λ i. (c.type_inv.t i).fits) c.low.ensures.0 c.loop-i.invariant.1,
 )
 
 pub returns : goal.returns
 returns c =
     let e : c.loop-i.i ≡ c.args.words = omega arith in
-    rw e at c.loop-i.invariant.2
+    rw e at c.loop-i.invariant.1

@@ -14,7 +14,7 @@ turn : (c : After-run-z) → let a = c.args in
     Turn a.t.now a.at a.lo c.loop-b.b c.run-z.result
 turn c = record {
   bytes = λ i. (c.type_inv.t i).fits;
-  run = c.run-z.ensures.0 ∙ ap (λ (w : ℕ). scanned w (c.loop-b.b % 64)) c.read64-w.ensures;
+  run = c.run-z.ensures.0 ∙ ap (λ (w : ℕ). scanned w (c.loop-b.b % 64)) c.read-w.ensures.0;
   before = c.loop-b.invariant;
 }
 
@@ -28,4 +28,4 @@ pub loop-b-preserved : goal.loop-b-preserved
 loop-b-preserved c = next _ _ _ 0 _ _ (turn (goal.at.loop-b-preserved c).After-run-z) c.if-z-s-lt64.false
 
 pub returns : goal.returns
-returns c = done _ _ _ _ c.loop-b.invariant c.loop-b-test.false (omega arith)
+returns c = done _ _ _ _ c.loop-b.invariant c.loop-b-test.false

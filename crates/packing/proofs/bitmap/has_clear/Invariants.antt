@@ -1,12 +1,8 @@
 -- `packing::bitmap::has_clear` meets its contract. The loop's invariant: of the bits of the first j words n are clear. Assumes nothing.
-use mathlib.Core.Path.{◌≡◌}
-use Prim.Native.Nat.{◌+◌, ◌≤◌, ◌*◌, ◌-◌}
+use Rattle.std.proofs.Common.{◌≡◌, ◌+◌, ◌*◌}
 use Rattle.base.specs.Count.{count}
 use Rattle.packing.specs.Bitmap.{bit_at}
 use Rattle.packing.proofs.bitmap.has_clear.Given as goal
 
 abbrev pub invariant-loop-j : goal.invariant-loop-j
-invariant-loop-j l = (l.j ≤ l.words) × (l.n + count (64 * l.j) (bit_at l.t l.at) ≡ 64 * l.j)
-
-abbrev pub decreases-loop-j : goal.decreases-loop-j
-decreases-loop-j l = l.words - l.j
+invariant-loop-j l = l.n + count (64 * l.j) (bit_at l.t l.at) ≡ 64 * l.j

@@ -1,0 +1,3 @@
+-- What the proofs of the words' functions use.
+mod Parts
+mod Widened

@@ -1,8 +1,0 @@
--- `packing::words::read16` meets its contract. Assumes nothing.
-use borrow.Author.Rules.{rules}
-use Rattle.packing.specs.Words.{get_word}
-use Rattle.packing.proofs.words.read16.Goals as goal
-
-pub returns : goal.returns
-unfolding get_word
-returns c = search rules
