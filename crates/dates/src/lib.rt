@@ -6,6 +6,14 @@ ghost use Rattle.std.specs.Prelude.{true, ◌≡◌, ◌<◌, min, ◌≤◌};
 ghost use Rattle.rules.specs.Terms.{count_fits, date_exists, day_or_last, days_in_month, first_year, is_leap_year, last_end, last_year, month_length, month_start, term_from};
 ghost use Rattle.dates.specs.Days.{term_meant};
 
+// A date as it is written: year, month, 1 for January, and day. Each is judged at full width, so that such a date need not exist.
+#[derive(Clone, Copy)]
+pub struct Date {
+    pub year: u32,
+    pub month: u32,
+    pub day: u32,
+}
+
 // The days of a term: its first day, and its end day, which it is without.
 #[derive(Clone, Copy)]
 pub struct Days {
@@ -22,61 +30,39 @@ fn is_leap(year: u32) -> bool
 }
 
 // The days of a month: 1 is January, 12 December.
+#[tactic(auto, unfolding(rules::specs::Terms::days_in_month))]
 fn days_in_month(year: u32, month: u32) -> u32
     requires { (first_year ≤ year) × (year ≤ last_year) }
     ensures { (result ≡ days_in_month year month) × (28 ≤ result) × (result ≤ 31) }
 {
-    if month == 2 {
-        if is_leap(year) {
-            return 29;
-        }
-        return 28;
+    match month {
+        2 if is_leap(year) => 29,
+        2 => 28,
+        4 | 6 | 9 | 11 => 30,
+        _ => 31,
     }
-    if month == 4 {
-        return 30;
-    }
-    if month == 6 {
-        return 30;
-    }
-    if month == 9 {
-        return 30;
-    }
-    if month == 11 {
-        return 30;
-    }
-    31
 }
 
-// "a date that does not exist or lies outside these years": such a date is none. Year, month and day are judged at full width.
-pub fn date_exists(year: u32, month: u32, day: u32) -> bool
-    ensures { result ≡ date_exists year month day }
+// "a date that does not exist or lies outside these years": such a date is none.
+#[tactic(auto, unfolding(rules::specs::Terms::date_exists))]
+pub fn date_exists(date: Date) -> bool
+    ensures { result ≡ date_exists date.year date.month date.day }
 {
-    if year < 1998 {
-        return false;
-    }
-    if 2097 < year {
-        return false;
-    }
-    if month < 1 {
-        return false;
-    }
-    if 12 < month {
-        return false;
-    }
-    if day < 1 {
-        return false;
-    }
-    day <= days_in_month(year, month)
+    let Date { year, month, day } = date;
+    1998 <= year
+        && year <= 2097
+        && 1 <= month
+        && month <= 12
+        && 1 <= day
+        && day <= days_in_month(year, month)
 }
 
 // "a count of months from 1 to 120"
+#[tactic(auto, unfolding(rules::specs::Terms::count_fits))]
 pub fn count_fits(months: u32) -> bool
     ensures { result ≡ count_fits months }
 {
-    if months < 1 {
-        return false;
-    }
-    months <= 120
+    1 <= months && months <= 120
 }
 
 // The days of month n.
@@ -102,16 +88,12 @@ fn month_start(n: u32) -> u32
 }
 
 // Day `day` of month n, "or that month's last day if it has no such day".
+#[tactic(auto, unfolding(rules::specs::Terms::day_or_last))]
 fn day_or_last(n: u32, day: u32) -> u32
     requires { (n < 1200) × (1 ≤ day) }
     ensures { (result ≡ day_or_last n day) × (result < 36525) }
 {
-    let start = month_start(n);
-    let last = month_length(n);
-    if last < day {
-        return start + (last - 1);
-    }
-    start + (day - 1)
+    month_start(n) + (day.min(month_length(n)) - 1)
 }
 
 // "the same day of the later month ..; a later end is cut to 36,525": every day from month 1,200 on is later, none before it.
@@ -126,13 +108,13 @@ fn end_in(n: u32, day: u32) -> u32
 }
 
 // "A term may be set from a date and a count of months": from the date's day to the same day of the month that many months later.
-pub fn term_from(year: u32, month: u32, day: u32, months: u32) -> Days
-    requires { (date_exists year month day ≡ true) × (count_fits months ≡ true) }
-    ensures { (term_meant result ≡ term_from year month day months) × (result.first_day < 65536) × (result.end_day < 65536) }
+pub fn term_from(date: Date, months: u32) -> Days
+    requires { (date_exists date.year date.month date.day ≡ true) × (count_fits months ≡ true) }
+    ensures { (term_meant result ≡ term_from date.year date.month date.day months) × (result.first_day < 65536) × (result.end_day < 65536) }
 {
-    let n = (year - 1998) * 12 + (month - 1);
-    let first = day_or_last(n, day);
-    let end = end_in(n + months, day);
+    let n = (date.year - 1998) * 12 + (date.month - 1);
+    let first = day_or_last(n, date.day);
+    let end = end_in(n + months, date.day);
     Days {
         first_day: first as usize,
         end_day: end as usize,

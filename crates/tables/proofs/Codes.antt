@@ -2,7 +2,7 @@
 -- and the places are the layout's. Assumes nothing.
 use mathlib.Core.Bool.{false}
 use mathlib.Core.List.{List}
-use mathlib.Core.Path.{ap, ap₂, sym, ◌∙◌, ◌≡◌}
+use mathlib.Core.Path.{ap, ap₂, refl, sym, ◌∙◌, ◌≡◌}
 use Prim.Native.Nat.{◌%◌, ◌*◌, ◌+◌, ◌-◌, ◌/◌, ◌<◌, suc, ℕ, ◌≤◌}
 use native.Mathlib.Omega.{arith}
 use lib.Dec.{eqb}
@@ -10,10 +10,10 @@ use lib.ListN.{get_or, set}
 use lib.Seq.{set-get_or}
 use borrow.Author.Tests.{le-ltb}
 use Rattle.packing.specs.Bitmap.{is_one_law, is_one}
-use Rattle.packing.specs.Words.{Bytes, get_word, put_word}
+use Rattle.packing.specs.Words.{Bytes, get_lt, get_word, put_word}
 use Rattle.rules.specs.State.{SetRecord, State, file_count, hole, marked, page_count, set_count, stored, unmapped}
 use Rattle.tables.proofs.ReadParts.{read_blocks_law, read_map, read_next_law, read_set_law, read_size_law, read_state_law}
-use Rattle.tables.specs.Layout.{entry_word, file_at, header_at, read_blocks, read_entry, read_next, read_set, read_size, read_state, read_term, set_at, state_number, state_of, term_at, write_entry, write_head, write_header}
+use Rattle.tables.specs.Layout.{entry_word, file_at, header_at, read_blocks, read_entry, read_next, read_set, read_size, read_state, read_term, set_at, set_word, state_number, state_of, term_at, term_word, write_head, write_header}
 use Rattle.tables.specs.Packed.{entry_formed, unpack}
 
 -- ---- an entry
@@ -36,10 +36,6 @@ word_stored w l =
 -- kind 3 is not formed
 pub formed_three : (t : List ℕ) (w : ℕ) → 49152 ≤ w → entry_formed t w ≡ false
 formed_three t w l = rw (le-ltb (w / 16384) 3 (omega arith))
-
-pub stored_word : (b : ℕ) → 32768 + b ≡ write_entry (stored b)
-unfolding write_entry
-stored_word b = omega arith
 
 -- LAW: the entry that the code reads
 pub entry_read : (t : List ℕ) (f s p w : ℕ) → f < file_count → s < set_count → p < page_count → w ≡ entry_word t f s p
@@ -122,6 +118,10 @@ module _ (w v : ℕ) where
 -- LAW: the set record that the code reads
 pub set_read : (t : List ℕ) (s w v : ℕ) → s < set_count → (w ≡ get_word 2 t (set_at s)) × (w < 16777216) → v ≡ get_word 3 t (term_at s) → set_fields w v ≡ (unpack t).sets s
 set_read t s w v hs h k = set_fields_law w v h.1 ∙ ap₂ read_set h.0 k ∙ sym (read_set_law t s hs)
+
+-- LAW: the fields of a set record, of its two words
+pub set_fields_are : (t : List ℕ) (s : ℕ) → Bytes t → s < set_count → set_fields (set_word t s) (term_word t s) ≡ (unpack t).sets s
+set_fields_are t s bs hs = set_read t s _ _ hs (refl, get_lt 2 t (set_at s) bs) refl
 
 -- ---- the header
 

@@ -5,6 +5,7 @@ use mathlib.Core.Option.{none, some}
 use mathlib.Core.Path.{ap, refl, sym, ◌∙◌, ◌≡◌}
 use Prim.Native.Nat.{◌%◌, ◌+◌, ◌<◌, ℕ, ◌≤◌}
 use native.Mathlib.Omega.{arith}
+use Rattle.std.specs.Prelude.{None, Option, Some}
 use lib.Dec.{leb}
 use borrow.Author.Tests.{le-leb, leb-false, leb-true, lt-leb}
 use Rattle.base.specs.Count.{count, count_cut, count_not, count_same}
@@ -12,8 +13,6 @@ use Rattle.base.specs.Logic.{test?}
 use Rattle.base.specs.Search.{first_found, first_same, first_says, first_free, Free}
 use Rattle.packing.specs.Bitmap.{bit_at, set_bit}
 use Rattle.packing.specs.FirstFree.{found_at, found_none, found_of}
-use Rattle.packing.specs.declared.bitmap.Found.{Found}
-use Rattle.packing.specs.declared.bitmap.Found.TheVariants.{At, Nothing}
 use Rattle.rules.specs.State.{largest_blocks}
 use Rattle.tables.proofs.ReadParts.{read_bit}
 use Rattle.tables.proofs.Written.{bit_set}
@@ -36,9 +35,6 @@ leb_more : (a x d a' x' : ℕ) → a' ≡ a + d → x' ≡ x + d → leb a' x' �
 leb_more a x d a' x' ea ex =
     test? (leb a x) (λ e. le-leb a' x' (omega (arith, leb-true a x e)) ∙ sym e) (λ e. lt-leb a' x' (omega (arith, leb-false a x e)) ∙ sym e)
 
-pub none_needed : (need x : ℕ) → need ≡ 0 → true ≡ leb need x
-none_needed need x e = sym (le-leb need x (omega arith))
-
 -- LAW: the clear bits of the map's first n blocks are enough for the need and for those from B on exactly where the free blocks are enough for the need
 pub enough_free : (t : List ℕ) (n d need : ℕ) → n ≡ (unpack t).blocks + d → n ≤ largest_blocks → ((b : ℕ) → (unpack t).blocks ≤ b → (unpack t).bits b ≡ false)
     → leb (need + d) (count n (λ b. not (bit_at t bitmap_at b))) ≡ leb need (count (unpack t).blocks (λ b. not ((unpack t).bits b)))
@@ -46,7 +42,7 @@ enough_free t n d need e most out =
     leb_more need _ d _ _ refl (omega (arith, count_not n (bit_at t bitmap_at), free_count t n (omega arith) most out))
 
 -- the block that the code finds, in the words of the state
-module _ (t : List ℕ) (limit start : ℕ) (r : Found) (h : HeaderIn (unpack t)) (el : limit ≡ (unpack t).blocks) (es : start ≡ (unpack t).next)
+module _ (t : List ℕ) (limit start : ℕ) (r : Option ℕ) (h : HeaderIn (unpack t)) (el : limit ≡ (unpack t).blocks) (es : start ≡ (unpack t).next)
     (found : r ≡ found_of (first_free limit (bit_at t bitmap_at) start)) where
   same_answer : r ≡ found_of (first_free (unpack t).blocks (unpack t).bits (unpack t).next)
   same_answer =
@@ -55,11 +51,11 @@ module _ (t : List ℕ) (limit start : ℕ) (r : Found) (h : HeaderIn (unpack t)
       (λ b l. sym (read_bit t b (omega (arith, h.most)))))
 
   -- LAW: a block that the code finds is the first free one of the state
-  pub found_first : (b : ℕ) → r ≡ At b → first_free (unpack t).blocks (unpack t).bits (unpack t).next ≡ some b
+  pub found_first : (b : ℕ) → r ≡ Some b → first_free (unpack t).blocks (unpack t).bits (unpack t).next ≡ some b
   found_first b e = found_at _ b (sym same_answer ∙ e)
 
   -- LAW: where a block is free, one is found
-  pub found_some : 0 < count (unpack t).blocks (λ b. not ((unpack t).bits b)) → r ≡ Nothing → ⊥
+  pub found_some : 0 < count (unpack t).blocks (λ b. not ((unpack t).bits b)) → r ≡ None → ⊥
   found_some some_free e =
       let q = found_none _ (sym same_answer ∙ e) in
       let x = first_found (unpack t).blocks (unpack t).bits (unpack t).next h.next_in some_free in

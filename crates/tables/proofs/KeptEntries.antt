@@ -3,7 +3,7 @@ use mathlib.Core.List.{List}
 use mathlib.Core.Path.{ap, fun_ext, subst, sym, ◌∙◌, ◌≡◌}
 use Prim.Native.Nat.{◌<◌, ℕ}
 use native.Mathlib.Omega.{arith}
-use lib.ListN.{get_or, get_or-replicate, length, length-replicate, set}
+use lib.ListN.{get_or, get_or-replicate, length, set}
 use lib.Seq.{get_or-set_other, get_or-set_same, set-get_or}
 use Rattle.base.specs.Logic.{same?}
 use Rattle.base.specs.Update.{upd, upd_other, upd_same}
@@ -30,7 +30,3 @@ entries_at l p d h = ap kept_meant (sym (get_or-set_same l p (get_or l p d) (rec
 pub all_holes_law : (p : ℕ) → p < 64 → entries_of all_holes p ≡ hole
 unfolding entries_of all_holes kept_meant
 all_holes_law p h = ap kept_meant (get_or-replicate 64 p (record { 0 = 16384 }) (record { 0 = 0 }) h) ∙ word_hole 16384 (omega arith) (omega arith)
-
-pub holes_length : length all_holes ≡ 64
-unfolding all_holes
-holes_length = length-replicate {A = Kept} 64 (record { 0 = 16384 })

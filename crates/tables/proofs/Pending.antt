@@ -6,19 +6,16 @@ use native.Mathlib.Omega.{arith}
 use lib.Dec.{ltb}
 use lib.ListN.{get_or, get_or-replicate, length, length-replicate, get_or-eq_default, replicate, set}
 use lib.Seq.{get_or-set_other, get_or-set_same, set-get_or}
-use borrow.Author.Tests.{le-ltb, lt-ltb, ltb-false, ltb-true}
+use borrow.Author.Tests.{le-ltb, ltb-false, ltb-true}
 use Rattle.base.specs.Logic.{same?, test?}
 use Rattle.base.specs.Update.{upd, upd_other, upd_same}
-use Rattle.rules.specs.State.{Entry, stored, unmapped}
+use Rattle.rules.specs.State.{Entry, unmapped}
 use Rattle.tables.specs.Meaning.{pending_in, pending_meant}
 use Rattle.tables.specs.Views.{none_pending, pending_of}
 use Rattle.tables.specs.declared.entries.Pending.{Pending}
 
 -- a number below 16,384 is a block, any other is none
-pub pending_stored : (n : ℕ) → n < 16384 → pending_in n ≡ stored n
-pending_stored n h = rw (lt-ltb n 16384 h)
-
-pub pending_none : (n : ℕ) → 16384 ≤ n → pending_in n ≡ unmapped
+pending_none : (n : ℕ) → 16384 ≤ n → pending_in n ≡ unmapped
 pending_none n h = rw (le-ltb n 16384 h)
 
 -- LAW: the block pending for a page, of any element that the code reads

@@ -9,6 +9,7 @@ use Rattle.tables.specs.declared.entries.Pending.{Pending}
 use Rattle.tables.specs.declared.files.State.{State as CodeState}
 use Rattle.tables.specs.declared.files.State.TheVariants.{Absent, Own, Virgin, Marked}
 use Rattle.tables.specs.declared.sets.SetRecord.{SetRecord}
+use Rattle.dates.specs.Days.{term_meant}
 use Rattle.tables.specs.Layout.{read_entry}
 
 unfoldable pub entry_meant : Entry → State.Entry ℕ
@@ -34,4 +35,4 @@ state_meant Virgin = virgin
 state_meant Marked = marked
 
 abbrev pub set_meant : SetRecord → State.SetRecord
-set_meant r = record { used = r.used; writeable = r.writeable; level = r.level; parent = r.parent; first_child = r.first_child; next_sibling = r.next_sibling; term = record { first_day = r.first_day; end_day = r.end_day } }
+set_meant r = record { used = r.used; writeable = r.writeable; level = r.level; parent = r.parent; first_child = r.first_child; next_sibling = r.next_sibling; term = term_meant r.term }

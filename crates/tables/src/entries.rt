@@ -11,7 +11,6 @@ ghost use Rattle.tables.specs.Meaning.{entry_meant, kept_meant, pending_meant};
 
 use crate::header;
 use crate::places::{BITMAP_AT, FILE_BYTES, MAPS_AT};
-use packing::bitmap::Found;
 use packing::{bitmap, words};
 
 // A file page number.
@@ -31,10 +30,12 @@ pub enum Entry {
 }
 
 // The entry of a page as a map has it, kept undecoded: a hole, or made by a lookup in a map.
+// Two bytes a page: [Entry; 64] would take 256 bytes of stack in place of 128.
 #[derive(Clone, Copy)]
 pub struct Kept(u16);
 
 // The block that is pending for a page, or none: made of a block. A number from 16,384 on means none.
+// Two bytes a page: [Option<Block>; 64] would take 256 bytes of stack in place of 128.
 #[derive(Clone, Copy)]
 pub struct Pending(u16);
 
@@ -60,18 +61,8 @@ impl Block {
     }
 }
 
-fn decode(w: u16) -> Entry
-    ensures { entry_meant result ≡ read_entry w }
-{
-    if w < 16384 {
-        return Entry::Unmapped;
-    }
-    if w < 32768 {
-        return Entry::Hole;
-    }
-    Entry::Stored(Block(w % 16384))
-}
-
+// Not `From`: it asks that the block fits.
+#[tactic(auto, unfolding(crate::specs::Meaning::entry_meant, crate::specs::Layout::write_entry))]
 fn encode(e: Entry) -> u16
     requires { block_fits (entry_meant e) }
     ensures { result ≡ write_entry (entry_meant e) }
@@ -87,7 +78,7 @@ pub fn entry_at(t: &[u8], f: usize, s: usize, page: Page) -> Entry
     requires { (length t.now ≡ table_bytes) × (f < 16) × (s < 8) × (page.0 < 64) }
     ensures { entry_meant result ≡ ((unpack t.now).files f s).map page.0 }
 {
-    decode(words::read16(t, MAPS_AT + (s * 16 + f) * FILE_BYTES + page.0 * 2))
+    Kept::at(t, f, s, page).entry()
 }
 
 pub fn put_entry(t: &mut [u8], f: usize, s: usize, page: Page, e: Entry)
@@ -95,27 +86,25 @@ pub fn put_entry(t: &mut [u8], f: usize, s: usize, page: Page, e: Entry)
     ensures { Turns t.old t.new (put_entry_in f s page.0 (entry_meant e)) }
 {
     let w = encode(e);
-    words::write16(t, MAPS_AT + (s * 16 + f) * FILE_BYTES + page.0 * 2, w);
+    words::write::<2>(
+        t,
+        MAPS_AT + (s * 16 + f) * FILE_BYTES + page.0 * 2,
+        u64::from(w),
+    );
 }
 
+#[tactic(auto, unfolding(crate::specs::Meaning::entry_meant))]
 pub fn is_unmapped(e: Entry) -> bool
     ensures { result ≡ is_unmapped (entry_meant e) }
 {
-    match e {
-        Entry::Unmapped => true,
-        Entry::Hole => false,
-        Entry::Stored(b) => false,
-    }
+    matches!(e, Entry::Unmapped)
 }
 
+#[tactic(auto, unfolding(crate::specs::Meaning::entry_meant))]
 pub fn is_stored(e: Entry) -> bool
     ensures { result ≡ is_stored (entry_meant e) }
 {
-    match e {
-        Entry::Unmapped => false,
-        Entry::Hole => false,
-        Entry::Stored(b) => true,
-    }
+    matches!(e, Entry::Stored(_))
 }
 
 // "that block plus one, modulo B"
@@ -136,7 +125,7 @@ pub fn take_block(t: &mut [u8]) -> Block
 {
     let limit = header::block_count(&*t);
     let start = header::next_start(&*t);
-    let Found::At(b) = bitmap::first_free(&*t, BITMAP_AT, start, limit) else {
+    let Some(b) = bitmap::first_free(&*t, BITMAP_AT, start, limit) else {
         return Block(0);
     };
     bitmap::set_bit(t, BITMAP_AT, b);
@@ -145,6 +134,7 @@ pub fn take_block(t: &mut [u8]) -> Block
 }
 
 // Is block b used?
+#[tactic(auto, using(crate::proofs::ReadParts::read_bit))]
 pub fn is_used(t: &[u8], b: usize) -> bool
     requires { (length t.now ≡ table_bytes) × (b < 4096) }
     ensures { result ≡ (unpack t.now).bits b }
@@ -171,6 +161,7 @@ pub fn release_block(t: &mut [u8], b: Block)
 
 impl Pending {
     // Block b is pending.
+    #[tactic(auto, unfolding(crate::specs::Meaning::pending_meant))]
     pub fn of(b: Block) -> Pending
         requires { b.0 < 16384 }
         ensures { pending_meant result ≡ stored b.0 }
@@ -179,6 +170,7 @@ impl Pending {
     }
 
     // The block that is pending, as an entry; unmapped where there is none.
+    #[tactic(auto, unfolding(crate::specs::Meaning::entry_meant, crate::specs::Meaning::pending_meant))]
     pub fn held(self) -> Entry
         ensures { entry_meant result ≡ pending_meant self }
     {
@@ -192,21 +184,29 @@ impl Pending {
 
 impl Kept {
     // The entry of a page of file f in set s.
+    #[tactic(auto, using(crate::proofs::Codes::entry_read), unfolding(crate::specs::Meaning::kept_meant))]
     pub fn at(t: &[u8], f: usize, s: usize, page: Page) -> Kept
         requires { (length t.now ≡ table_bytes) × (f < 16) × (s < 8) × (page.0 < 64) }
         ensures { kept_meant result ≡ ((unpack t.now).files f s).map page.0 }
     {
-        Kept(words::read16(t, MAPS_AT + (s * 16 + f) * FILE_BYTES + page.0 * 2))
+        Kept(words::read::<2>(t, MAPS_AT + (s * 16 + f) * FILE_BYTES + page.0 * 2) as u16)
     }
 
+    // Not `From<u16> for Entry`, which all could call: no public function makes a Block of a number.
+    #[tactic(auto, unfolding(crate::specs::Meaning::entry_meant, crate::specs::Meaning::kept_meant, crate::specs::Layout::read_entry))]
     pub fn entry(self) -> Entry
         ensures { entry_meant result ≡ kept_meant self }
     {
-        decode(self.0)
+        match self.0 / 16384 {
+            0 => Entry::Unmapped,
+            1 => Entry::Hole,
+            _ => Entry::Stored(Block(self.0 % 16384)),
+        }
     }
 }
 
 // No block is pending for any page.
+#[tactic(auto, unfolding(crate::specs::Views::none_pending))]
 pub fn none_pending() -> [Pending; 64]
     ensures { result ≡ none_pending }
 {
@@ -215,6 +215,7 @@ pub fn none_pending() -> [Pending; 64]
 }
 
 // A hole is kept for every page.
+#[tactic(auto, unfolding(crate::specs::Views::all_holes))]
 pub fn all_holes() -> [Kept; 64]
     ensures { result ≡ all_holes }
 {

@@ -8,34 +8,27 @@ ghost use Rattle.tables.specs.Views.{PackedTables, Turns, put_next_in};
 use crate::places::BITMAP_AT;
 use packing::bitmap;
 
-// A byte as a wider number.
-fn wide(x: u8) -> usize
-    ensures { (result ≡ x) × (result < 256) }
-{
-    x as usize
-}
-
 // The header is read and written byte by byte: taking a block reads what the last one wrote, and a byte that was just
 // written can be read at once, where a word would have to wait.
 pub fn block_count(t: &[u8]) -> usize
     requires { files_at ≤ length t.now }
     ensures { (result ≡ (unpack t.now).blocks) × (result < 8192) }
 {
-    wide(t[0]) * 32 + wide(t[1]) / 8
+    usize::from(t[0]) * 32 + usize::from(t[1]) / 8
 }
 
 pub fn next_start(t: &[u8]) -> usize
     requires { files_at ≤ length t.now }
     ensures { (result ≡ (unpack t.now).next) × (result < 4096) }
 {
-    wide(t[1]) % 8 * 512 + wide(t[2]) * 2 + wide(t[3]) / 128
+    usize::from(t[1]) % 8 * 512 + usize::from(t[2]) * 2 + usize::from(t[3]) / 128
 }
 
 pub fn put_next(t: &mut [u8], n: usize)
     requires { PackedTables t.old × (n < 4096) }
     ensures { Turns t.old t.new (put_next_in n) }
 {
-    t[1] = (wide(t[1]) / 8 * 8 + n / 512) as u8;
+    t[1] = (usize::from(t[1]) / 8 * 8 + n / 512) as u8;
     t[2] = (n / 2 % 256) as u8;
     t[3] = (n % 2 * 128) as u8;
 }

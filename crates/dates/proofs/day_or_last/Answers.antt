@@ -4,10 +4,6 @@ use Rattle.rules.proofs.Terms.Dates.{start_within}
 use Rattle.rules.specs.Terms.{day_or_last}
 use Rattle.dates.proofs.day_or_last.Goals as goal
 
-pub returns-then-last-day : goal.returns-then-last-day
-unfolding day_or_last
-returns-then-last-day c = (omega arith, omega (arith, start_within c.args.n (omega arith)))
-
 pub returns : goal.returns
 unfolding day_or_last
 returns c = (omega arith, omega (arith, start_within c.args.n (omega arith)))

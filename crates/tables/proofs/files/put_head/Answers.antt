@@ -4,4 +4,4 @@ use Rattle.tables.proofs.files.put_head.Goals as goal
 
 pub returns : goal.returns
 returns c =
-    head_written _ _ _ _ _ _ _ c.requires c.number_of-k.ensures.0 c.write32.ensures
+    head_written _ _ _ _ _ _ _ c.requires c.from-k.ensures.0 c.write.ensures

@@ -2,11 +2,8 @@
 use mathlib.Core.Path.{◌∙◌}
 use Prim.Native.Nat.{◌*◌, ◌+◌, ◌-◌, ◌/◌}
 use native.Mathlib.Omega.{arith}
-use Rattle.tables.proofs.FreeBlocks.{enough_free, none_needed}
+use Rattle.tables.proofs.FreeBlocks.{enough_free}
 use Rattle.tables.proofs.header.has_free.Goals as goal
-
-pub returns-then-need-eq0 : goal.returns-then-need-eq0
-returns-then-need-eq0 c = none_needed _ _ c.if-need-eq0.true
 
 pub returns : goal.returns
 returns c =

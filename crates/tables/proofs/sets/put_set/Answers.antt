@@ -4,4 +4,4 @@ use Rattle.tables.proofs.sets.put_set.Goals as goal
 
 pub returns : goal.returns
 returns c =
-    set_written _ _ _ _ _ _ _ c.requires c.word_of-w.ensures.0 c.term_word-term.ensures c.write24.ensures c.write32.ensures
+    set_written _ _ _ _ _ _ _ c.requires c.word_of-w.ensures.0 c.term_word-term.ensures.0 c.write.ensures c.write-2.ensures

@@ -5,7 +5,7 @@ use Rattle.tables.proofs.sets.set_at.Goals as goal
 
 pub returns : goal.returns
 returns c = (
-  set_read _ _ _ _ c.requires.1 c.read24-w.ensures c.read32-term.ensures,
+  set_read _ _ _ _ c.requires.1 c.read-w.ensures c.read-term.ensures.0,
   record {
     level_fits = omega arith;
     parent_fits = omega arith;
