@@ -1,7 +1,7 @@
 -- A read, a page at a time: the bytes of a part of one page, what is read so far, and the entries that are kept for it. Assumes nothing.
 use mathlib.Core.List.{◌++◌, List}
 use mathlib.Core.Path.{ap, refl, subst, sym, ◌∙◌, ◌≡◌}
-use Prim.Native.Nat.{◌%◌, ◌*◌, ◌+◌, ◌-◌, ◌/◌, ◌<◌, ℕ, ◌≤◌}
+use Prim.Native.Nat.{◌%◌, ◌*◌, ◌+◌, ◌-◌, ◌/◌, ◌<◌, max, min, ℕ, ◌≤◌}
 use native.Mathlib.Nat.{zero-add}
 use native.Mathlib.Omega.{arith}
 use lib.Dec.{ltb}
@@ -40,16 +40,28 @@ byte_in kept p k n low i l =
     let b : (k + i) % 512 ≡ k % 512 + i = omega arith in
     rw (a, b)
 
--- LAW: m bytes more, of a page whose entry is e
-pub read_more : (kept : List Kept) (p : List ℕ) (off : ℕ) (before now after : List ℕ) (done m : ℕ) (e : Entry ℕ) → e ≡ entries_of kept ((off + done) / 512) → (off + done) % 512 + m ≤ 512
-    → now ≡ run before 0 (λ i. byte_kept kept p (off + i)) done → after ≡ run now done (λ i. byte_at p e ((off + done) % 512 + i)) m
-    → after ≡ run before 0 (λ i. byte_kept kept p (off + i)) (done + m)
-read_more kept p off before now after done m e is low h a =
+-- LAW: the bytes of page q are read too, whose entry is e
+pub read_more : (kept : List Kept) (p : List ℕ) (off n : ℕ) (before now after : List ℕ) (q from end : ℕ) (e : Entry ℕ) → e ≡ entries_of kept q → off / 512 ≤ q → q < (off + n + 511) / 512
+    → from ≡ max off (q * 512) → end ≡ min (off + n) (q * 512 + 512)
+    → now ≡ run before 0 (λ i. byte_kept kept p (off + i)) (min (q * 512 - off) n) → after ≡ run now (from - off) (λ i. byte_at p e (from % 512 + i)) (end - from)
+    → after ≡ run before 0 (λ i. byte_kept kept p (off + i)) (min ((q + 1) * 512 - off) n)
+read_more kept p off n before now after q from end e is lo hi ef ee h a =
     let g : ℕ → ℕ = λ i. byte_kept kept p (off + i) in
+    let done : ℕ = from - off in
+    let m : ℕ = end - from in
+    let s : from / 512 ≡ q = omega arith in
+    let low : from % 512 + m ≤ 512 = omega arith in
+    let d : min (q * 512 - off) n ≡ 0 + done = omega arith in
+    let z : done + m ≡ min ((q + 1) * 512 - off) n = omega arith in
     a
-    ∙ run_same now done _ (λ i. g (done + i)) m (λ i l. ap (λ x. byte_at p x ((off + done) % 512 + i)) is ∙ byte_in kept p (off + done) m low i l ∙ (let q : off + done + i ≡ off + (done + i) = omega arith in ap (byte_kept kept p) q))
-    ∙ (λ i. run (h i) (sym (zero-add done) i) (λ j. g (done + j)) m)
-    ∙ run_then before 0 g done m
+    ∙ run_same now done _ (λ i. g (done + i)) m (λ i l. ap (λ x. byte_at p x (from % 512 + i)) (is ∙ ap (entries_of kept) (sym s)) ∙ byte_in kept p from m low i l
+    ∙ (let w : from + i ≡ off + (done + i) = omega arith in ap (byte_kept kept p) w))
+    ∙ (λ i. run ((h ∙ ap (run before 0 g) (d ∙ zero-add done)) i) (sym (zero-add done) i) (λ j. g (done + j)) m)
+    ∙ run_then before 0 g done m ∙ ap (run before 0 g) z
+
+-- a block that an entry of a page names is one of the pages p
+pub block_in : (kept : List Kept) (p : List ℕ) → EntriesIn kept p → (q b : ℕ) → q < 64 → entries_of kept q ≡ stored b → b * 512 + 512 ≤ length p
+block_in kept p ok = ok.blocks
 
 -- ---- the pages of a read
 

@@ -27,7 +27,7 @@ fn read_count(n: usize, off: usize, size: usize) -> usize
     if size <= off {
         return 0;
     }
-    pages::smaller(n, size - off)
+    n.min(size - off)
 }
 
 // Reads n bytes of one page, from byte `from` of the file on, to the places of the buffer from `at` on; the page's entry is
@@ -36,10 +36,8 @@ fn read_part(p: &[u8], kept: Kept, from: usize, buffer: &mut [u8], at: usize, n:
     requires { ((b : ℕ) → kept_meant kept ≡ stored b → b * 512 + 512 ≤ length p.now) × (from % 512 + n ≤ 512) × (at + n ≤ length buffer.old) }
     ensures { buffer.new ≡ run buffer.old at (λ i. byte_at p.now (kept_meant kept) (from % 512 + i)) n }
 {
-    let e = kept.entry();
-    match e {
-        Entry::Unmapped => pages::zero_bytes(buffer, at, n),
-        Entry::Hole => pages::zero_bytes(buffer, at, n),
+    match kept.entry() {
+        Entry::Unmapped | Entry::Hole => pages::zero_bytes(buffer, at, n),
         Entry::Stored(b) => pages::read_page(p, b, from % 512, buffer, at, n),
     }
 }
@@ -49,14 +47,11 @@ fn read_pages(p: &[u8], kept: [Kept; 64], off: usize, n: usize, buffer: &mut [u8
     requires { EntriesIn kept p.now × (off + n ≤ 32768) × (n ≤ length buffer.old) }
     ensures { buffer.new ≡ run buffer.old 0 (λ i. byte_kept kept p.now (off + i)) n }
 {
-    let mut done = 0;
-    while done < n {
-        let from = off + done;
-        let m = pages::smaller(512 - from % 512, n - done);
-        let q = from / 512;
+    for q in off / 512..(off + n + 511) / 512 {
+        let from = off.max(q * 512);
+        let end = (off + n).min(q * 512 + 512);
         let e = kept[q];
-        read_part(p, e, from, buffer, done, m);
-        done += m;
+        read_part(p, e, from, buffer, from - off, end - from);
     }
 }
 

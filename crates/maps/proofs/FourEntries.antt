@@ -13,7 +13,7 @@ use Rattle.rules.specs.Reading.{some_unmapped}
 use Rattle.rules.specs.State.{Entry, file_count, is_unmapped, page_count, set_count}
 use Rattle.tables.proofs.Codes.{word_hole, word_stored, word_unmapped}
 use Rattle.tables.proofs.ReadParts.{read_map}
-use Rattle.tables.specs.Layout.{entry_at, read_entry}
+use Rattle.tables.specs.Layout.{entry_at, map_at, read_entry}
 use Rattle.tables.specs.Packed.{unpack}
 
 -- an entry is unmapped when its word is below 16,384
@@ -87,30 +87,20 @@ module _ (t : List ℕ) (f s : ℕ) (hf : f < file_count) (hs : s < set_count) w
       (sym (among_parts (get_word 1 t at) (get_word 1 t (at + 2)) (get_word 1 t (at + 4)) (get_word 1 t (at + 6)) w
       (get_lt 1 t (at + 2) bs) (get_lt 1 t (at + 4) bs) (get_lt 1 t (at + 6) bs) (e ∙ four_words t at)))
 
-  -- a turn of the loop: n entries are left, and the word of the last four is w
-  module _ (n w : ℕ) (bs : Bytes t) (l : 4 ≤ n) (h : n ≤ page_count) (e : w ≡ get_word 7 t (entry_at f s (n - 4))) where
-    last_four : some_unmapped n ((unpack t).files f s).map ≡ (unmapped_among w || some_unmapped (n - 4) ((unpack t).files f s).map)
+  -- a turn of the loop: the first n words of four entries are left, and the last of them is w
+  module _ (n w : ℕ) (bs : Bytes t) (l : 0 < n) (h : n ≤ 16) (e : w ≡ get_word 7 t (map_at f s + (n - 1) * 8)) where
+    last_four : some_unmapped (4 * n) ((unpack t).files f s).map ≡ (unmapped_among w || some_unmapped (4 * (n - 1)) ((unpack t).files f s).map)
     last_four =
-        let q : n ≡ n - 4 + 4 = omega arith in
-        ap (λ x. some_unmapped x ((unpack t).files f s).map) q ∙ four_entries (n - 4) w bs (omega arith) e
+        let q : 4 * n ≡ 4 * (n - 1) + 4 = omega arith in
+        let at : map_at f s + (n - 1) * 8 ≡ entry_at f s (4 * (n - 1)) = omega arith in
+        ap (λ x. some_unmapped x ((unpack t).files f s).map) q ∙ four_entries (4 * (n - 1)) w bs (omega arith) (e ∙ ap (get_word 7 t) at)
 
-    pub four_here : unmapped_among w ≡ true → some_unmapped n ((unpack t).files f s).map ≡ true
+    pub four_here : unmapped_among w ≡ true → some_unmapped (4 * n) ((unpack t).files f s).map ≡ true
     four_here q = last_four ∙ rw q
 
-    pub four_down : unmapped_among w ≡ false → some_unmapped n ((unpack t).files f s).map ≡ some_unmapped (n - 4) ((unpack t).files f s).map
+    pub four_down : unmapped_among w ≡ false → some_unmapped (4 * n) ((unpack t).files f s).map ≡ some_unmapped (4 * (n - 1)) ((unpack t).files f s).map
     four_down q = last_four ∙ rw q
 
 pub some_none : (m : ℕ → Entry ℕ) (n : ℕ) → n ≡ 0 → some_unmapped n m ≡ false
 unfolding some_unmapped
 some_none m n e = rw e
-
--- ---- what the code tests
-
-module _ (w : ℕ) where
-  pub four_unmapped : w ≡ 0 → unmapped_among w ≡ true
-  unfolding unmapped_among
-  four_unmapped e = rw e
-
-  pub four_holes : w ≡ 4611756388245323776 → unmapped_among w ≡ false
-  unfolding unmapped_among
-  four_holes e = rw e

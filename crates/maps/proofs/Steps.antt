@@ -10,8 +10,8 @@ use borrow.Author.Tests.{eq-eqb, ne_eqb}
 use Rattle.maps.specs.Upward.{looks_from, resolve_from, size_from}
 use Rattle.rules.proofs.Steps.States.{virgin_is}
 use Rattle.rules.proofs.Steps.Walk.{looks_up_most}
-use Rattle.rules.specs.Reading.{dependent, depends_on, looks, looks_up, needs, reaches, resolve, shown_entry, shown_size, size_by_reading, some_unmapped, walk}
-use Rattle.rules.specs.State.{Entry, File, Files, State, Tables, absent, hole, is_unmapped, is_virgin, live, marked, own, page_count, stored, tree_of, unmapped, virgin}
+use Rattle.rules.specs.Reading.{dependent, depends_on, looks, looks_up, needs, reaches, resolve, shown_entry, shown_size, size_by_reading, walk}
+use Rattle.rules.specs.State.{Entry, File, Files, State, Tables, absent, hole, is_unmapped, is_virgin, live, marked, own, stored, tree_of, unmapped, virgin}
 
 -- ---- a page
 
@@ -30,12 +30,12 @@ module _ (tb : Tables) (f p s : ℕ) where
   resolve_above zero e h = absurd (e refl)
   resolve_above (suc n) e h = rw (h, sub-one)
 
-  pub resolve_hole : (n : ℕ) → (tb.files f s).map p ≡ hole → resolve_from tb f p s n ≡ hole
+  resolve_hole : (n : ℕ) → (tb.files f s).map p ≡ hole → resolve_from tb f p s n ≡ hole
   unfolding resolve_from walk
   resolve_hole zero h = rw h
   resolve_hole (suc n) h = rw h
 
-  pub resolve_stored : (n b : ℕ) → (tb.files f s).map p ≡ stored b → resolve_from tb f p s n ≡ stored b
+  resolve_stored : (n b : ℕ) → (tb.files f s).map p ≡ stored b → resolve_from tb f p s n ≡ stored b
   unfolding resolve_from walk
   resolve_stored zero b h = rw h
   resolve_stored (suc n) b h = rw h
@@ -108,21 +108,9 @@ module _ (tb : Tables) (f s : ℕ) where
 
 -- ---- the tests of a file
 
-pub needs_not : (files : Files ℕ) (s p : ℕ) → live (files s).state ≡ false → false ≡ needs files s p
-unfolding needs
-needs_not files s p h = rw h
-
 pub needs_live : (files : Files ℕ) (s p : ℕ) → live (files s).state ≡ true → is_unmapped ((files s).map p) ≡ needs files s p
 unfolding needs
 needs_live files s p h = rw h
-
-pub dependent_not : (x : File ℕ) → live x.state ≡ false → false ≡ dependent x
-unfolding dependent
-dependent_not x h = rw h
-
-pub dependent_live : (x : File ℕ) → live x.state ≡ true → some_unmapped page_count x.map ≡ dependent x
-unfolding dependent
-dependent_live x h = rw h
 
 -- ---- who is marked
 

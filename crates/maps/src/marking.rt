@@ -1,6 +1,5 @@
 // Which file needs a page, and which files are marked when one is.
 ghost use Rattle.std.specs.Prelude.{◌≡◌, ◌<◌, length};
-ghost use Rattle.base.specs.Logic;
 ghost use Rattle.rules.specs.State.{tree_of};
 ghost use Rattle.rules.specs.Reading as Reading;
 ghost use Rattle.tables.specs.Layout.{table_bytes};
@@ -15,18 +14,17 @@ use tables::places::{FILE_BYTES, MAPS_AT};
 use tables::{entries, files, sets};
 
 // "A child needs page p when its file is own or virgin and p is unmapped there."
+#[tactic(auto, unfolding(rules::specs::Reading::needs))]
 pub fn needs(t: &[u8], f: usize, s: usize, page: Page) -> bool
     requires { (length t.now ≡ table_bytes) × (f < 16) × (s < 8) × (page.0 < 64) }
     ensures { result ≡ Reading.needs ((unpack t.now).files f) s page.0 }
 {
-    let l = files::is_live(files::state_at(t, f, s));
-    if !l {
-        return false;
-    }
-    entries::is_unmapped(entries::entry_at(t, f, s, page))
+    files::is_live(files::state_at(t, f, s))
+        && entries::is_unmapped(entries::entry_at(t, f, s, page))
 }
 
 // Is one of the four entries of a word of 64 bits unmapped? First the words of four unmapped pages and of four holes.
+#[tactic(auto, unfolding(crate::specs::FourEntries::unmapped_among))]
 fn among(w: u64) -> bool
     ensures { result ≡ unmapped_among w }
 {
@@ -36,16 +34,10 @@ fn among(w: u64) -> bool
     if w == 0x4000400040004000 {
         return false;
     }
-    if w % 65536 < 16384 {
-        return true;
-    }
-    if w / 65536 % 65536 < 16384 {
-        return true;
-    }
-    if w / 4294967296 % 65536 < 16384 {
-        return true;
-    }
-    w / 281474976710656 < 16384
+    w % 65536 < 16384
+        || w / 65536 % 65536 < 16384
+        || w / 4294967296 % 65536 < 16384
+        || w / 281474976710656 < 16384
 }
 
 // Is any page of the file unmapped? Four entries at a time.
@@ -54,10 +46,8 @@ fn some_unmapped(t: &[u8], f: usize, s: usize) -> bool
     ensures { result ≡ Reading.some_unmapped 64 ((unpack t.now).files f s).map }
 {
     let map = MAPS_AT + (s * 16 + f) * FILE_BYTES;
-    let mut n: usize = 64;
-    while 0 < n {
-        n -= 4;
-        if among(words::read64(t, map + n * 2)) {
+    for n in (0..16).rev() {
+        if among(words::read::<8>(t, map + n * 8)) {
             return true;
         }
     }
@@ -66,18 +56,12 @@ fn some_unmapped(t: &[u8], f: usize, s: usize) -> bool
 
 // "an own or virgin file depends on the parent set's file as long as it has any unmapped page": a number from 8 on is no
 // set, and its files depend on none.
+#[tactic(auto, using(crate::proofs::OutOfRange::dependent_out), unfolding(rules::specs::Reading::dependent))]
 fn dependent(t: &[u8], f: usize, s: usize) -> bool
     requires { (length t.now ≡ table_bytes) × (f < 16) }
     ensures { result ≡ Reading.dependent ((unpack t.now).files f s) }
 {
-    if 8 <= s {
-        return false;
-    }
-    let l = files::is_live(files::state_at(t, f, s));
-    if !l {
-        return false;
-    }
-    some_unmapped(t, f, s)
+    s < 8 && files::is_live(files::state_at(t, f, s)) && some_unmapped(t, f, s)
 }
 
 // Is the file of set s marked when that of set c is?
@@ -86,8 +70,7 @@ fn depends_on(t: &[u8], f: usize, c: usize, s: usize) -> bool
     ensures { result ≡ Reading.reaches (tree_of (unpack t.now).sets) ((unpack t.now).files f) c s }
 {
     let mut at = s;
-    let mut left = sets::level_of(t, s);
-    while 0 < left {
+    for _ in 0..sets::level_of(t, s) {
         if c == at {
             return true;
         }
@@ -95,18 +78,8 @@ fn depends_on(t: &[u8], f: usize, c: usize, s: usize) -> bool
             return false;
         }
         at = reading::parent_in(t, at);
-        left -= 1;
     }
     c == at
-}
-
-fn digit(b: bool) -> u32
-    ensures { (result ≡ Logic.digit b) × (result < 2) }
-{
-    if b {
-        return 1;
-    }
-    0
 }
 
 // The sets whose files are marked when that of set c is: a binary digit each, set 0 the lowest.
@@ -115,10 +88,8 @@ pub fn reach_mask(t: &[u8], f: usize, c: usize) -> u32
     ensures { (result ≡ packs (Reading.reaches (tree_of (unpack t.now).sets) ((unpack t.now).files f) c) 0 8) × (result < 256) }
 {
     let mut m: u32 = 0;
-    let mut s: usize = 8;
-    while 0 < s {
-        s -= 1;
-        m = m * 2 + digit(depends_on(t, f, c, s));
+    for s in (0..8).rev() {
+        m = m * 2 + u32::from(depends_on(t, f, c, s));
     }
     m
 }

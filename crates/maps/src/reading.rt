@@ -19,6 +19,7 @@ pub struct Resolved {
 }
 
 // The entry of a page in set s; a number from 8 on is no set, and its files have only unmapped entries.
+#[tactic(auto, using(crate::proofs::OutOfRange::map_out), unfolding(tables::specs::Meaning::entry_meant))]
 fn entry_in(t: &[u8], f: usize, s: usize, page: Page) -> Entry
     requires { (length t.now ≡ table_bytes) × (f < 16) × (page.0 < 64) }
     ensures { entry_meant result ≡ ((unpack t.now).files f s).map page.0 }
@@ -30,6 +31,7 @@ fn entry_in(t: &[u8], f: usize, s: usize, page: Page) -> Entry
 }
 
 // The state of file f in set s; of no set it is absent.
+#[tactic(auto, using(crate::proofs::OutOfRange::state_out), unfolding(tables::specs::Meaning::state_meant))]
 fn state_in(t: &[u8], f: usize, s: usize) -> State
     requires { (length t.now ≡ table_bytes) × (f < 16) }
     ensures { state_meant result ≡ ((unpack t.now).files f s).state }
@@ -41,6 +43,7 @@ fn state_in(t: &[u8], f: usize, s: usize) -> State
 }
 
 // The size in the record of file f in set s; of no set it is 0.
+#[tactic(auto, using(crate::proofs::OutOfRange::size_out))]
 fn size_in(t: &[u8], f: usize, s: usize) -> usize
     requires { (length t.now ≡ table_bytes) × (f < 16) }
     ensures { (result ≡ ((unpack t.now).files f s).size) × (result < 65536) }
@@ -52,6 +55,7 @@ fn size_in(t: &[u8], f: usize, s: usize) -> usize
 }
 
 // The parent of set s; of no set it is 0.
+#[tactic(auto, using(crate::proofs::OutOfRange::parent_out))]
 pub fn parent_in(t: &[u8], s: usize) -> usize
     requires { length t.now ≡ table_bytes }
     ensures { (result ≡ ((unpack t.now).sets s).parent) × (result < 16) }
@@ -77,20 +81,12 @@ fn resolve(t: &[u8], f: usize, page: Page, s: usize, level: usize) -> Resolved
                 };
             }
             let up = resolve(t, f, page, parent_in(t, s), level - 1);
-            let found = up.entry;
             Resolved {
-                entry: found,
                 looks: up.looks + 1,
+                ..up
             }
         }
-        Entry::Hole => Resolved {
-            entry: Entry::Hole,
-            looks: 1,
-        },
-        Entry::Stored(b) => Resolved {
-            entry: Entry::Stored(b),
-            looks: 1,
-        },
+        Entry::Hole | Entry::Stored(_) => Resolved { entry: e, looks: 1 },
     }
 }
 
@@ -113,13 +109,11 @@ pub fn size_of(t: &[u8], f: usize, s: usize) -> usize
     ensures { (result ≡ Reading.size_by_reading (tree_of (unpack t.now).sets) ((unpack t.now).files f) s) × (result < 65536) }
 {
     let mut at = s;
-    let mut left = sets::level_of(t, s);
-    while 0 < left {
+    for _ in 0..sets::level_of(t, s) {
         if !files::is_virgin(state_in(t, f, at)) {
             return size_in(t, f, at);
         }
         at = parent_in(t, at);
-        left -= 1;
     }
     if files::is_virgin(state_in(t, f, at)) {
         return 0;

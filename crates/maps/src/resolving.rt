@@ -28,11 +28,12 @@ fn unmapped_in(t: &[u8], f: usize, s: usize, m: u64) -> u64
 
 // The entries that file f has in set s for the pages of m, in the place of those that are kept.
 fn keep_entries(t: &[u8], f: usize, s: usize, m: u64, kept: [Kept; 64]) -> [Kept; 64]
-    requires { (length t.now ≡ table_bytes) × (f < 16) × (s < 8) × (length kept ≡ 64) }
+    requires { (length t.now ≡ table_bytes) × (f < 16) × (s < 8) }
     ensures { EntriesKept m ((unpack t.now).files f s).map kept result }
 {
     let mut l = kept;
     let mut left = m;
+    // The bits of a mask are walked, so no `for` counts them.
     while left != 0 {
         let i = 63 - masks::lowest(left);
         l[i] = Kept::at(t, f, s, Page::new(i));
@@ -43,7 +44,7 @@ fn keep_entries(t: &[u8], f: usize, s: usize, m: u64, kept: [Kept; 64]) -> [Kept
 
 // The same for pages that are all mapped there: of a number from 8 on there are none.
 fn keep_mapped(t: &[u8], f: usize, s: usize, m: u64, kept: [Kept; 64]) -> [Kept; 64]
-    requires { (length t.now ≡ table_bytes) × (f < 16) × (length kept ≡ 64) × AllMapped m ((unpack t.now).files f s).map }
+    requires { (length t.now ≡ table_bytes) × (f < 16) × AllMapped m ((unpack t.now).files f s).map }
     ensures { EntriesKept m ((unpack t.now).files f s).map kept result }
 {
     if 8 <= s {
@@ -61,16 +62,10 @@ fn resolve_pages(t: &[u8], f: usize, s: usize, level: usize, m: u64) -> Resolved
     let looks = masks::page_count(m);
     let rest = unmapped_in(t, f, s, m);
     let mapped = m & !rest;
-    if rest == 0 {
+    if rest == 0 || level == 0 {
         return ResolvedPages {
             kept: keep_mapped(t, f, s, mapped, entries::all_holes()),
-            looks: looks,
-        };
-    }
-    if level == 0 {
-        return ResolvedPages {
-            kept: keep_mapped(t, f, s, mapped, entries::all_holes()),
-            looks: looks,
+            looks,
         };
     }
     let up = resolve_pages(t, f, reading::parent_in(t, s), level - 1, rest);

@@ -10,10 +10,10 @@ fn kinds_16(t: &[u8], at: usize, i: usize) -> u64
     requires { (i < 13) × (at + 128 ≤ length t.now) }
     ensures { result ≡ kinds16 (words_at t.now at) i }
 {
-    let a = words::low64(t, at + i * 8) >> 6 & 0x0003_0003_0003_0003;
-    let b = words::low64(t, at + (i + 1) * 8) >> 6 & 0x0003_0003_0003_0003;
-    let c = words::low64(t, at + (i + 2) * 8) >> 6 & 0x0003_0003_0003_0003;
-    let d = words::low64(t, at + (i + 3) * 8) >> 6 & 0x0003_0003_0003_0003;
+    let a = words::low::<8>(t, at + i * 8) >> 6 & 0x0003_0003_0003_0003;
+    let b = words::low::<8>(t, at + (i + 1) * 8) >> 6 & 0x0003_0003_0003_0003;
+    let c = words::low::<8>(t, at + (i + 2) * 8) >> 6 & 0x0003_0003_0003_0003;
+    let d = words::low::<8>(t, at + (i + 3) * 8) >> 6 & 0x0003_0003_0003_0003;
     let k = a << 12 | b << 8 | c << 4 | d;
     (k << 2 | k >> 16) & 0x0000_FFFF_0000_FFFF
 }

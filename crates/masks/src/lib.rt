@@ -20,14 +20,14 @@ pub fn lowest(m: u64) -> usize
     requires { 0 < m }
     ensures { (result ≡ count_trailing_zeros 64 m) × (result < 64) }
 {
-    u64::trailing_zeros(m) as usize
+    m.trailing_zeros() as usize
 }
 
 // How many pages the mask has.
 pub fn page_count(m: u64) -> u32
     ensures { (result ≡ count 64 (pages m)) × (result ≤ 64) }
 {
-    u64::count_ones(m)
+    m.count_ones()
 }
 
 // The pages first, .., first + n - 1.
@@ -38,7 +38,7 @@ pub fn page_range(first: usize, n: usize) -> u64
     if n == 0 {
         return 0;
     }
-    0xFFFF_FFFF_FFFF_FFFF >> first & 0xFFFF_FFFF_FFFF_FFFF << (64 - first - n)
+    u64::MAX >> first & u64::MAX << (64 - first - n)
 }
 
 // The pages of file f that are unmapped in set s.

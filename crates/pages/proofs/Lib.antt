@@ -1,3 +1,4 @@
+pub mod Parts
 pub mod PageRuns
 pub mod Overlays
 pub mod Whole

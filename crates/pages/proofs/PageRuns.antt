@@ -6,11 +6,11 @@ use Prim.Native.Nat.{◌*◌, ◌+◌, ◌-◌, ◌<◌, ℕ, ◌≤◌}
 use native.Mathlib.Nat.{sub-zero}
 use native.Mathlib.Omega.{arith}
 use lib.Dec.{leb, ltb}
-use lib.ListN.{get_or, length, set}
+use lib.ListN.{get_or, length}
 use borrow.Author.Tests.{le-leb, le-ltb, leb-true, lt-leb, lt-ltb, ltb-false, ltb-true}
 use Rattle.base.specs.Logic.{and_left, and_right, same?, test?}
-use Rattle.base.specs.Update.{upd, upd_other, upd_same, upd_self}
-use Rattle.pages.specs.Run.{run, run_in, run_more, run_out, run_same}
+use Rattle.base.specs.Update.{upd, upd_other, upd_same}
+use Rattle.pages.specs.Run.{run, run_in, run_out, run_same}
 use Rattle.rules.specs.Storage.{zero_from}
 use Rattle.tables.specs.Calls.{pages_of}
 
@@ -63,13 +63,6 @@ page_whole l b f v h a z =
     (λ e. let c = ltb-true i 512 e in rw (le-leb 0 i (omega arith), e, sub-zero i) (a i c))
     (λ e. rw (le-leb 0 i (omega arith), e) (pages_out l b i (ltb-false i 512 e) ∙ sym (z i (ltb-false i 512 e))))))
 
--- one byte more is copied inside the buffer: no store so far hit it, also where the two blocks are the same
-pub copy_more : (l : List ℕ) (a b i : ℕ) (f : ℕ → ℕ) → i < 512 → f i ≡ get_or l (a * 512 + i) 0
-    → set (run l (b * 512) f i) (b * 512 + i) (get_or (run l (b * 512) f i) (a * 512 + i) 0) ≡ run l (b * 512) f (i + 1)
-copy_more l a b i f h e =
-    ap (λ (v : ℕ). set (run l (b * 512) f i) (b * 512 + i) v) (run_out l (b * 512) f i (a * 512 + i) (λ j k q. omega arith) ∙ sym e)
-    ∙ sym (run_more l (b * 512) f i)
-
 -- WHAT THE CODE STORES: copy_page, zero_page, zero_tail, read_page
 pub copied : (l : List ℕ) (a b : ℕ) → b * 512 + 512 ≤ length l → pages_of (run l (b * 512) (λ i. get_or l (a * 512 + i) 0) 512) ≡ upd (pages_of l) b (pages_of l a)
 copied l a b h = page_whole l b (λ i. get_or l (a * 512 + i) 0) (pages_of l a) h (λ i k. sym (pages_in l a i k)) (pages_out l a)
@@ -93,9 +86,3 @@ page_read l p at b x n h =
     run_same l at (λ i. get_or p (b * 512 + x + i) 0) (λ i. pages_of p b (x + i)) n
     (λ i k. let z : b * 512 + x + i ≡ b * 512 + (x + i) = omega arith in
     ap (λ y. get_or p y 0) z ∙ sym (pages_in p b (x + i) (omega arith)))
-
--- a page copied to its own block, by the numbers x and y of the blocks
-pub copy_self : (l : List ℕ) (a b x y : ℕ) → x ≡ a → y ≡ b → x * 512 ≡ y * 512 → pages_of l ≡ upd (pages_of l) b (pages_of l a)
-copy_self l a b x y p q e =
-    let k : a ≡ b = omega (arith, p, q, e) in
-    sym (ap (λ z. upd (pages_of l) b (pages_of l z)) k ∙ upd_self (pages_of l) b)

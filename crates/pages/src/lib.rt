@@ -1,7 +1,7 @@
 // Moves of bytes in the lent buffers: of pages of 512 bytes, by Block, into the buffer of a read, and runs of zeros.
 #![tactic(auto)]
 
-ghost use Rattle.std.specs.Prelude.{◌≡◌, ◌+◌, ◌*◌, ◌≤◌, ◌<◌, max, min, length, get_or};
+ghost use Rattle.std.specs.Prelude.{◌≡◌, ◌+◌, ◌*◌, ◌≤◌, ◌<◌, length, get_or};
 ghost use Rattle.base.specs.Update.{upd};
 ghost use Rattle.rules.specs.Storage.{overlay, zero_from};
 ghost use Rattle.tables.specs.Calls.{pages_of};
@@ -14,11 +14,7 @@ pub fn copy_bytes(target: &mut [u8], at: usize, source: &[u8], start: usize, n: 
     requires { (at + n ≤ length target.old) × (start + n ≤ length source.now) }
     ensures { target.new ≡ run target.old at (λ i. get_or source.now (start + i) 0) n }
 {
-    let mut i = 0;
-    while i < n {
-        target[at + i] = source[start + i];
-        i += 1;
-    }
+    target[at..at + n].copy_from_slice(&source[start..start + n]);
 }
 
 // Zeroes the n bytes of `target` from `at` on.
@@ -26,11 +22,7 @@ pub fn zero_bytes(target: &mut [u8], at: usize, n: usize)
     requires { at + n ≤ length target.old }
     ensures { target.new ≡ zeroed target.old at n }
 {
-    let mut i = 0;
-    while i < n {
-        target[at + i] = 0;
-        i += 1;
-    }
+    target[at..at + n].fill(0);
 }
 
 // Copies the page in block `from` to block `to`, which may be the same.
@@ -40,14 +32,7 @@ pub fn copy_page(pages: &mut [u8], from: Block, to: Block)
 {
     let a = from.number() * 512;
     let b = to.number() * 512;
-    if a == b {
-        return;
-    }
-    let mut i = 0;
-    while i < 512 {
-        pages[b + i] = pages[a + i];
-        i += 1;
-    }
+    pages.copy_within(a..a + 512, b);
 }
 
 // Zeroes the page in block b.
@@ -66,24 +51,6 @@ pub fn zero_tail(pages: &mut [u8], b: Block, n: usize)
     zero_bytes(pages, b.number() * 512 + n, 512 - n);
 }
 
-pub fn larger(a: usize, b: usize) -> usize
-    ensures { result ≡ max a b }
-{
-    if a < b {
-        return b;
-    }
-    a
-}
-
-pub fn smaller(a: usize, b: usize) -> usize
-    ensures { result ≡ min a b }
-{
-    if a < b {
-        return a;
-    }
-    b
-}
-
 // Lays over the page in block b, which is page `page` of a file, those of the bytes `data` that fall on it; they begin at
 // byte `off` of the file.
 pub fn lay_bytes(pages: &mut [u8], b: Block, page: Page, off: usize, data: &[u8])
@@ -91,8 +58,8 @@ pub fn lay_bytes(pages: &mut [u8], b: Block, page: Page, off: usize, data: &[u8]
     ensures { pages_of pages.new ≡ upd (pages_of pages.old) b.0 (overlay off «data».now page.0 (pages_of pages.old b.0)) }
 {
     let start = page.number() * 512;
-    let lo = larger(off, start);
-    let hi = smaller(off + data.len(), start + 512);
+    let lo = off.max(start);
+    let hi = (off + data.len()).min(start + 512);
     if hi <= lo {
         return;
     }

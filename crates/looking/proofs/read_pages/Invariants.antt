@@ -1,14 +1,9 @@
--- `looking::read_pages` meets its contract. The loop's invariant: `done` bytes are read. The measure is the number of bytes left. Assumes nothing.
+-- `looking::read_pages` meets its contract. The loop's invariant: the bytes before page q are read. Assumes nothing.
 use mathlib.Core.Path.{◌≡◌}
-use Prim.Native.Nat.{◌+◌, ◌-◌, ◌≤◌}
-use lib.ListN.{length}
+use Prim.Native.Nat.{◌*◌, ◌+◌, ◌-◌, min}
 use Rattle.pages.specs.Run.{run}
 use Rattle.looking.specs.Read.{byte_kept}
 use Rattle.looking.proofs.read_pages.Given as goal
 
-abbrev pub invariant-loop-done : goal.invariant-loop-done
-invariant-loop-done l =
-    (l.done ≤ l.n) × (length l.buffer ≡ length l.initial.buffer) × (l.buffer ≡ run l.initial.buffer 0 (λ i. byte_kept l.kept l.p (l.off + i)) l.done)
-
-abbrev pub decreases-loop-done : goal.decreases-loop-done
-decreases-loop-done l = l.n - l.done
+abbrev pub invariant-loop-q : goal.invariant-loop-q
+invariant-loop-q l = l.buffer ≡ run l.initial.buffer 0 (λ i. byte_kept l.kept l.p (l.off + i)) (min (l.q * 512 - l.off) l.n)

@@ -11,9 +11,9 @@ pub returns-then-hi-lo : goal.returns-then-hi-lo
 returns-then-hi-lo c =
     let a = c.args in
     let d = a.«data».now in
-    none_laid a.pages.now a.b.0 a.page.0 a.off c.larger-lo.result c.smaller-hi.result d
-    (c.larger-lo.ensures ∙ ap (λ x. max a.off (x * 512)) c.number-start.ensures)
-    (c.smaller-hi.ensures ∙ ap (λ x. min (a.off + length d) (x * 512 + 512)) c.number-start.ensures)
+    none_laid a.pages.now a.b.0 a.page.0 a.off c.max-lo.result c.min-hi.result d
+    (c.max-lo.ensures ∙ ap (λ x. max a.off (x * 512)) c.number-start.ensures)
+    (c.min-hi.ensures ∙ ap (λ x. min (a.off + length d) (x * 512 + 512)) c.number-start.ensures)
     c.if-hi-lo.true
 
 pub returns : goal.returns
@@ -21,12 +21,12 @@ returns c =
     let a = c.args in
     let P = a.pages.now in
     let d = a.«data».now in
-    let lo = c.larger-lo.result in
-    let hi = c.smaller-hi.result in
+    let lo = c.max-lo.result in
+    let hi = c.min-hi.result in
     ap pages_of c.copy_bytes.ensures
     ∙ ap (λ x. pages_of (run P (x * 512 + (lo - c.number-start.result * 512)) (λ i. get_or d (lo - a.off + i) 0) (hi - lo))) c.number.ensures
     ∙ ap (λ x. pages_of (run P (a.b.0 * 512 + (lo - x * 512)) (λ i. get_or d (lo - a.off + i) 0) (hi - lo))) c.number-start.ensures
     ∙ some_laid P a.b.0 a.page.0 a.off lo hi d
-    (c.larger-lo.ensures ∙ ap (λ x. max a.off (x * 512)) c.number-start.ensures)
-    (c.smaller-hi.ensures ∙ ap (λ x. min (a.off + length d) (x * 512 + 512)) c.number-start.ensures)
+    (c.max-lo.ensures ∙ ap (λ x. max a.off (x * 512)) c.number-start.ensures)
+    (c.min-hi.ensures ∙ ap (λ x. min (a.off + length d) (x * 512 + 512)) c.number-start.ensures)
     c.if-hi-lo.false c.requires.0

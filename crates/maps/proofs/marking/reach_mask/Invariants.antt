@@ -1,6 +1,6 @@
--- `maps::marking::reach_mask` meets its contract. The loop's invariant: m has the answers for the sets from s on as its digits. The measure is s.
+-- `maps::marking::reach_mask` meets its contract. The loop's invariant: m has the answers for the sets from s on as its digits.
 use mathlib.Core.Path.{◌≡◌}
-use Prim.Native.Nat.{◌≤◌, ◌<◌, ◌-◌}
+use Prim.Native.Nat.{◌<◌, ◌-◌}
 use Rattle.rules.specs.Reading.{reaches}
 use Rattle.rules.specs.State.{tree_of}
 use Rattle.tables.specs.Packed.{unpack}
@@ -8,7 +8,4 @@ use Rattle.maps.specs.Mask.{packs}
 use Rattle.maps.proofs.marking.reach_mask.Given as goal
 
 abbrev pub invariant-loop-s : goal.invariant-loop-s
-invariant-loop-s l = (l.s ≤ 8) × (l.m ≡ packs (reaches (tree_of (unpack l.t).sets) ((unpack l.t).files l.f) l.c) l.s (8 - l.s)) × (l.m < 256)
-
-abbrev pub decreases-loop-s : goal.decreases-loop-s
-decreases-loop-s l = l.s
+invariant-loop-s l = (l.m ≡ packs (reaches (tree_of (unpack l.t).sets) ((unpack l.t).files l.f) l.c) l.s (8 - l.s)) × (l.m < 256)

@@ -1,12 +1,15 @@
 -- `maps::reading::resolve` meets its contract: it calls itself on the parent set, and the level falls. Assumes nothing.
-use mathlib.Core.Path.{ap, sym, ◌∙◌}
+use mathlib.Core.Bool.{false}
+use mathlib.Core.Logic.{inl, inr}
+use mathlib.Core.Path.{ap, sym, ◌∙◌, ◌≡◌}
 use Prim.Native.Nat.{ℕ, ◌+◌, ◌-◌}
 use native.Mathlib.Omega.{arith}
 use Rattle.rules.specs.State.{is_unmapped}
 use Rattle.tables.specs.Meaning.{entry_meant}
+use Rattle.tables.specs.declared.entries.Entry.{Entry}
 use Rattle.tables.specs.Packed.{unpack}
 use Rattle.maps.specs.Upward.{looks_from, resolve_from}
-use Rattle.maps.proofs.Steps.{looks_above, looks_here, looks_in_8, looks_low, resolve_above, resolve_hole, resolve_low, resolve_stored}
+use Rattle.maps.proofs.Steps.{looks_above, looks_here, looks_in_8, looks_low, resolve_above, resolve_here, resolve_low}
 use Rattle.maps.proofs.reading.+resolve.Goals as goal
 
 pub returns-then-level-eq0 : goal.returns-then-level-eq0
@@ -46,17 +49,10 @@ unfolding entry_meant
 returns-in-Hole t c =
     let a = c.args in
     let tb = unpack a.t.now in
-    let h = sym c.entry_in-e.ensures ∙ ap entry_meant c.in-Hole.is in (
-      sym (resolve_hole tb a.f a.page.0 a.s a.level h),
-      sym (looks_here tb a.f a.page.0 a.s a.level (ap is_unmapped h)),
-    )
-
-pub returns-in-Stored : goal.returns-in-Stored
-unfolding entry_meant
-returns-in-Stored t c =
-    let a = c.args in
-    let tb = unpack a.t.now in
-    let h = sym c.entry_in-e.ensures ∙ ap entry_meant c.in-Stored.is in (
-      sym (resolve_stored tb a.f a.page.0 a.s a.level _ h),
-      sym (looks_here tb a.f a.page.0 a.s a.level (ap is_unmapped h)),
+    let k : is_unmapped (entry_meant c.entry_in-e.result) ≡ false = elim c.in-Hole.is [
+      | inl e ↦ ap (λ (x : Entry). is_unmapped (entry_meant x)) e
+      | inr w ↦ ap (λ (x : Entry). is_unmapped (entry_meant x)) w.1
+    ] in (
+      resolve_here tb a.f a.page.0 a.s a.level (entry_meant c.entry_in-e.result) c.entry_in-e.ensures k,
+      sym (looks_here tb a.f a.page.0 a.s a.level (ap is_unmapped (sym c.entry_in-e.ensures) ∙ k)),
     )

@@ -1,6 +1,5 @@
 -- `maps::reading::resolve_in` meets its contract. Assumes nothing.
 use mathlib.Core.Path.{ap, refl, sym, ◌∙◌}
-use borrow.Author.Tests.{not-true}
 use Rattle.rules.specs.State.{is_unmapped}
 use Rattle.tables.specs.Meaning.{entry_meant}
 use Rattle.tables.specs.Packed.{unpack}
@@ -12,7 +11,7 @@ returns-then-not-is_unmapped c =
     let a = c.args in
     let tb = unpack a.t.now in
     let n = (tb.sets a.s).level in
-    let h = sym c.is_unmapped.ensures ∙ not-true c.is_unmapped.result c.if-not-is_unmapped.true-raw in (
+    let h = sym c.if-not-is_unmapped.ensures in (
       resolve_here tb a.f a.page.0 a.s n (entry_meant c.entry_at-e.result) c.entry_at-e.ensures h ∙ resolve_level _ _ _ _ n refl,
       sym (looks_here tb a.f a.page.0 a.s n (ap is_unmapped (sym c.entry_at-e.ensures) ∙ h)) ∙ looks_level _ _ _ _ n refl,
     )

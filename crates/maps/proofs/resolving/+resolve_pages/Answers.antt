@@ -1,8 +1,7 @@
 -- `maps::resolving::resolve_pages` meets its contract: it calls itself on the parent set, and the level falls. Assumes nothing.
-use mathlib.Core.Path.{ap, refl, ◌∙◌}
+use mathlib.Core.Logic.{inl, inr}
+use mathlib.Core.Path.{refl}
 use native.Mathlib.Omega.{arith}
-use lib.ListN.{length}
-use Rattle.tables.proofs.KeptEntries.{holes_length}
 use Rattle.maps.proofs.ManyPages.{all_mapped, few_looks, resolved_above, resolved_here, resolved_low}
 use Rattle.maps.proofs.resolving.+resolve_pages.Goals as goal
 
@@ -10,22 +9,15 @@ pub keep_mapped-requires : goal.keep_mapped-requires
 keep_mapped-requires t c =
     let u = c.unmapped_in-rest in
     let p = c.requires in
-    (p.0, p.1, ap length c.all_holes.ensures ∙ holes_length, all_mapped _ _ u.result _ u.ensures refl)
+    (p.0, p.1, all_mapped _ _ u.result _ u.ensures refl)
 
 pub returns-then-rest-eq0 : goal.returns-then-rest-eq0
 returns-then-rest-eq0 t c =
     let u = c.unmapped_in-rest in
-    resolved_here _ _ _ _ _ u.result _ _ _ u.ensures refl c.keep_mapped.ensures _ c.page_count-looks.ensures.0 c.all_holes.ensures c.if-rest-eq0.true
-
-pub keep_mapped-requires-then-level-eq0 : goal.keep_mapped-requires-then-level-eq0
-keep_mapped-requires-then-level-eq0 t c =
-    let u = c.unmapped_in-rest in
-    let p = c.requires in
-    (p.0, p.1, ap length c.all_holes-then-level-eq0.ensures ∙ holes_length, all_mapped _ _ u.result _ u.ensures refl)
-
-pub returns-then-level-eq0 : goal.returns-then-level-eq0
-returns-then-level-eq0 t c =
-    resolved_low _ _ _ _ _ c.unmapped_in-rest.result _ _ _ c.unmapped_in-rest.ensures refl c.keep_mapped-then-level-eq0.ensures _ c.page_count-looks.ensures.0 c.all_holes-then-level-eq0.ensures c.if-level-eq0.true
+    elim c.then-rest-eq0.either [
+      | inl e ↦ resolved_here _ _ _ _ _ u.result _ _ _ u.ensures refl c.keep_mapped.ensures _ c.page_count-looks.ensures.0 c.all_holes.ensures e
+      | inr w ↦ resolved_low _ _ _ _ _ u.result _ _ _ u.ensures refl c.keep_mapped.ensures _ c.page_count-looks.ensures.0 c.all_holes.ensures w.1
+    ]
 
 pub resolve_pages-up-requires : goal.resolve_pages-up-requires
 resolve_pages-up-requires t c =
@@ -36,7 +28,7 @@ pub keep_mapped-requires-2 : goal.keep_mapped-requires-2
 keep_mapped-requires-2 t c =
     let u = c.unmapped_in-rest in
     let p = c.requires in
-    (p.0, p.1, c.resolve_pages-up.ensures.len, all_mapped _ _ u.result _ u.ensures refl)
+    (p.0, p.1, all_mapped _ _ u.result _ u.ensures refl)
 
 pub overflow_add-result : goal.overflow_add-result
 overflow_add-result t c =

@@ -10,7 +10,7 @@ use Rattle.maps.proofs.ManyPages.{kept_all, kept_more, kept_start}
 use Rattle.maps.proofs.resolving.keep_entries.Goals as goal
 
 pub loop-left-init : goal.loop-left-init
-loop-left-init c = (omega arith, kept_start _ _ _ c.requires.3)
+loop-left-init c = (omega arith, kept_start _ _ _ (omega arith))
 
 pub lowest-i-requires : goal.lowest-i-requires
 lowest-i-requires c = omega arith
