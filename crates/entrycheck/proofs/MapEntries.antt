@@ -1,6 +1,9 @@
 -- The entries of a map as the code looks at them: it passes, with the blocks that it made seen, where the definition does. Assumes nothing.
 use mathlib.Core.Bool.{◌&&◌, Bool, false, not, true, true≢false}
 use mathlib.Core.List.{List, []}
+use mathlib.Core.Option.{none}
+use Rattle.std.specs.Prelude.{MatchOption, None, Some, is_some}
+use Rattle.std.specs.Prelude.{Option as Answer}
 use mathlib.Core.Path.{ap, ap₂, refl, subst, sym, ◌∙◌, ◌≡◌}
 use Prim.Native.Nat.{◌%◌, ◌*◌, ◌+◌, ◌-◌, ◌/◌, ◌<◌, ℕ, ◌≤◌}
 use native.Mathlib.Omega.{arith}
@@ -17,9 +20,10 @@ use Rattle.masks.specs.Network.{holes_of, stored_of, words_at}
 use Rattle.masks.specs.Pages.{entries_at, pages}
 use Rattle.entrycheck.proofs.Counts.{counts_none, counts_some}
 use Rattle.entrycheck.proofs.EntriesFormed.{good, hit, map_counts}
-use Rattle.entrycheck.proofs.MovedPages.{moved_ok, moved_then, times_none}
-use Rattle.entrycheck.specs.Seeing.{MapSeen, none_seen, see_map}
-use Rattle.entrycheck.specs.Moving.{Moved, block_at, no_page, times_left}
+use Rattle.entrycheck.proofs.MovedPages.{moved_then, times_none}
+use Rattle.entrycheck.specs.Seeing.{MapRead, MapSeen, none_seen, see_map}
+use Rattle.entrycheck.specs.declared.seeing.Masks.{Masks}
+use Rattle.entrycheck.specs.Moving.{Moved, RowsMoved, block_at, no_page, times_left}
 use Rattle.packing.specs.Bitmap.{bit_at, is_one}
 use Rattle.packing.specs.Words.{Bytes, get_word}
 use Rattle.packing.specs.Zeros.{zero_at, zero_bytes}
@@ -29,8 +33,6 @@ use Rattle.rules.specs.WellFormed.{block_below, names}
 use Rattle.tables.proofs.Codes.{formed_three, word_hole, word_stored, word_unmapped}
 use Rattle.tables.specs.Layout.{read_entry}
 use Rattle.tables.specs.Packed.{entry_formed}
-use Rattle.entrycheck.specs.declared.seeing.Masks.{Masks}
-use Rattle.entrycheck.specs.declared.seeing.Left.{Left}
 
 -- ---- one entry, by its word
 
@@ -117,7 +119,7 @@ module _ (limit : ℕ) (t : List ℕ) (at : ℕ) (l : List ℕ) (len : length l 
   page_unmapped p k = ap read_entry (word_zero p k) ∙ word_unmapped 0 (omega arith)
 
   -- LAW: it passes, and nothing is seen
-  pub zero_map : MapSeen limit t at l l (record { ok = true; stored = 0; unmapped = 18446744073709551615 })
+  pub zero_map : MapRead limit t at l l (record { stored = 0; unmapped = 18446744073709551615 })
   zero_map = record {
     passes = record {
       sees = counts_some limit (see_map limit t at) _ _ (map_counts t at limit) (bit_at l 0) (bit_at l 0)
@@ -125,9 +127,8 @@ module _ (limit : ℕ) (t : List ℕ) (at : ℕ) (l : List ℕ) (len : length l 
           (λ b. let q = sum_zero 64 (λ p. hit t at b p) (λ p k. ap (λ e. digit (names b e)) (page_unmapped p k)) in omega arith);
       len = len;
     };
-    stored_is = λ o. sym (eqb-true _ 0 (mask_none is_stored (entries_at t at) ∙ all_of 64 _ (λ p k. ap (λ e. not (is_stored e)) (page_unmapped p k))));
-    unmapped_is = λ o. sym (eqb-true _ 18446744073709551615 (mask_all is_unmapped (entries_at t at) ∙ all_of 64 _ (λ p k. ap is_unmapped (page_unmapped p k))));
-    refused = λ o. absurd (true≢false o);
+    stored_is = sym (eqb-true _ 0 (mask_none is_stored (entries_at t at) ∙ all_of 64 _ (λ p k. ap (λ e. not (is_stored e)) (page_unmapped p k))));
+    unmapped_is = sym (eqb-true _ 18446744073709551615 (mask_all is_unmapped (entries_at t at) ∙ all_of 64 _ (λ p k. ap is_unmapped (page_unmapped p k))));
   }
 
 -- ---- the map that begins at byte `at`
@@ -144,25 +145,12 @@ module _ (limit : ℕ) (t : List ℕ) (bs : Bytes t) (at : ℕ) (l : List ℕ) (
   abbrev Once : Type 0
   Once = (b : ℕ) → digit (bit_at l 0 b) + sum 64 (λ p. hit t at b p) ≤ 1
 
-  -- the masks of a map that does not pass
-  abbrev refused : Masks
-  refused = record { ok = false; stored = 0; unmapped = 0 }
-
-  -- what is left then
-  abbrev Nothing : Masks → List ℕ → Type 0
-  Nothing r l' = (r ≡ refused) × (length l' ≡ 512) × (bit_at l' 0 ≡ none_seen)
-
   -- the map does not pass
-  fails : (r : Masks) (l' : List ℕ) → Nothing r l' → (AllGood → Once → ⊥) → MapSeen limit t at l l' r
-  fails r l' n h = subst (MapSeen limit t at l l') (sym n.0) (record {
-    passes = record {
-      sees = counts_none limit (see_map limit t at) _ _ (map_counts t at limit) (bit_at l 0) (λ g o. h (λ p k. all_at 64 (good t at limit) g p k) o);
-      len = n.1;
-    };
-    stored_is = λ o. absurd (true≢false (sym o));
-    unmapped_is = λ o. absurd (true≢false (sym o));
-    refused = λ o. (refl, n.2);
-  })
+  abbrev Refused : Type 0
+  Refused = see_map limit t at (bit_at l 0) ≡ none
+
+  fails : (AllGood → Once → ⊥) → Refused
+  fails h = counts_none limit (see_map limit t at) _ _ (map_counts t at limit) (bit_at l 0) (λ g o. h (λ p k. all_at 64 (good t at limit) g p k) o)
 
   abbrev S : ℕ
   S = stored_of (words_at t at)
@@ -174,13 +162,13 @@ module _ (limit : ℕ) (t : List ℕ) (bs : Bytes t) (at : ℕ) (l : List ℕ) (
   below_three g p k = test? (ltb (word p) 49152) (λ e. ltb-true (word p) 49152 e) (λ e. absurd (not_three limit (word p) (ltb-false (word p) 49152 e) (g p k)))
 
   -- LAW: a page is of kind 3
-  three_map : (bit_and S H ≡ 0 → ⊥) → (r : Masks) (l' : List ℕ) → Nothing r l' → MapSeen limit t at l l' r
-  three_map h r l' n = fails r l' n (λ g o. h (some_three t bs at (below_three g)))
+  three_map : (bit_and S H ≡ 0 → ⊥) → Refused
+  three_map h = fails (λ g o. h (some_three t bs at (below_three g)))
 
   -- LAW: a block is not plain
-  plain_map : limit ≤ 4096 → all 64 (plain_at t at) ≡ false → (r : Masks) (l' : List ℕ) → Nothing r l' → MapSeen limit t at l l' r
-  plain_map most h r l' n =
-      fails r l' n (λ g o. true≢false (sym (all_of 64 (plain_at t at) (λ p k. test? (plain (word p)) (λ e. e) (λ e. absurd (not_plain limit (word p) most e (g p k))))) ∙ h))
+  plain_map : limit ≤ 4096 → all 64 (plain_at t at) ≡ false → Refused
+  plain_map most h =
+      fails (λ g o. true≢false (sym (all_of 64 (plain_at t at) (λ p k. test? (plain (word p)) (λ e. e) (λ e. absurd (not_plain limit (word p) most e (g p k))))) ∙ h))
 
   -- ---- no kind is 3, and the blocks are plain
 
@@ -199,9 +187,9 @@ module _ (limit : ℕ) (t : List ℕ) (bs : Bytes t) (at : ℕ) (l : List ℕ) (
         ap digit (ap (λ o. o && eqb b (block_at t at p)) (page_is p k) ∙ sym (names_block limit (word p) b (word_lt t bs at p) (plain_at_law p k))))
 
     -- LAW: a block is seen already, or is not below the limit
-    moved_fails : (l' : List ℕ) (left : ℕ → Bool) → Moved limit (block_at t at) l l' (pages S) left false → (r : Masks) (l⁺ : List ℕ) → Nothing r l⁺ → MapSeen limit t at l l⁺ r
-    moved_fails l' left m r l⁺ n =
-        fails r l⁺ n (λ g o. m.fails refl (record {
+    moved_fails : (l' : List ℕ) (left : ℕ → Bool) → Moved limit (block_at t at) l l' (pages S) left false → Refused
+    moved_fails l' left m =
+        fails (λ g o. m.fails refl (record {
           low = λ p k e.
               let h : 32768 ≤ word p = stored_from_law (word p) (sym (page_is p k) ∙ e) in
               let b = ltb-true (word p % 16384) limit (sym (ap (block_below limit) (word_stored (word p) h)) ∙ and_right (entry_formed [] (word p)) _ (g p k)) in
@@ -213,7 +201,7 @@ module _ (limit : ℕ) (t : List ℕ) (bs : Bytes t) (at : ℕ) (l : List ℕ) (
         stored_from_law w e = test? (ltb w 32768) (λ d. let k = ltb-true w 32768 d in let z : w / 32768 ≡ 0 = omega arith in absurd (true≢false (sym e ∙ ap is_one z))) (λ d. ltb-false w 32768 d)
 
     -- LAW: every block is new and below the limit, and is seen now
-    moved_whole : (l' : List ℕ) → Moved limit (block_at t at) l l' (pages S) no_page true → MapSeen limit t at l l' (record { ok = true; stored = S; unmapped = 18446744073709551615 - bit_or S H })
+    moved_whole : (l' : List ℕ) → Moved limit (block_at t at) l l' (pages S) no_page true → MapRead limit t at l l' (record { stored = S; unmapped = 18446744073709551615 - bit_or S H })
     moved_whole l' m = record {
       passes = record {
         sees = counts_some limit (see_map limit t at) _ _ (map_counts t at limit) (bit_at l 0) (bit_at l' 0)
@@ -221,9 +209,8 @@ module _ (limit : ℕ) (t : List ℕ) (bs : Bytes t) (at : ℕ) (l : List ℕ) (
             (λ b. let q = times_hit b in let z = times_none (block_at t at) no_page (λ p k. refl) b in omega (arith, m.counts refl b));
         len = m.len;
       };
-      stored_is = λ o. stored_mask t bs at;
-      unmapped_is = λ o. unmapped_mask t bs at;
-      refused = λ o. absurd (true≢false o);
+      stored_is = stored_mask t bs at;
+      unmapped_is = unmapped_mask t bs at;
     }
 
   -- ---- what the code learns: x and y are the masks that it computed
@@ -232,31 +219,41 @@ module _ (limit : ℕ) (t : List ℕ) (bs : Bytes t) (at : ℕ) (l : List ℕ) (
     both_is : bit_and x y ≡ bit_and S H
     both_is = ap₂ bit_and ex ey
 
-    pub reads_three : (bit_and x y ≡ 0 → ⊥) → (r : Masks) (l' : List ℕ) → Nothing r l' → MapSeen limit t at l l' r
+    pub reads_three : (bit_and x y ≡ 0 → ⊥) → Refused
     reads_three h = three_map (λ q. h (both_is ∙ q))
 
-    module _ (apart : bit_and x y ≡ 0) (ok : Bool) (said : ok ≡ all 64 (plain_at t at)) where
-      pub reads_block : limit ≤ 4096 → ok ≡ false → (r : Masks) (l' : List ℕ) → Nothing r l' → MapSeen limit t at l l' r
-      reads_block most h = plain_map most (sym said ∙ h)
+    module _ (apart : bit_and x y ≡ 0) where
+      pub reads_block : limit ≤ 4096 → false ≡ all 64 (plain_at t at) → Refused
+      reads_block most h = plain_map most (sym h)
 
-      module _ (plain_ok : ok ≡ true) (l' : List ℕ) (left : Left) (m : Moved limit (block_at t at) l l' (pages x) (pages left.pages) left.ok) where
-        rows_moved : (o : Bool) → left.ok ≡ o → Moved limit (block_at t at) l l' (pages S) (pages left.pages) o
-        rows_moved o e = moved_ok limit (block_at t at) l l' (pages S) (pages left.pages) left.ok o e (subst (λ z. Moved limit (block_at t at) l l' (pages z) (pages left.pages) left.ok) ex m)
+      module _ (plains : true ≡ all 64 (plain_at t at)) (l' : List ℕ) where
+        rows_moved : (left : ℕ → Bool) (o : Bool) → Moved limit (block_at t at) l l' (pages x) left o → Moved limit (block_at t at) l l' (pages S) left o
+        rows_moved left o m = subst (λ z. Moved limit (block_at t at) l l' (pages z) left o) ex m
 
-        pub reads_rows : left.ok ≡ false → (r : Masks) (l⁺ : List ℕ) → Nothing r l⁺ → MapSeen limit t at l l⁺ r
-        reads_rows h = moved_fails (sym both_is ∙ apart) (sym said ∙ plain_ok) l' (pages left.pages) (rows_moved false h)
+        pub reads_rows : RowsMoved limit (block_at t at) l l' x None → Refused
+        reads_rows m = moved_fails (sym both_is ∙ apart) (sym plains) l' no_page (rows_moved no_page false m)
 
-        module _ (h : left.ok ≡ true) (l'' : List ℕ) (o : Bool) (n : Moved limit (block_at t at) l' l'' (pages left.pages) no_page o) where
-          pages_moved : (o' : Bool) → o ≡ o' → Moved limit (block_at t at) l l'' (pages S) no_page o'
-          pages_moved o' e =
-              moved_ok limit (block_at t at) l l'' (pages S) no_page o o' e
-              (moved_then limit (block_at t at) l l' l'' (pages S) (pages left.pages) no_page o (rows_moved true h) n)
+        module _ (left : ℕ) (m : RowsMoved limit (block_at t at) l l' x (Some left)) (l'' : List ℕ) where
+          pages_moved : (o : Bool) → Moved limit (block_at t at) l' l'' (pages left) no_page o → Moved limit (block_at t at) l l'' (pages S) no_page o
+          pages_moved o n = moved_then limit (block_at t at) l l' l'' (pages S) (pages left) no_page o (rows_moved (pages left) true m) n
 
-          pub reads_page : o ≡ false → (r : Masks) (l⁺ : List ℕ) → Nothing r l⁺ → MapSeen limit t at l l⁺ r
-          reads_page e = moved_fails (sym both_is ∙ apart) (sym said ∙ plain_ok) l'' no_page (pages_moved false e)
+          pub reads_page : Moved limit (block_at t at) l' l'' (pages left) no_page false → Refused
+          reads_page n = moved_fails (sym both_is ∙ apart) (sym plains) l'' no_page (pages_moved false n)
 
-          pub reads_whole : o ≡ true → MapSeen limit t at l l'' (record { ok = true; stored = x; unmapped = 18446744073709551615 - bit_or x y })
-          reads_whole e =
-              subst (λ z. MapSeen limit t at l l'' (record { ok = true; stored = z; unmapped = 18446744073709551615 - bit_or z y })) (sym ex)
-              (subst (λ z. MapSeen limit t at l l'' (record { ok = true; stored = S; unmapped = 18446744073709551615 - bit_or S z })) (sym ey)
-              (moved_whole (sym both_is ∙ apart) (sym said ∙ plain_ok) l'' (pages_moved true e)))
+          pub reads_whole : Moved limit (block_at t at) l' l'' (pages left) no_page true → MapRead limit t at l l'' (record { stored = x; unmapped = 18446744073709551615 - bit_or x y })
+          reads_whole n =
+              subst (λ z. MapRead limit t at l l'' (record { stored = z; unmapped = 18446744073709551615 - bit_or z y })) (sym ex)
+              (subst (λ z. MapRead limit t at l l'' (record { stored = S; unmapped = 18446744073709551615 - bit_or S z })) (sym ey)
+              (moved_whole (sym both_is ∙ apart) (sym plains) l'' (pages_moved true n)))
+
+-- ---- an answer, and what is seen
+
+module _ (limit : ℕ) (t : List ℕ) (at : ℕ) (l : List ℕ) where
+  pub seen_none : (r : Answer Masks) (l' : List ℕ) → is_some r ≡ false → MatchOption r (see_map limit t at (bit_at l 0) ≡ none) (MapRead limit t at l l') → (l⁺ : List ℕ) → length l⁺ ≡ 512
+      → bit_at l⁺ 0 ≡ none_seen → MapSeen limit t at l l⁺ r
+  seen_none None l' e h l⁺ len n = (record { sees = h; len = len }, n)
+  seen_none (Some m) l' e h l⁺ len n = absurd (true≢false e)
+
+  pub seen_whole : (r : Answer Masks) (l' : List ℕ) → is_some r ≡ true → MatchOption r (see_map limit t at (bit_at l 0) ≡ none) (MapRead limit t at l l') → MapSeen limit t at l l' r
+  seen_whole None l' e h = absurd (true≢false (sym e))
+  seen_whole (Some m) l' e h = h

@@ -13,7 +13,7 @@ use Rattle.base.specs.Count.{all_at, all_of, count, count_less, count_none, coun
 use Rattle.base.specs.Logic.{and_left, digit, same?, test?}
 use Rattle.entrycheck.proofs.Runs.{above_run, in_run_law, in_run, not_in_run, run_counts, run?, run_pass}
 use Rattle.entrycheck.specs.Seeing.{Sees}
-use Rattle.entrycheck.specs.Moving.{Moved, times_left}
+use Rattle.entrycheck.specs.Moving.{Moved, no_page, times_left}
 use Rattle.packing.specs.Bitmap.{bit_at}
 use Rattle.rules.proofs.Blocks.Sums.{sum_same}
 
@@ -101,9 +101,15 @@ module _ (limit : ℕ) (block : ℕ → ℕ) where
     fails = λ o h. b.fails o (record { low = λ p k e. h.low p k (a.within p k e); once = λ c. let q = a.counts refl c in omega (arith, h.once c) });
   }
 
-  -- LAW: whether it went well may be told by another Boolean
-  pub moved_ok : (l l' : List ℕ) (left left' : ℕ → Bool) (ok o : Bool) → ok ≡ o → Moved limit block l l' left left' ok → Moved limit block l l' left left' o
-  moved_ok l l' left left' ok o e m = subst (Moved limit block l l' left left') e m
+  -- LAW: where it did not go well, it makes no difference which pages are left
+  pub moved_not : (l l' : List ℕ) (left left' : ℕ → Bool) → Moved limit block l l' left left' false → Moved limit block l l' left no_page false
+  moved_not l l' left left' m = record {
+    len = m.len;
+    within = λ p q d. absurd (true≢false (sym d));
+    counts = λ o. absurd (true≢false (sym o));
+    low = λ o. absurd (true≢false (sym o));
+    fails = m.fails;
+  }
 
   -- LAW: the pages that are left may be told by another function
   pub moved_left : (l l' : List ℕ) (left left' left'' : ℕ → Bool) (ok : Bool) → ((p : ℕ) → p < 64 → left'' p ≡ left' p)

@@ -1,5 +1,5 @@
 -- The pass over the file records as they stand in the tables: one record, the records so far, and what the whole pass says. Assumes nothing.
-use mathlib.Core.Bool.{◌&&◌, Bool, false, not, true, true≢false}
+use mathlib.Core.Bool.{◌&&◌, Bool, false, true, true≢false}
 use mathlib.Core.List.{List, ◌++◌}
 use mathlib.Core.Option.{some}
 use mathlib.Core.Path.{ap, refl, subst, sym, ◌∙◌, ◌≡◌}
@@ -8,14 +8,14 @@ use native.Mathlib.Omega.{arith}
 use lib.Dec.{ltb}
 use lib.ListN.{get_or, length, length-set, set}
 use lib.Seq.{get_or-set_other, set-get_or}
-use borrow.Author.Tests.{ltb-false, ltb-true, not-false, not-true}
+use borrow.Author.Tests.{ltb-false, ltb-true}
 use Rattle.base.specs.Logic.{same?, test?}
 use Rattle.entrycheck.proofs.EntriesFormed.{entries_formed_law}
 use Rattle.entrycheck.proofs.Lists.{put_more}
 use Rattle.entrycheck.proofs.MapEntries.{zero_map}
 use Rattle.entrycheck.proofs.Through.{through_next, through_refused}
 use Rattle.entrycheck.specs.Records.{AllAre, BlankFrom, EntriesSeen, RecordPassed, record_mask}
-use Rattle.entrycheck.specs.Seeing.{MapSeen, and_then, entries_formed, formed_by, map_in, none_seen, record_count, same_bits, see_all, see_map, through, through_more, through_none}
+use Rattle.entrycheck.specs.Seeing.{MapRead, and_then, entries_formed, formed_by, map_in, none_seen, record_count, same_bits, see_all, see_map, through, through_more, through_none}
 use Rattle.entrycheck.specs.declared.seeing.Masks.{Masks}
 use Rattle.masks.proofs.PageMasks.{mask_same}
 use Rattle.masks.specs.Pages.{entries_at, page_mask}
@@ -34,12 +34,12 @@ NotPassed stored unmapped r = (r ≡ false) × AllAre record_count stored 0 × A
 -- ---- one record
 module _ (limit : ℕ) (files : List ℕ) (i : ℕ) where
   -- LAW: its entries have been looked at
-  pub record_entries : (seen seen' stored unmapped : List ℕ) (m : Masks) → MapSeen limit files (map_in i) seen seen' m
-      → RecordPassed limit files i seen seen' stored (set stored i m.stored) unmapped (set unmapped i m.unmapped) m.ok
+  pub record_entries : (seen seen' stored unmapped : List ℕ) (m : Masks) → MapRead limit files (map_in i) seen seen' m
+      → RecordPassed limit files i seen seen' stored (set stored i m.stored) unmapped (set unmapped i m.unmapped) true
   record_entries seen seen' stored unmapped m k = record {
     passes = k.passes;
-    stored_is = λ o. ap (set stored i) (k.stored_is o);
-    unmapped_is = λ o. ap (set unmapped i) (k.unmapped_is o);
+    stored_is = λ o. ap (set stored i) k.stored_is;
+    unmapped_is = λ o. ap (set unmapped i) k.unmapped_is;
   }
 
   -- LAW: its map is all zero
@@ -49,8 +49,8 @@ module _ (limit : ℕ) (files : List ℕ) (i : ℕ) where
       let k = zero_map limit files (map_in i) seen len z in
       record {
         passes = k.passes;
-        stored_is = λ o. sym (set-get_or stored i 0) ∙ ap (set stored i) (a ∙ k.stored_is refl);
-        unmapped_is = λ o. sym (set-get_or unmapped i 0) ∙ ap (set unmapped i) (b ∙ k.unmapped_is refl);
+        stored_is = λ o. sym (set-get_or stored i 0) ∙ ap (set stored i) (a ∙ k.stored_is);
+        unmapped_is = λ o. sym (set-get_or unmapped i 0) ∙ ap (set unmapped i) (b ∙ k.unmapped_is);
       }
 
 -- ---- the masks of the first i records, by one test; those of the others are v, as they were
@@ -94,16 +94,14 @@ module _ (limit : ℕ) (files : List ℕ) where
 
   module _ (seen stored unmapped : List ℕ) (i : ℕ) (k : RecordsPassed limit files seen stored unmapped i) where
     -- LAW: a record that passes
-    pub records_next : i < record_count → (seen' stored' unmapped' : List ℕ) (ok : Bool) → RecordPassed limit files i seen seen' stored stored' unmapped unmapped' ok → not ok ≡ false
+    pub records_next : i < record_count → (seen' stored' unmapped' : List ℕ) → RecordPassed limit files i seen seen' stored stored' unmapped unmapped' true
         → RecordsPassed limit files seen' stored' unmapped' (i + 1)
-    records_next li seen' stored' unmapped' ok x h =
-        let o = not-false ok h in
-        record {
-          passed = through_next (λ i. see_map limit files (map_in i)) none_seen i seen seen' ok k.passed x.passes o;
-          len = x.passes.len;
-          stored_to = masks_next is_stored files stored 0 i k.stored_to li stored' (x.stored_is o);
-          unmapped_to = masks_next is_unmapped files unmapped 18446744073709551615 i k.unmapped_to li unmapped' (x.unmapped_is o);
-        }
+    records_next li seen' stored' unmapped' x = record {
+      passed = through_next (λ i. see_map limit files (map_in i)) none_seen i seen seen' true k.passed x.passes refl;
+      len = x.passes.len;
+      stored_to = masks_next is_stored files stored 0 i k.stored_to li stored' (x.stored_is refl);
+      unmapped_to = masks_next is_unmapped files unmapped 18446744073709551615 i k.unmapped_to li unmapped' (x.unmapped_is refl);
+    }
 
     -- the records from i on are all zero
     module _ (n : ℕ) (b : BlankFrom files n) (e : i ≡ n * file_count) where
@@ -112,7 +110,7 @@ module _ (limit : ℕ) (files : List ℕ) where
           let q : map_in x + j ≡ x * file_bytes + (j + head_bytes) = omega arith in
           ap (λ a. get_or files a 0) q ∙ b.zero x (j + head_bytes) (omega arith) h (omega arith))
 
-      zero_here : (x : ℕ) → i ≤ x → x < record_count → MapSeen limit files (map_in x) seen seen (record { ok = true; stored = 0; unmapped = 18446744073709551615 })
+      zero_here : (x : ℕ) → i ≤ x → x < record_count → MapRead limit files (map_in x) seen seen (record { stored = 0; unmapped = 18446744073709551615 })
       zero_here x l h = zero_map limit files (map_in x) seen k.len (zero_bytes_law x l h)
 
       passed_to : (x : ℕ) → i ≤ x → x ≤ record_count → through x (λ i. see_map limit files (map_in i)) none_seen ≡ some (bit_at seen 0)
@@ -124,10 +122,10 @@ module _ (limit : ℕ) (files : List ℕ) where
           ∙ (zero_here x (omega arith) (omega arith)).passes.sees)
 
       all_stored : (x : ℕ) → x < record_count → get_or stored x 0 ≡ record_mask is_stored files x
-      all_stored = masks_all is_stored files stored 0 i k.stored_to (λ x l h. (zero_here x l h).stored_is refl)
+      all_stored = masks_all is_stored files stored 0 i k.stored_to (λ x l h. (zero_here x l h).stored_is)
 
       all_unmapped : (x : ℕ) → x < record_count → get_or unmapped x 0 ≡ record_mask is_unmapped files x
-      all_unmapped = masks_all is_unmapped files unmapped 18446744073709551615 i k.unmapped_to (λ x l h. (zero_here x l h).unmapped_is refl)
+      all_unmapped = masks_all is_unmapped files unmapped 18446744073709551615 i k.unmapped_to (λ x l h. (zero_here x l h).unmapped_is)
 
 -- ---- what the pass over all records says of the tables
 module _ (front files : List ℕ) (len : length front ≡ files_at) (limit : ℕ) (el : limit ≡ (unpack front).blocks) (most : (unpack front).blocks ≤ 4096) where
@@ -153,25 +151,25 @@ module _ (front files : List ℕ) (len : length front ≡ files_at) (limit : ℕ
 
   module _ (seen stored unmapped : List ℕ) (i : ℕ) (k : RecordsPassed limit files seen stored unmapped i) where
     -- LAW: a record does not pass
-    pub records_refused : i < record_count → (seen' stored' unmapped' : List ℕ) (ok : Bool) → RecordPassed limit files i seen seen' stored stored' unmapped unmapped' ok → not ok ≡ true
+    pub records_refused : i < record_count → (seen' stored' unmapped' : List ℕ) → RecordPassed limit files i seen seen' stored stored' unmapped unmapped' false
         → (stored⁺ unmapped⁺ : List ℕ) (r : Bool) → NotPassed stored⁺ unmapped⁺ r → EntriesSeen t stored⁺ unmapped⁺ r
-    records_refused li seen' stored' unmapped' ok x h stored⁺ unmapped⁺ r n =
+    records_refused li seen' stored' unmapped' x stored⁺ unmapped⁺ r n =
         entries_refused stored⁺ unmapped⁺ r n
-        (sym (ap (formed_by front) (through_refused (λ i. see_map limit files (map_in i)) none_seen i seen seen' ok k.passed x.passes record_count li (not-true ok h))) ∙ by_limit)
+        (sym (ap (formed_by front) (through_refused (λ i. see_map limit files (map_in i)) none_seen i seen seen' false k.passed x.passes record_count li refl)) ∙ by_limit)
 
     -- all records have passed, and the bits decide
     bits_decide : (n : ℕ) → BlankFrom files n → i ≡ n * file_count → (m : Bool) → m ≡ same_bits front (bit_at seen 0) → m ≡ (kinds_formed t && bits_formed (unpack t))
     bits_decide n b e m q = q ∙ sym (ap (formed_by front) (passed_to limit files seen stored unmapped i k n b e record_count (omega (arith, b.most)) (omega arith))) ∙ by_limit
 
     -- LAW: the bits are others
-    pub bits_refused : (n : ℕ) → BlankFrom files n → i ≡ n * file_count → (m : Bool) → m ≡ same_bits front (bit_at seen 0) → not m ≡ true
+    pub bits_refused : (n : ℕ) → BlankFrom files n → i ≡ n * file_count → false ≡ same_bits front (bit_at seen 0)
         → (stored⁺ unmapped⁺ : List ℕ) (r : Bool) → NotPassed stored⁺ unmapped⁺ r → EntriesSeen t stored⁺ unmapped⁺ r
-    bits_refused n b e m q h stored⁺ unmapped⁺ r p = entries_refused stored⁺ unmapped⁺ r p (sym (not-true m h) ∙ bits_decide n b e m q)
+    bits_refused n b e q stored⁺ unmapped⁺ r p = entries_refused stored⁺ unmapped⁺ r p (bits_decide n b e false q)
 
     -- LAW: they are the same
-    pub records_done : (n : ℕ) → BlankFrom files n → i ≡ n * file_count → (m : Bool) → m ≡ same_bits front (bit_at seen 0) → not m ≡ false → EntriesSeen t stored unmapped true
-    records_done n b e m q h = record {
-      decided = sym (not-false m h) ∙ bits_decide n b e m q;
+    pub records_done : (n : ℕ) → BlankFrom files n → i ≡ n * file_count → true ≡ same_bits front (bit_at seen 0) → EntriesSeen t stored unmapped true
+    records_done n b e q = record {
+      decided = bits_decide n b e true q;
       refused = λ o. absurd (true≢false o);
       masks = λ o. record {
         stored_len = k.stored_to.len;

@@ -1,5 +1,6 @@
 -- Blocks that become seen, one page and four pages at a time, and the masks of what is left. Assumes nothing.
-use mathlib.Core.Bool.{Bool, false, true, true≢false}
+use Rattle.std.specs.Prelude.{None, Some}
+use mathlib.Core.Bool.{false, true}
 use mathlib.Core.List.{List}
 use mathlib.Core.Path.{ap, refl, subst, sym, ◌∙◌, ◌≡◌}
 use Prim.Native.Nat.{◌%◌, ◌*◌, ◌+◌, ◌-◌, ◌/◌, ◌<◌, ◌^◌, ℕ, ◌≤◌}
@@ -11,10 +12,10 @@ use lib.ListN.{length}
 use Rattle.base.specs.Logic.{same?}
 use Rattle.masks.proofs.LowestBit.{Lowest, lowest_is}
 use Rattle.masks.specs.Pages.{pages}
-use Rattle.entrycheck.proofs.MovedPages.{moved_left, moved_none, moved_then, row_fails, row_moved, without}
+use Rattle.entrycheck.proofs.MovedPages.{moved_left, moved_none, moved_not, moved_then, row_fails, row_moved, without}
 use Rattle.entrycheck.proofs.PageBits.{cleared_pages, four_cleared, lowest_cleared, rest, rows_on}
 use Rattle.entrycheck.proofs.Runs.{run_pass}
-use Rattle.entrycheck.specs.Seeing.{Sees, Pass}
+use Rattle.entrycheck.specs.Seeing.{Sees}
 use Rattle.entrycheck.specs.Moving.{FourInARow, Full, Moved, RowMoved, block_at, no_page, rows}
 use Rattle.packing.specs.Bitmap.{is_one}
 use Rattle.packing.specs.Bits.{bit, bit_none}
@@ -47,15 +48,9 @@ module _ (limit : ℕ) (t : List ℕ) (at : ℕ) (l₀ l l' : List ℕ) (m left 
   -- LAW: it cannot
   pub page_not : Sees (run_pass limit b 1) l l' false → Moved limit (block_at t at) l₀ l' (pages m) no_page false
   page_not s =
-      let r = moved_then limit (block_at t at) l₀ l l' (pages m) (pages left) (pages left) false inv
-      (row_fails limit (block_at t at) l l' (pages left) (63 - k) 1 b (omega (arith, lowest.0)) on row s) in
-      record {
-        len = r.len;
-        within = λ p q d. absurd (true≢false (sym d));
-        counts = λ o. absurd (true≢false (sym o));
-        low = λ o. absurd (true≢false (sym o));
-        fails = r.fails;
-      }
+      moved_not limit (block_at t at) l₀ l' (pages m) (pages left)
+      (moved_then limit (block_at t at) l₀ l l' (pages m) (pages left) (pages left) false inv
+      (row_fails limit (block_at t at) l l' (pages left) (63 - k) 1 b (omega (arith, lowest.0)) on row s))
 
 -- LAW: no page is left
 pub pages_done : (limit : ℕ) (t : List ℕ) (at : ℕ) (l₀ l : List ℕ) (m left : ℕ) → left ≡ 0
@@ -67,7 +62,7 @@ pages_done limit t at l₀ l m left e s =
 
 module _ (limit : ℕ) (t : List ℕ) (at : ℕ) (l l' : List ℕ) (m k : ℕ) where
   -- LAW: they are left
-  pub row_none : length l ≡ 512 → RowMoved limit (block_at t at) l l m k (record { ok = true; pages = m })
+  pub row_none : length l ≡ 512 → RowMoved limit (block_at t at) l l m k (Some m)
   row_none h = record { moved = moved_none limit (block_at t at) l (pages m) h; others = λ j q o. refl }
 
   module _ (hk : k < 61) (full : Full m k) (r : FourInARow t (at + (60 - k) * 2)) (b : ℕ) (e : b ≡ get_word 1 t (at + (60 - k) * 2) % 4096) where
@@ -80,11 +75,14 @@ module _ (limit : ℕ) (t : List ℕ) (at : ℕ) (l l' : List ℕ) (m k : ℕ) w
         ap (λ a. get_word 1 t a % 4096) c ∙ r.row j q ∙ ap (λ a. get_word 1 t a % 4096 + j) (add-zero (at + (60 - k) * 2)) ∙ ap (λ z. z + j) (sym e)
 
     -- LAW: one of their blocks is seen already, or is not below the limit
-    pub row_no : Sees (run_pass limit b 4) l l' false → RowMoved limit (block_at t at) l l' m k (record { ok = false; pages = m })
-    row_no s = record { moved = row_fails limit (block_at t at) l l' (pages m) (60 - k) 4 b (omega arith) four_on four_row s; others = λ j q o. refl }
+    pub row_no : Sees (run_pass limit b 4) l l' false → RowMoved limit (block_at t at) l l' m k None
+    row_no s = record {
+      moved = moved_not limit (block_at t at) l l' (pages m) (pages m) (row_fails limit (block_at t at) l l' (pages m) (60 - k) 4 b (omega arith) four_on four_row s);
+      others = tt;
+    }
 
     -- LAW: their blocks become seen
-    pub row_yes : Sees (run_pass limit b 4) l l' true → RowMoved limit (block_at t at) l l' m k (record { ok = true; pages = rest m k hk })
+    pub row_yes : Sees (run_pass limit b 4) l l' true → RowMoved limit (block_at t at) l l' m k (Some (rest m k hk))
     row_yes s = record {
       moved = moved_left limit (block_at t at) l l' (pages m) (without (60 - k) 4 (pages m)) (pages (rest m k hk)) true
           (cleared_pages m (rest m k hk) k 4 (omega arith) (four_cleared m k hk))
@@ -125,6 +123,3 @@ module _ (q left k : ℕ) (h : 0 < q) (lt : q < 2 ^ 64) (w : Whole q left) (z : 
 
 pub room_of : (t : List ℕ) (at b : ℕ) → FourInARow t at → b ≡ get_word 1 t at % 4096 → b % 64 < 61
 room_of t at b r e = subst (λ z. z % 64 < 61) (ap (λ a. get_word 1 t a % 4096) (add-zero at) ∙ sym e) r.room
-
-pub as_said : (pass : Pass) (l l' : List ℕ) (ok o : Bool) → ok ≡ o → Sees pass l l' ok → Sees pass l l' o
-as_said pass l l' ok o e m = subst (Sees pass l l') e m

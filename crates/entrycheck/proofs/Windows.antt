@@ -163,6 +163,9 @@ bytes_put (suc m) l i v h k bs =
 shr_le : (x s : ℕ) → x / 2 ^ s ≤ x
 shr_le x s = div-le_self x (2 ^ s)
 
+pub four_lt : (x b : ℕ) → x < 256 ^ 8 → bit_or x (0xF000000000000000 / 2 ^ (b % 64)) < 256 ^ 8
+four_lt x b h = or_lt 64 x (0xF000000000000000 / 2 ^ (b % 64)) h (let q = shr_le 0xF000000000000000 (b % 64) in omega arith)
+
 module _ (limit : ℕ) (l : List ℕ) (bs : Bytes l) (len : length l ≡ 512) (b : ℕ) where
   at_block : 8 * (b / 8) + b % 8 ≡ b
   at_block = omega arith

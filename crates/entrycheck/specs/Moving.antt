@@ -1,6 +1,6 @@
 -- Blocks of the pages that a mask has become blocks seen, in whatever order: what is seen and what the pages left name are together what they were.
 -- Assumes nothing.
-use Rattle.std.specs.Prelude.{◌&&◌, Bool, false, true, List, ◌≡◌, ◌%◌, ◌*◌, ◌+◌, ◌/◌, ◌<◌, ℕ, ◌≤◌, eqb, length}
+use Rattle.std.specs.Prelude.{Option, None, Some, IfSome, ◌&&◌, Bool, false, true, List, ◌≡◌, ◌%◌, ◌*◌, ◌+◌, ◌/◌, ◌<◌, ℕ, ◌≤◌, eqb, length}
 use Rattle.std.specs.Int.Bits.{bit_and}
 use Rattle.base.specs.Count.{count}
 use Rattle.base.specs.Logic.{digit}
@@ -8,7 +8,6 @@ use Rattle.masks.specs.Pages.{pages}
 use Rattle.packing.specs.Bitmap.{bit_at, is_one}
 use Rattle.packing.specs.Bits.{bit}
 use Rattle.packing.specs.Words.{get_word}
-use Rattle.entrycheck.specs.declared.seeing.Left.{Left}
 
 abbrev pub no_page : ℕ → Bool
 no_page p = false
@@ -47,7 +46,12 @@ pub record FourInARow (t : List ℕ) (at : ℕ) : Type 0 where
   pub row : (j : ℕ) → j < 4 → block_at t at j ≡ block_at t at 0 + j
   pub room : block_at t at 0 % 64 < 61
 
+-- pages of the mask m: those that are left, or None where a block cannot become seen
+abbrev pub RowsMoved : (limit : ℕ) → (ℕ → ℕ) → List ℕ → List ℕ → ℕ → Option ℕ → Type 0
+RowsMoved limit block seen seen' m None = Moved limit block seen seen' (pages m) no_page false
+RowsMoved limit block seen seen' m (Some left) = Moved limit block seen seen' (pages m) (pages left) true
+
 -- the pages of the bits k, .., k + 3 and no other
-pub record RowMoved (limit : ℕ) (block : ℕ → ℕ) (seen seen' : List ℕ) (m k : ℕ) (r : Left) : Type 0 where
-  pub moved : Moved limit block seen seen' (pages m) (pages r.pages) r.ok
-  pub others : (j : ℕ) → j < 64 → (k ≤ j → j < k + 4 → ⊥) → bit r.pages j ≡ bit m j
+pub record RowMoved (limit : ℕ) (block : ℕ → ℕ) (seen seen' : List ℕ) (m k : ℕ) (r : Option ℕ) : Type 0 where
+  pub moved : RowsMoved limit block seen seen' m r
+  pub others : IfSome r (λ left. (j : ℕ) → j < 64 → (k ≤ j → j < k + 4 → ⊥) → bit left j ≡ bit m j)

@@ -1,6 +1,7 @@
 -- The entries of the tables, one after the other, against the blocks seen so far: an entry passes where its kind is not 3, its block is 0 unless stored,
 -- and the block of a stored one is below the limit and not seen yet. Assumes nothing.
-use Rattle.std.specs.Prelude.{Bool, ◌&&◌, cond, false, not, true, List, [], refl, ◌≡◌, ◌*◌, ◌+◌, ◌<◌, suc, zero, ℕ, ltb, length}
+use Rattle.std.specs.Prelude.{Option as Answer}
+use Rattle.std.specs.Prelude.{None, Some, Bool, ◌&&◌, cond, false, not, true, List, [], refl, ◌≡◌, ◌*◌, ◌+◌, ◌<◌, suc, zero, ℕ, ltb, length}
 use Rattle.std.specs.Bool.{beq}
 use Rattle.std.proofs.Math.Option.{Option, none, some}
 use Rattle.std.proofs.Common.{sym}
@@ -111,9 +112,13 @@ pub record Sees (pass : Pass) (seen seen' : List ℕ) (ok : Bool) : Type 0 where
   pub sees : pass (bit_at seen 0) ≡ outcome ok (bit_at seen' 0)
   pub len : length seen' ≡ 512
 
--- the entries of the map that begins at byte `at`: what is seen, and which pages are stored and which unmapped; no block and no page where an entry does not pass
-pub record MapSeen (limit : ℕ) (t : List ℕ) (at : ℕ) (seen seen' : List ℕ) (r : Masks) : Type 0 where
-  pub passes : Sees (see_map limit t at) seen seen' r.ok
-  pub stored_is : r.ok ≡ true → r.stored ≡ page_mask is_stored (entries_at t at)
-  pub unmapped_is : r.ok ≡ true → r.unmapped ≡ page_mask is_unmapped (entries_at t at)
-  pub refused : r.ok ≡ false → (r ≡ record { ok = false; stored = 0; unmapped = 0 }) × (bit_at seen' 0 ≡ none_seen)
+-- the entries of the map that begins at byte `at`, where each passes: what is seen, and which pages are stored and which unmapped
+pub record MapRead (limit : ℕ) (t : List ℕ) (at : ℕ) (seen seen' : List ℕ) (r : Masks) : Type 0 where
+  pub passes : Sees (see_map limit t at) seen seen' true
+  pub stored_is : r.stored ≡ page_mask is_stored (entries_at t at)
+  pub unmapped_is : r.unmapped ≡ page_mask is_unmapped (entries_at t at)
+
+-- the entries of the map that begins at byte `at`: no block is seen and no masks are given where an entry does not pass
+abbrev pub MapSeen : (limit : ℕ) → List ℕ → ℕ → List ℕ → List ℕ → Answer Masks → Type 0
+MapSeen limit t at seen seen' None = Sees (see_map limit t at) seen seen' false × (bit_at seen' 0 ≡ none_seen)
+MapSeen limit t at seen seen' (Some r) = MapRead limit t at seen seen' r

@@ -6,7 +6,7 @@
 ghost use Rattle.std.specs.Prelude.{◌≡◌, ◌≤◌, length};
 ghost use Rattle.packing.specs.Bitmap.{bit_at};
 ghost use Rattle.tables.specs.Layout.{files_at};
-ghost use Rattle.entrycheck.specs.Seeing.{none_seen, same_bits};
+ghost use Rattle.entrycheck.specs.Seeing.{same_bits};
 
 use tables::places::BITMAP_AT;
 
@@ -14,23 +14,14 @@ pub mod plain;
 pub mod records;
 pub mod seeing;
 
-// No block is seen.
-pub fn no_bits() -> [u8; 512]
-    ensures { (length result ≡ 512) × (bit_at result 0 ≡ none_seen) }
-{
-    [0; 512]
-}
-
 // Are the blocks seen those whose bits are 1? No byte is tested alone, so that many are looked at at once.
-pub fn maps_equal(t: &[u8], seen: &[u8]) -> bool
-    requires { (files_at ≤ length t.now) × (length seen.now ≡ 512) }
+pub fn maps_equal(t: &[u8], seen: &[u8; 512]) -> bool
+    requires { files_at ≤ length t.now }
     ensures { result ≡ same_bits t.now (bit_at seen.now 0) }
 {
     let mut x: u8 = 0;
-    let mut i: usize = 0;
-    while i < 512 {
-        x = x | (t[BITMAP_AT + i] ^ seen[i]);
-        i += 1;
+    for i in 0..512 {
+        x |= t[BITMAP_AT + i] ^ seen[i];
     }
     x == 0
 }

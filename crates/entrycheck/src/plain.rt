@@ -9,10 +9,7 @@ use packing::words;
 fn unless_stored(e: u16) -> u16
     ensures { result ≡ cond (ltb (e % 256) 128) e 0 }
 {
-    if e % 256 < 128 {
-        return e;
-    }
-    0
+    if e % 256 < 128 { e } else { 0 }
 }
 
 // Is every block below 4,096, and 0 unless the entry is stored?
@@ -22,15 +19,10 @@ pub fn blocks_plain(t: &[u8], at: usize) -> bool
 {
     let mut any: u16 = 0;
     let mut plain: u16 = 0;
-    let mut i: usize = 0;
-    while i < 64 {
-        let e = words::low16(t, at + i * 2);
-        any = any | e;
-        plain = plain | unless_stored(e);
-        i += 1;
+    for i in 0..64 {
+        let e = words::low::<2>(t, at + i * 2) as u16;
+        any |= e;
+        plain |= unless_stored(e);
     }
-    if any & 0x0030 != 0 {
-        return false;
-    }
-    plain & 0xFF3F == 0
+    any & 0x0030 == 0 && plain & 0xFF3F == 0
 }

@@ -5,8 +5,8 @@ use mathlib.Core.Path.{ap, refl, sym, ◌∙◌, ◌≡◌}
 use Prim.Native.Nat.{◌%◌, ◌/◌, ◌<◌, suc, zero, ℕ}
 use native.Mathlib.Omega.{arith}
 use lib.Dec.{eqb}
-use borrow.Author.Tests.{eq-eqb, le-leb, lt-leb, ne_eqb, not-false, not-true}
-use Rattle.base.specs.Logic.{and_both, and_false, and_left, and_right, and_true, or_right}
+use borrow.Author.Tests.{le-leb, lt-leb, ne_eqb}
+use Rattle.base.specs.Logic.{and_both, and_left, and_right, and_true, or_right}
 use Rattle.masks.proofs.PageMasks.{mask_all, mask_some}
 use Rattle.masks.specs.Pages.{page_mask}
 use Rattle.formed.specs.Files.{alone_formed, file_alone, head_formed, state_formed}
@@ -18,52 +18,8 @@ use Rattle.tables.proofs.ReadParts.{read_size_law, read_state_law}
 use Rattle.tables.specs.Layout.{head_widths, head_word, read_size, read_state, state_of}
 use Rattle.tables.specs.Packed.{unpack}
 
--- ---- size 0 and only unmapped entries
-pub zero_size : (n u : ℕ) → (n ≡ 0 → ⊥) → false ≡ (eqb n 0 && eqb u 18446744073709551615)
-zero_size n u h = rw (ne_eqb n 0 h)
-
-pub zero_map : (n u : ℕ) → n ≡ 0 → eqb u 18446744073709551615 ≡ (eqb n 0 && eqb u 18446744073709551615)
-zero_map n u h = rw (eq-eqb n 0 h)
-
 or_true : (a : Bool) → (a || true) ≡ true
 or_true a = or_right a true refl
-
-not_not : (b : Bool) → not (not b) ≡ b
-not_not true = refl
-not_not false = refl
-
--- ---- a file that is not absent, by its state k
-module _ (older : Bool) (k n : ℕ) (every any root : Bool) where
-  pub own_other : k ≡ 1 → not root ≡ true → true ≡ state_formed older (state_of k) n every any root
-  unfolding state_formed
-  own_other e r = rw (e, not-true root r, or_true older)
-
-  -- set 0 has no other
-  pub other_root : 0 < k → k < 4 → (k ≡ 1 → ⊥) → root ≡ true → false ≡ state_formed older (state_of k) n every any root
-  unfolding state_formed
-  other_root h l m r = rw r (go k h l m)
-    where
-      go : (k : ℕ) → 0 < k → k < 4 → (k ≡ 1 → ⊥) → false ≡ state_formed older (state_of k) n every any true
-      go zero h l m = absurd (omega arith)
-      go (suc zero) h l m = absurd (m refl)
-      go (suc (suc zero)) h l m = sym (and_false ((eqb n 0 && every) && (older || true)))
-      go (suc (suc (suc k))) h l m = sym (and_false (older || (eqb n 0 && every)))
-
-  pub virgin_other : (b : Bool) → k ≡ 2 → root ≡ false → b ≡ (eqb n 0 && every) → b ≡ state_formed older (state_of k) n every any root
-  unfolding state_formed
-  virgin_other b e r q = q ∙ rw (e, r, or_true older, and_true (eqb n 0 && every)) (sym (and_true (eqb n 0 && every)))
-
-  pub marked_kept : k ≡ 3 → root ≡ false → older ≡ true → true ≡ state_formed older (state_of k) n every any root
-  unfolding state_formed
-  marked_kept e r o = rw (e, r, o)
-
-  pub marked_other : (b : Bool) → k ≡ 3 → root ≡ false → older ≡ false → b ≡ (eqb n 0 && every) → b ≡ state_formed older (state_of k) n every any root
-  unfolding state_formed
-  marked_other b e r o q = q ∙ rw (e, r, o) (sym (and_true (eqb n 0 && every)))
-
-pub own_root : (older : Bool) (k n u : ℕ) (every root : Bool) → not root ≡ false → k ≡ 1 → eqb u 0 ≡ state_formed older (state_of k) n every (not (eqb u 0)) root
-unfolding state_formed
-own_root older k n u every root r e = rw (e, not-false root r, or_true older) (sym (not_not (eqb u 0)))
 
 -- ---- a file by the word of its head
 zero_field : (w : ℕ) → get_field head_widths w 2 ≡ w % 16384
@@ -103,18 +59,18 @@ module _ (older : Bool) (w u : ℕ) (used root : Bool) where
         q ∙ sym (parts ∙ ap (λ x. alone_formed older 0 (state_of x) n (eqb u 18446744073709551615) (not (eqb u 0)) used root) e
         ∙ alone_absent older n (eqb u 18446744073709551615) (not (eqb u 0)) used root)
 
-    pub head_unused : (k ≡ 0 → ⊥) → not used ≡ true → false ≡ head_formed older w u used root
+    pub head_unused : (k ≡ 0 → ⊥) → used ≡ false → false ≡ head_formed older w u used root
     unfolding alone_formed
-    head_unused h r = sym (parts ∙ rw (not_absent k h, not-true used r))
+    head_unused h r = sym (parts ∙ rw (not_absent k h, r))
 
-    pub head_over : (k ≡ 0 → ⊥) → not used ≡ false → 32768 < n → false ≡ head_formed older w u used root
+    pub head_over : (k ≡ 0 → ⊥) → used ≡ true → 32768 < n → false ≡ head_formed older w u used root
     unfolding alone_formed
-    head_over h r l = sym (parts ∙ rw (not_absent k h, not-false used r, lt-leb n 32768 l))
+    head_over h r l = sym (parts ∙ rw (not_absent k h, r, lt-leb n 32768 l))
 
-    pub head_state : (b : Bool) → (k ≡ 0 → ⊥) → not used ≡ false → n < 32769 → b ≡ state_formed older (state_of k) n (eqb u 18446744073709551615) (not (eqb u 0)) root
+    pub head_state : (b : Bool) → (k ≡ 0 → ⊥) → used ≡ true → n < 32769 → b ≡ state_formed older (state_of k) n (eqb u 18446744073709551615) (not (eqb u 0)) root
         → b ≡ head_formed older w u used root
     unfolding alone_formed
-    head_state b h r l q = q ∙ sym (parts ∙ rw (not_absent k h, not-false used r, le-leb n 32768 (omega arith)))
+    head_state b h r l q = q ∙ sym (parts ∙ rw (not_absent k h, r, le-leb n 32768 (omega arith)))
 
   -- LAW: a head that is 0
   pub head_zero : w ≡ 0 → eqb u 18446744073709551615 ≡ head_formed older w u used root

@@ -7,26 +7,17 @@ use native.Mathlib.Omega.{arith}
 use lib.Dec.{eqb}
 use lib.ListN.{get_or, length}
 use Rattle.base.specs.Count.{all_of}
-use Rattle.base.specs.Logic.{same?}
 use Rattle.entrycheck.specs.Records.{BlankFrom}
 use Rattle.masks.proofs.PageMasks.{mask_all}
 use Rattle.masks.specs.Pages.{page_mask}
 use Rattle.formed.proofs.AloneRules.{alone_zero}
 use Rattle.formed.specs.Files.{end_of, file_alone}
-use Rattle.formed.specs.Heads.{UnusedFrom}
 use Rattle.packing.specs.Zeros.{zero_at, zero_bytes}
-use Rattle.rules.specs.State.{File, SetRecord, absent_file, file_count, is_unmapped, live}
+use Rattle.rules.specs.State.{File, absent_file, file_count, is_unmapped, live}
 use Rattle.tables.proofs.Parts.{byte_files}
 use Rattle.tables.proofs.ZeroFiles.{file_zero, head_zero}
 use Rattle.tables.specs.Layout.{file_at, file_bytes, files_at, head_word, set_files_bytes}
 use Rattle.tables.specs.Packed.{unpack}
-
--- LAW: one unused set more; r is the record of set n - 1
-pub unused_next : (t : List ℕ) (n : ℕ) (r : SetRecord) → 0 < n → UnusedFrom (unpack t).sets n → r ≡ (unpack t).sets (n - 1) → r.used ≡ false
-    → UnusedFrom (unpack t).sets (n - 1)
-unused_next t n r h u e k s a b = same? s (n - 1)
-    (λ q. ap (λ x. ((unpack t).sets x).used) q ∙ sym (ap (λ (x : SetRecord). x.used) e) ∙ k)
-    (λ q. u s (omega arith) b)
 
 -- ---- file f of a set s from which on the file records are blank
 module _ (front files : List ℕ) (len : length front ≡ files_at) (n : ℕ) (b : BlankFrom files n) (f s : ℕ) (lf : f < 16) (ln : n ≤ s) (ls : s < 8) where
@@ -66,7 +57,3 @@ blank_from files n most e = record {
       let q : n * set_files_bytes + ((i - n * file_count) * file_bytes + j) ≡ i * file_bytes + j = omega arith in
       ap (λ a. get_or files a 0) (sym q) ∙ zero_at files (n * set_files_bytes) ((8 - n) * set_files_bytes) e ((i - n * file_count) * file_bytes + j) (omega arith);
 }
-
--- LAW: no file record is from set 8 on
-pub blank_none : (front files : List ℕ) → BlankFrom files 8 × UnusedFrom (unpack front).sets 8
-blank_none front files = (record { most = omega arith; zero = λ i j l h k. absurd (omega arith) }, λ s a b. absurd (omega arith))

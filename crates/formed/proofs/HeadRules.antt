@@ -8,7 +8,7 @@ use lib.Bits.{bit_or, or_zero_r}
 use lib.Dec.{eqb, ltb}
 use lib.ListN.{get_or, length, length-set, set}
 use lib.Seq.{get_or-set_other, set-get_or}
-use borrow.Author.Tests.{eq-eqb, ltb-false, ltb-true, ne_eqb, not-false, not-true}
+use borrow.Author.Tests.{ltb-false, ltb-true}
 use Rattle.base.specs.Count.{all, all_at, all_not, all_of}
 use Rattle.base.specs.Logic.{and_false, and_true, same?, test?}
 use Rattle.entrycheck.proofs.Lists.{put_more}
@@ -27,18 +27,6 @@ use Rattle.packing.specs.Words.{get_word, low_word}
 use Rattle.rules.specs.State.{State, is_unmapped, live, set_count}
 use Rattle.tables.specs.Layout.{files_at, head_word, read_size, state_of}
 use Rattle.tables.specs.Packed.{unpack}
-
--- ---- a virgin file of size 0
-module _ (s digit u : ℕ) where
-  pub virgin_unused : digit ≡ 0 → false ≡ (not (eqb digit 0) && (eqb u 18446744073709551615 && not (eqb s 0)))
-  virgin_unused e = rw (eq-eqb digit 0 e)
-
-  module _ (h : digit ≡ 0 → ⊥) where
-    pub virgin_mapped : (u ≡ 18446744073709551615 → ⊥) → false ≡ (not (eqb digit 0) && (eqb u 18446744073709551615 && not (eqb s 0)))
-    virgin_mapped n = rw (ne_eqb digit 0 h, ne_eqb u 18446744073709551615 n)
-
-    pub virgin_set : u ≡ 18446744073709551615 → not (eqb s 0) ≡ (not (eqb digit 0) && (eqb u 18446744073709551615 && not (eqb s 0)))
-    virgin_set e = rw (ne_eqb digit 0 h, eq-eqb u 18446744073709551615 e)
 
 -- ---- one head, by the eight bytes v from its first on
 module _ (older : Bool) (files : List ℕ) (at v u s digit : ℕ) (e : v ≡ low_word 7 files at) (ends : List ℕ) (lives : ℕ) where
@@ -114,9 +102,9 @@ module _ (older : Bool) (t : List ℕ) (f : ℕ) where
     lives_is = x.lives_are ∙ ap (λ (l : State). bit_or lives (cond (live l) digit 0)) (state_is t f s w u lf ls ew eu)
 
     -- LAW: a head that passes
-    pub heads_next : not ok ≡ false → HeadsTo older t f ends' lives' (s + 1)
+    pub heads_next : ok ≡ true → HeadsTo older t f ends' lives' (s + 1)
     heads_next h =
-        let a = sym decides ∙ not-false ok h in
+        let a = sym decides ∙ h in
         let g = ends_is in
         let c = lives_is in
         let used = live_used t f s (older_alone t older f s a) in
@@ -133,9 +121,9 @@ module _ (older : Bool) (t : List ℕ) (f : ℕ) where
         }
 
     -- LAW: a head that does not
-    pub heads_refused : not ok ≡ true → HeadsPassed older t f ends' lives' false
+    pub heads_refused : ok ≡ false → HeadsPassed older t f ends' lives' false
     heads_refused h = record {
-      decided = sym (all_not 8 (file_alone t older f) s ls (sym decides ∙ not-true ok h));
+      decided = sym (all_not 8 (file_alone t older f) s ls (sym decides ∙ h));
       ends_are = λ q. absurd (true≢false (sym q));
       lives_are = λ q. absurd (true≢false (sym q));
     }
@@ -167,15 +155,15 @@ module _ (older : Bool) (front files : List ℕ) (len : length front ≡ files_a
 -- ---- all rules on the files of number f
 module _ (older : Bool) (t : List ℕ) (f : ℕ) (ends : List ℕ) (lives : ℕ) (ok : Bool) (k : HeadsPassed older t f ends lives ok) where
   -- LAW: a head does not pass
-  pub number_refused : not ok ≡ true → false ≡ number_formed t older f
+  pub number_refused : ok ≡ false → false ≡ number_formed t older f
   unfolding number_formed
-  number_refused h = sym (ap (λ b. all 8 (file_linked t f) && b) (sym k.decided ∙ not-true ok h) ∙ and_false (all 8 (file_linked t f)))
+  number_refused h = sym (ap (λ b. all 8 (file_linked t f) && b) (sym k.decided ∙ h) ∙ and_false (all 8 (file_linked t f)))
 
   -- LAW: all pass, and the rules that concern several sets decide
-  pub number_decided : (r : Bool) → not ok ≡ false → r ≡ all 8 (file_linked t f) → r ≡ number_formed t older f
+  pub number_decided : (r : Bool) → ok ≡ true → r ≡ all 8 (file_linked t f) → r ≡ number_formed t older f
   unfolding number_formed
-  number_decided r h e = e ∙ sym (ap (λ b. all 8 (file_linked t f) && b) (sym k.decided ∙ not-false ok h) ∙ and_true (all 8 (file_linked t f)))
+  number_decided r h e = e ∙ sym (ap (λ b. all 8 (file_linked t f) && b) (sym k.decided ∙ h) ∙ and_true (all 8 (file_linked t f)))
 
   -- LAW: then each file passes by itself
-  pub all_alone : not ok ≡ false → (s : ℕ) → s < 8 → file_alone t true f s ≡ true
-  all_alone h s ls = older_alone t older f s (all_at 8 (file_alone t older f) (sym k.decided ∙ not-false ok h) s ls)
+  pub all_alone : ok ≡ true → (s : ℕ) → s < 8 → file_alone t true f s ≡ true
+  all_alone h s ls = older_alone t older f s (all_at 8 (file_alone t older f) (sym k.decided ∙ h) s ls)

@@ -264,13 +264,13 @@ module _ (t : List ℕ) (f : ℕ) (digits parents stored unmapped ends : List �
 
     module _ (resolved' : List ℕ) (r : Bool) (g : LinkDecided t f set_of resolved resolved' r) where
       -- LAW: a rule does not hold
-      pub linking_refused : not r ≡ true → false ≡ all 8 (file_linked t f)
-      linking_refused n = sym (all_not 8 (file_linked t f) set_of (omega arith) (sym g.decided ∙ not-true r n))
+      pub linking_refused : r ≡ false → false ≡ all 8 (file_linked t f)
+      linking_refused n = sym (all_not 8 (file_linked t f) set_of (omega arith) (sym g.decided ∙ n))
 
       -- LAW: the rules hold
-      pub linking_next : not r ≡ false → Linking t f lives resolved' (bit_and left (left - 1))
+      pub linking_next : r ≡ true → Linking t f lives resolved' (bit_and left (left - 1))
       linking_next n =
-          let o = not-false r n in
+          let o = n in
           let c = g.kept o in
           record {
             fits = lt_of_le_of_lt (and_le_l left (left - 1)) i.fits;

@@ -9,7 +9,7 @@ use lib.Dec.{eqb, ltb}
 use lib.ListN.{get_or, length, length-set, set}
 use lib.Pow.{pow_pos, shl_exact}
 use lib.Seq.{get_or-set_other}
-use borrow.Author.Tests.{ltb-false, ltb-true, ne_eqb, not-false, not-true}
+use borrow.Author.Tests.{ltb-false, ltb-true, ne_eqb}
 use Rattle.base.specs.Logic.{or_false, same?, test?}
 use Rattle.entrycheck.proofs.Lists.{put_more}
 use Rattle.entrycheck.specs.Records.{AllAre}
@@ -24,16 +24,16 @@ use Rattle.tables.specs.Layout.{read_size, state_of}
 
 -- ---- the digit of a set
 -- LAW: none of an unused set
-pub digit_none : (r : SetRecord) (s : ℕ) → not r.used ≡ true → 0 ≡ place_digit r s
+pub digit_none : (r : SetRecord) (s : ℕ) → r.used ≡ false → 0 ≡ place_digit r s
 unfolding place_digit
-digit_none r s h = sym (ap (λ b. cond b (2 ^ (r.level * 8 + s)) 0) (not-true r.used h))
+digit_none r s h = sym (ap (λ b. cond b (2 ^ (r.level * 8 + s)) 0) h)
 
 -- LAW: 1 shifted
-pub digit_shl : (r : SetRecord) (s : ℕ) → not r.used ≡ false → r.level < 8 → s < 8 → 1 * 2 ^ (r.level * 8 + s) % 2 ^ 64 ≡ place_digit r s
+pub digit_shl : (r : SetRecord) (s : ℕ) → r.used ≡ true → r.level < 8 → s < 8 → 1 * 2 ^ (r.level * 8 + s) % 2 ^ 64 ≡ place_digit r s
 unfolding place_digit
 digit_shl r s h l ls =
     let q : 1 * 2 ^ (r.level * 8 + s) ≡ 2 ^ (r.level * 8 + s) = omega arith in
-    shl_exact {a = 1} 1 (r.level * 8 + s) 64 (omega arith) (omega arith) ∙ q ∙ sym (ap (λ b. cond b (2 ^ (r.level * 8 + s)) 0) (not-false r.used h))
+    shl_exact {a = 1} 1 (r.level * 8 + s) 64 (omega arith) (omega arith) ∙ q ∙ sym (ap (λ b. cond b (2 ^ (r.level * 8 + s)) 0) h)
 
 -- LAW: does a digit say that its set is used
 pub digit_used : (r : SetRecord) (s digit : ℕ) → digit ≡ place_digit r s → not (eqb digit 0) ≡ r.used
@@ -84,13 +84,6 @@ module _ (sets : ℕ → SetRecord) (files : Files ℕ) (s lives digit : ℕ) (l
 
   pub rest_next : (x : ℕ) → s + 1 ≤ x → x < 8 → is_one (bit (bit_or lives added) (place_of sets x)) ≡ false
   rest_next x a l = at_other x l (λ e. omega arith) ∙ rest x (omega arith) l
-
--- LAW: a state that is neither own nor virgin
-pub dead_state : (k : ℕ) → (k ≡ 1 → ⊥) → (k ≡ 2 → ⊥) → live (state_of k) ≡ false
-dead_state zero a b = refl
-dead_state (suc zero) a b = absurd (a refl)
-dead_state (suc (suc zero)) a b = absurd (b refl)
-dead_state (suc (suc (suc k))) a b = refl
 
 -- ---- the first page wholly past the size, by the word w of the head
 other_own : (k : ℕ) → (k ≡ 1 → ⊥) → is_own (state_of k) ≡ false

@@ -1,12 +1,13 @@
 -- The whole check: the rules on file records, number by number, the two parts of the check, and the order of the code's tests. Assumes nothing.
 use mathlib.Core.Bool.{◌&&◌, Bool, cond, false, not, true, true≢false, ◌||◌}
 use mathlib.Core.List.{List, ◌++◌}
+use Rattle.std.specs.Prelude.{None, Some}
 use mathlib.Core.Path.{refl, subst, sym, ◌∙◌, ◌≡◌}
 use Prim.Native.Nat.{◌+◌, ◌<◌, ℕ, ◌≤◌}
 use native.Mathlib.Omega.{arith}
 use lib.Dec.{eqb}
 use lib.ListN.{length}
-use borrow.Author.Tests.{eq-eqb, eqb-true, ne_eqb, not-false, not-true}
+use borrow.Author.Tests.{eq-eqb, eqb-true, ne_eqb}
 use Rattle.base.specs.Count.{all, all_at, all_next, all_not, all_of}
 use Rattle.base.specs.Logic.{and_both, and_left, and_right, same_test, same?}
 use Rattle.entrycheck.specs.Records.{BlankFrom, EntriesSeen}
@@ -136,12 +137,12 @@ module _ (older : Bool) (t : List ℕ) where
 -- ---- all numbers
 module _ (older : Bool) (t : List ℕ) (f : ℕ) (k : all f (number_formed t older) ≡ true) where
   -- LAW: a number more
-  pub numbers_next : (r : Bool) → r ≡ number_formed t older f → not r ≡ false → all (f + 1) (number_formed t older) ≡ true
-  numbers_next r e h = all_next (number_formed t older) f k (sym e ∙ not-false r h)
+  pub numbers_next : true ≡ number_formed t older f → all (f + 1) (number_formed t older) ≡ true
+  numbers_next e = all_next (number_formed t older) f k (sym e)
 
   -- LAW: a number that does not pass
-  pub numbers_refused : f < 16 → (r : Bool) → r ≡ number_formed t older f → not r ≡ true → false ≡ file_records_formed older t
-  numbers_refused l r e h = sym (records_are older t ∙ all_not 16 (number_formed t older) f l (sym e ∙ not-true r h))
+  pub numbers_refused : f < 16 → false ≡ number_formed t older f → false ≡ file_records_formed older t
+  numbers_refused l e = sym (records_are older t ∙ all_not 16 (number_formed t older) f l (sym e))
 
   -- LAW: 16 numbers
   pub numbers_done : f ≡ 16 → true ≡ file_records_formed older t
@@ -155,12 +156,12 @@ falling sets ok = record {
 }
 
 -- LAW: where the set records pass
-pub sets_falling : (t : List ℕ) (s : Bool) → s ≡ set_records_formed t → not s ≡ false → Falling (unpack t).sets
-sets_falling t s e h = falling (unpack t).sets (records_sets t (sym e ∙ not-false s h))
+pub sets_falling : (t : List ℕ) → true ≡ set_records_formed t → Falling (unpack t).sets
+sets_falling t e = falling (unpack t).sets (records_sets t (sym e))
 
 -- LAW: where the header passes
-pub blocks_most : (t : List ℕ) (h : Bool) → h ≡ header_formed (unpack t) → not h ≡ false → (unpack t).blocks ≤ 4096
-blocks_most t h e k = (header_in (unpack t) (sym e ∙ not-false h k)).most
+pub blocks_most : (t : List ℕ) → true ≡ header_formed (unpack t) → (unpack t).blocks ≤ 4096
+blocks_most t e = (header_in (unpack t) (sym e)).most
 
 -- ---- tables of another length
 module _ (t : List ℕ) (h : length t ≡ table_bytes → ⊥) where
@@ -171,7 +172,7 @@ module _ (t : List ℕ) (h : length t ≡ table_bytes → ⊥) where
   whole_wrong n = sym (well_formed_parts t false n ∙ rw (← blocks_wrong))
 
 -- ---- the first part
-module _ (front files stored unmapped : List ℕ) (len : length front ≡ files_at) (wide : length files ≡ all_files_bytes) (h : Bool) (eh : h ≡ header_formed (unpack front)) where
+module _ (front files stored unmapped : List ℕ) (len : length front ≡ files_at) (wide : length files ≡ all_files_bytes) where
   abbrev t : List ℕ
   t = front ++ files
 
@@ -179,47 +180,45 @@ module _ (front files stored unmapped : List ℕ) (len : length front ≡ files_
   rules_are : block_rules t ≡ (header_formed (unpack front) && (kinds_formed t && bits_formed (unpack t)))
   rules_are = block_rules_parts t ∙ rw (eq-eqb (length t) table_bytes (whole_length front files len wide), header_part front files len)
 
+  not_passed : false ≡ block_rules t → FirstPassed front files stored unmapped None
+  not_passed e = record { decided = e; masks = λ o. absurd (true≢false (sym o)); blank = tt; unused = tt }
+
   -- LAW: the header does not pass
-  pub first_header : not h ≡ true → FirstPassed front files stored unmapped (record { ok = false; blank = 8 })
-  first_header a = record {
-    decided = sym (rules_are ∙ rw (← eh, not-true h a));
-    masks = λ o. absurd (true≢false (sym o));
-    blank = λ o. absurd (true≢false (sym o));
-    unused = λ o. absurd (true≢false (sym o));
-  }
+  pub first_header : false ≡ header_formed (unpack front) → FirstPassed front files stored unmapped None
+  first_header h = not_passed (sym (rules_are ∙ rw (← h)))
 
-  -- LAW: it does, and the entries and bits decide
-  pub first_entries : not h ≡ false → (n : ℕ) → BlankFrom files n × UnusedFrom (unpack front).sets n → (ok : Bool) → EntriesSeen t stored unmapped ok
-      → FirstPassed front files stored unmapped (record { ok = ok; blank = n })
-  first_entries a n b ok k = record {
-    decided = k.decided ∙ sym (rules_are ∙ rw (← eh, not-false h a));
-    masks = k.masks;
-    blank = λ o. b.0;
-    unused = λ o. b.1;
-  }
+  module _ (h : true ≡ header_formed (unpack front)) where
+    -- LAW: it does, and the entries or the bits do not
+    pub first_refused : EntriesSeen t stored unmapped false → FirstPassed front files stored unmapped None
+    first_refused k = not_passed (k.decided ∙ sym (rules_are ∙ rw (← h)))
 
--- ---- the whole check, where b is the first part, p the pages buffer's length, z the header's zero field, s the set records, r the file records
-module _ (older : Bool) (front files : List ℕ) (len : length front ≡ files_at) (n : ℕ) (b : Bool) (eb : b ≡ block_rules (front ++ files)) where
+    -- LAW: all pass
+    pub first_entries : (n : ℕ) → BlankFrom files n × UnusedFrom (unpack front).sets n → EntriesSeen t stored unmapped true → FirstPassed front files stored unmapped (Some n)
+    first_entries n b k = record { decided = k.decided ∙ sym (rules_are ∙ rw (← h)); masks = k.masks; blank = b.0; unused = b.1 }
+
+-- ---- the whole check: the first part, the pages buffer's length, the header's zero field, the set records, the file records
+module _ (older : Bool) (front files : List ℕ) (len : length front ≡ files_at) (n : ℕ) where
   abbrev formed : Bool
   formed = cond older (termed_well_formed (front ++ files) n) (well_formed (front ++ files) n)
 
-  whole_parts : formed ≡ (b && pages_fit (unpack front) n && (header_zero front && set_records_formed front && file_records_formed older (front ++ files)))
-  whole_parts = well_formed_parts (front ++ files) older n ∙ rw (eb, fit_part front files len n, zero_part front files len, records_part front files len)
+  whole_parts : formed
+      ≡ (block_rules (front ++ files) && pages_fit (unpack front) n && (header_zero front && set_records_formed front && file_records_formed older (front ++ files)))
+  whole_parts = well_formed_parts (front ++ files) older n ∙ rw (fit_part front files len n, zero_part front files len, records_part front files len)
 
-  pub whole_blocks : not b ≡ true → false ≡ formed
-  whole_blocks a = sym (whole_parts ∙ rw (not-true b a))
+  pub whole_blocks : false ≡ block_rules (front ++ files) → false ≡ formed
+  whole_blocks b = sym (whole_parts ∙ rw (← b))
 
-  module _ (kb : not b ≡ false) (p : Bool) (ep : p ≡ pages_fit (unpack front) n) where
-    pub whole_pages : not p ≡ true → false ≡ formed
-    whole_pages a = sym (whole_parts ∙ rw (← ep, not-false b kb, not-true p a))
+  module _ (b : true ≡ block_rules (front ++ files)) where
+    pub whole_pages : false ≡ pages_fit (unpack front) n → false ≡ formed
+    whole_pages p = sym (whole_parts ∙ rw (← b, ← p))
 
-    module _ (kp : not p ≡ false) (z : Bool) (ez : z ≡ header_zero front) where
-      pub whole_zero : not z ≡ true → false ≡ formed
-      whole_zero a = sym (whole_parts ∙ rw (← ep, ← ez, not-false b kb, not-false p kp, not-true z a))
+    module _ (p : true ≡ pages_fit (unpack front) n) where
+      pub whole_zero : false ≡ header_zero front → false ≡ formed
+      whole_zero z = sym (whole_parts ∙ rw (← b, ← p, ← z))
 
-      module _ (kz : not z ≡ false) (s : Bool) (es : s ≡ set_records_formed front) where
-        pub whole_sets : not s ≡ true → false ≡ formed
-        whole_sets a = sym (whole_parts ∙ rw (← ep, ← ez, ← es, not-false b kb, not-false p kp, not-false z kz, not-true s a))
+      module _ (z : true ≡ header_zero front) where
+        pub whole_sets : false ≡ set_records_formed front → false ≡ formed
+        whole_sets s = sym (whole_parts ∙ rw (← b, ← p, ← z, ← s))
 
-        pub whole_files : (r : Bool) → not s ≡ false → r ≡ file_records_formed older (front ++ files) → r ≡ formed
-        whole_files r ks q = q ∙ sym (whole_parts ∙ rw (← ep, ← ez, ← es, not-false b kb, not-false p kp, not-false z kz, not-false s ks))
+        pub whole_files : (r : Bool) → true ≡ set_records_formed front → r ≡ file_records_formed older (front ++ files) → r ≡ formed
+        whole_files r s q = q ∙ sym (whole_parts ∙ rw (← b, ← p, ← z, ← s))

@@ -7,33 +7,22 @@ ghost use Rattle.formed.specs.Files.{head_formed, state_formed};
 fn zero_file(n: u32, u: u64) -> bool
     ensures { result ≡ (eqb n 0 && eqb u 18446744073709551615) }
 {
-    if n != 0 {
-        return false;
-    }
-    u == 0xFFFF_FFFF_FFFF_FFFF
+    n == 0 && u == 0xFFFF_FFFF_FFFF_FFFF
 }
 
-// A file that is not absent, of state k and size n. A marked file of older tables may keep its record.
+// A file that is not absent, of state k and size n. A marked file of older tables may keep its record: one
+// test, so that a flag says it and no closure.
+// The state stays a number: a State made of it would be matched at once, which is no plainer.
+#[tactic(auto, unfolding(crate::specs::Files::state_formed))]
 fn state_formed(k: u32, n: u32, u: u64, root: bool, older: bool) -> bool
     requires { (0 < k) × (k < 4) }
     ensures { result ≡ state_formed older (state_of k) n (eqb u 18446744073709551615) (not (eqb u 0)) root }
 {
-    if k == 1 {
-        if !root {
-            return true;
-        }
-        return u == 0;
+    match k {
+        1 => !root || u == 0,
+        2 => !root && zero_file(n, u),
+        _ => !root && (older || zero_file(n, u)),
     }
-    if root {
-        return false;
-    }
-    if k == 2 {
-        return zero_file(n, u);
-    }
-    if older {
-        return true;
-    }
-    zero_file(n, u)
 }
 
 // A file by the word w of its head and the mask u of its unmapped pages.

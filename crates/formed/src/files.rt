@@ -12,7 +12,8 @@ ghost use Rattle.formed.specs.Heads.{HeadsPassed, UnusedFrom};
 
 use crate::heads::pass_head;
 use crate::linked::files_linked;
-use crate::places::{masks_of, numbers_of, put_places};
+use crate::places::{SetPlaces, put_places};
+use entrycheck::records::PageMasks;
 
 // The heads of the files of number f, in all sets: those from set n on are blank.
 fn pass_heads(
@@ -50,48 +51,42 @@ fn pass_heads(
 fn number_formed(
     front: &[u8],
     files: &[u8],
-    stored: &[u64; 128],
-    unmapped: &[u64; 128],
-    digits: &[u64; 8],
-    parents: &[usize; 8],
+    masks: &PageMasks,
+    places: &SetPlaces,
     f: usize,
     n: usize,
     older: bool,
 ) -> bool
-    requires { (length front.now ≡ files_at) × (length files.now ≡ all_files_bytes) × Falling (unpack (front.now ++ files.now)).sets × MasksAre (front.now ++ files.now) stored.now unmapped.now × Places (unpack (front.now ++ files.now)).sets digits.now parents.now × (f < 16) × BlankFrom files.now n }
+    requires { (length front.now ≡ files_at) × (length files.now ≡ all_files_bytes) × Falling (unpack (front.now ++ files.now)).sets × MasksAre (front.now ++ files.now) masks.now.stored masks.now.unmapped × Places (unpack (front.now ++ files.now)).sets places.now.digits places.now.parents × (f < 16) × BlankFrom files.now n }
     ensures { result ≡ number_formed (front.now ++ files.now) older f }
 {
-    let mut ends = numbers_of(64);
-    let mut lives: u64 = 0;
-    if !pass_heads(
-        front, files, unmapped, &mut ends, &mut lives, digits, f, n, older,
-    ) {
-        return false;
-    }
-    files_linked(
-        front, files, digits, parents, stored, unmapped, &ends, lives, f,
-    )
+    let mut ends = [64; 8];
+    let mut lives = 0;
+    pass_heads(
+        front,
+        files,
+        &masks.unmapped,
+        &mut ends,
+        &mut lives,
+        &places.digits,
+        f,
+        n,
+        older,
+    ) && files_linked(front, files, places, masks, &ends, lives, f)
 }
 
 // The rules on file records: the masks of their pages are known, and those from set n on are blank.
-pub fn records_formed(
-    front: &[u8],
-    files: &[u8],
-    stored: &[u64; 128],
-    unmapped: &[u64; 128],
-    n: usize,
-    older: bool,
-) -> bool
-    requires { (length front.now ≡ files_at) × (length files.now ≡ all_files_bytes) × Falling (unpack front.now).sets × MasksAre (front.now ++ files.now) stored.now unmapped.now × BlankFrom files.now n × UnusedFrom (unpack front.now).sets n }
+pub fn records_formed(front: &[u8], files: &[u8], masks: &PageMasks, n: usize, older: bool) -> bool
+    requires { (length front.now ≡ files_at) × (length files.now ≡ all_files_bytes) × Falling (unpack front.now).sets × MasksAre (front.now ++ files.now) masks.now.stored masks.now.unmapped × BlankFrom files.now n × UnusedFrom (unpack front.now).sets n }
     ensures { result ≡ file_records_formed older (front.now ++ files.now) }
 {
-    let mut digits = masks_of(0);
-    let mut parents = numbers_of(8);
-    put_places(front, &mut digits, &mut parents, n);
+    let mut places = SetPlaces {
+        digits: [0; 8],
+        parents: [8; 8],
+    };
+    put_places(front, &mut places, n);
     for f in 0..16 {
-        if !number_formed(
-            front, files, stored, unmapped, &digits, &parents, f, n, older,
-        ) {
+        if !number_formed(front, files, masks, &places, f, n, older) {
             return false;
         }
     }

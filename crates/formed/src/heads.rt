@@ -12,17 +12,14 @@ use packing::words;
 use tables::places::FILE_BYTES;
 
 // The digit of a set, if the head w is that of an own or virgin file.
+// The state stays a number: a State made of it would be matched at once, which is no plainer.
 fn live_digit(w: u32, digit: u64) -> u64
     ensures { result ≡ cond (live (state_of (w / 1073741824))) digit 0 }
 {
-    let k = w / 1073741824;
-    if k == 1 {
-        return digit;
+    match w / 1073741824 {
+        1 | 2 => digit,
+        _ => 0,
     }
-    if k == 2 {
-        return digit;
-    }
-    0
 }
 
 // The first page wholly past the size of an own file, whose head is w; 64 of any other file.
@@ -47,14 +44,8 @@ fn head_of(v: u64) -> u32
 fn pass_virgin(lives: &mut u64, s: usize, digit: u64, u: u64) -> bool
     ensures { (result ≡ (not (eqb digit 0) && (eqb u 18446744073709551615 && not (eqb s 0)))) × (lives.new ≡ bit_or lives.old digit) }
 {
-    *lives = *lives | digit;
-    if digit == 0 {
-        return false;
-    }
-    if u != 0xFFFF_FFFF_FFFF_FFFF {
-        return false;
-    }
-    s != 0
+    *lives |= digit;
+    digit != 0 && u == 0xFFFF_FFFF_FFFF_FFFF && s != 0
 }
 
 // The head of file f of set s, which has the digit given and the unmapped pages u. The file's end is kept, and whether it
@@ -73,7 +64,7 @@ pub fn pass_head(
     requires { (length files.now ≡ all_files_bytes) × (get_or ends.old s 0 ≡ 64) × (f < 16) × (s < 8) }
     ensures { HeadPassed older (get_word 3 files.now ((s * 16 + f) * file_bytes)) u s digit ends.old ends.new lives.old lives.new result }
 {
-    let v = words::low64(files, (s * 16 + f) * FILE_BYTES);
+    let v = words::low::<8>(files, (s * 16 + f) * FILE_BYTES);
     if v == 0 {
         return u == 0xFFFF_FFFF_FFFF_FFFF;
     }
@@ -82,6 +73,6 @@ pub fn pass_head(
     }
     let w = head_of(v);
     ends[s] = end_of(w);
-    *lives = *lives | live_digit(w, digit);
+    *lives |= live_digit(w, digit);
     head_formed(w, u, digit != 0, s == 0, older)
 }

@@ -4,7 +4,7 @@
 // and the set records; and files, the file records.
 #![tactic(auto)]
 
-ghost use Rattle.std.specs.Prelude.{cond, false, ◌++◌, ◌≡◌, ◌≤◌, length};
+ghost use Rattle.std.specs.Prelude.{cond, ◌++◌, ◌≡◌, ◌≤◌, length};
 ghost use Rattle.tables.specs.Layout.{all_files_bytes, files_at};
 ghost use Rattle.tables.specs.Packed.{block_rules, termed_well_formed, unpack, well_formed};
 ghost use Rattle.entrycheck.specs.Records.{AllAre, BlankFrom};
@@ -14,7 +14,7 @@ ghost use Rattle.formed.specs.Heads.{UnusedFrom};
 
 use crate::files::records_formed;
 use crate::places::used_to;
-use entrycheck::records::{entries_formed, record_masks};
+use entrycheck::records::{PageMasks, entries_formed};
 use packing::words;
 use setcheck::header::{header_formed, header_zero, pages_fit};
 use setcheck::tree::sets_formed;
@@ -26,13 +26,6 @@ pub mod heads;
 pub mod linked;
 pub mod places;
 
-// Does the first part pass, and from which set on are all file records zero?
-#[derive(Clone, Copy)]
-struct First {
-    pub ok: bool,
-    pub blank: usize,
-}
-
 // A number from which on sets are unused and their file records all zero: that after the last used set, or 8 where a record
 // behind it is not all zero.
 fn blank_from(front: &[u8], files: &[u8]) -> usize
@@ -41,30 +34,26 @@ fn blank_from(front: &[u8], files: &[u8]) -> usize
 {
     let n = used_to(front);
     if words::all_zero(files, n * SET_FILES_BYTES, (8 - n) * SET_FILES_BYTES) {
-        return n;
+        n
+    } else {
+        8
     }
-    8
 }
 
-// THE FIRST PART: the rules on B, next start, kinds, blocks and bits. The masks of the pages of every file are kept.
-fn first_part(
-    front: &[u8],
-    files: &[u8],
-    stored: &mut [u64; 128],
-    unmapped: &mut [u64; 128],
-) -> First
-    requires { (length front.now ≡ files_at) × (length files.now ≡ all_files_bytes) × AllAre record_count stored.old 0 × AllAre record_count unmapped.old 18446744073709551615 }
-    ensures { FirstPassed front.now files.now stored.new unmapped.new result }
+// THE FIRST PART: the rules on B, next start, kinds, blocks and bits. The masks of the pages of every file are kept. The
+// answer is from which set on all file records are zero, or None where a rule does not hold.
+fn first_part(front: &[u8], files: &[u8], masks: &mut PageMasks) -> Option<usize>
+    requires { (length front.now ≡ files_at) × (length files.now ≡ all_files_bytes) × AllAre record_count masks.old.stored 0 × AllAre record_count masks.old.unmapped 18446744073709551615 }
+    ensures { FirstPassed front.now files.now masks.new.stored masks.new.unmapped result }
 {
     if !header_formed(front) {
-        return First {
-            ok: false,
-            blank: 8,
-        };
+        return None;
     }
     let n = blank_from(front, files);
-    let ok = entries_formed(front, files, stored, unmapped, n);
-    First { ok: ok, blank: n }
+    if !entries_formed(front, files, masks, n) {
+        return None;
+    }
+    Some(n)
 }
 
 // "That first part accepts exactly the tables of right length that meet the rules on B, next start, kinds, blocks and bits,
@@ -75,10 +64,11 @@ pub fn blocks_formed(t: &[u8]) -> bool
     if t.len() != TABLE_BYTES {
         return false;
     }
-    let mut stored = record_masks(0);
-    let mut unmapped = record_masks(0xFFFF_FFFF_FFFF_FFFF);
-    let first = first_part(&t[0..FILES_AT], &t[FILES_AT..], &mut stored, &mut unmapped);
-    first.ok
+    let mut masks = PageMasks {
+        stored: [0; 128],
+        unmapped: [0xFFFF_FFFF_FFFF_FFFF; 128],
+    };
+    first_part(&t[0..FILES_AT], &t[FILES_AT..], &mut masks).is_some()
 }
 
 // "Well formed means all of": tables of right length in two parts, with a pages buffer of n bytes. Older tables are held
@@ -87,12 +77,13 @@ pub fn parts_formed(front: &[u8], files: &[u8], n: usize, older: bool) -> bool
     requires { (length front.now ≡ files_at) × (length files.now ≡ all_files_bytes) }
     ensures { result ≡ cond older (termed_well_formed (front.now ++ files.now) n) (well_formed (front.now ++ files.now) n) }
 {
-    let mut stored = record_masks(0);
-    let mut unmapped = record_masks(0xFFFF_FFFF_FFFF_FFFF);
-    let first = first_part(front, files, &mut stored, &mut unmapped);
-    if !first.ok {
+    let mut masks = PageMasks {
+        stored: [0; 128],
+        unmapped: [0xFFFF_FFFF_FFFF_FFFF; 128],
+    };
+    let Some(blank) = first_part(front, files, &mut masks) else {
         return false;
-    }
+    };
     if !pages_fit(front, n) {
         return false;
     }
@@ -102,7 +93,7 @@ pub fn parts_formed(front: &[u8], files: &[u8], n: usize, older: bool) -> bool
     if !sets_formed(front) {
         return false;
     }
-    records_formed(front, files, &stored, &unmapped, first.blank, older)
+    records_formed(front, files, &masks, blank, older)
 }
 
 // The same of tables t as they stand.

@@ -11,18 +11,11 @@ ghost use Rattle.formed.specs.Heads.{UnusedFrom, UsedTo};
 
 use tables::sets::{SetRecord, set_at};
 
-// A list of 8 masks that are all m.
-pub fn masks_of(m: u64) -> [u64; 8]
-    ensures { AllAre set_count result m }
-{
-    [m; 8]
-}
-
-// A list of 8 numbers that are all m.
-pub fn numbers_of(m: usize) -> [usize; 8]
-    ensures { AllAre set_count result m }
-{
-    [m; 8]
+// The digits of the sets, and their parents: 8 is no set, as in the tables.
+#[derive(Clone, Copy)]
+pub struct SetPlaces {
+    pub digits: [u64; 8],
+    pub parents: [usize; 8],
 }
 
 // The digit of set s, whose record is r.
@@ -30,21 +23,18 @@ fn digit_of(r: SetRecord, s: usize) -> u64
     requires { (r.level < 8) × (s < 8) }
     ensures { result ≡ place_digit (set_meant r) s }
 {
-    if !r.used {
-        return 0;
-    }
-    1 << (r.level * 8 + s)
+    if r.used { 1 << (r.level * 8 + s) } else { 0 }
 }
 
 // The digits and the parents of the sets: those from set n on are unused.
-pub fn put_places(front: &[u8], digits: &mut [u64; 8], parents: &mut [usize; 8], n: usize)
-    requires { (files_at ≤ length front.now) × AllAre set_count digits.old 0 × (length parents.old ≡ 8) × (n ≤ 8) × UnusedFrom (unpack front.now).sets n }
-    ensures { PlacesPut (unpack front.now).sets n parents.old digits.new parents.new }
+pub fn put_places(front: &[u8], places: &mut SetPlaces, n: usize)
+    requires { (files_at ≤ length front.now) × AllAre set_count places.old.digits 0 × (n ≤ 8) × UnusedFrom (unpack front.now).sets n }
+    ensures { PlacesPut (unpack front.now).sets n places.old.parents places.new.digits places.new.parents }
 {
     for s in 0..n {
         let r = set_at(front, s);
-        parents[s] = r.parent;
-        digits[s] = digit_of(r, s);
+        places.parents[s] = r.parent;
+        places.digits[s] = digit_of(r, s);
     }
 }
 
@@ -53,13 +43,10 @@ pub fn used_to(front: &[u8]) -> usize
     requires { files_at ≤ length front.now }
     ensures { UsedTo (unpack front.now).sets result }
 {
-    let mut n: usize = 8;
-    while 0 < n {
-        let r = set_at(front, n - 1);
-        if r.used {
-            return n;
+    for s in (0..8).rev() {
+        if set_at(front, s).used {
+            return s + 1;
         }
-        n -= 1;
     }
-    n
+    0
 }

@@ -1,14 +1,10 @@
--- The header's rules, and the zero fields of words, as the code tests them. Assumes nothing.
-use mathlib.Core.Bool.{false}
+-- The zero fields of words, as the code tests them. Assumes nothing.
 use mathlib.Core.List.{List}
 use mathlib.Core.Path.{ap, ◌∙◌, ◌≡◌}
-use Prim.Native.Nat.{◌%◌, ◌/◌, ◌<◌, ℕ, ◌≤◌}
+use Prim.Native.Nat.{◌%◌, ◌/◌, ℕ}
 use native.Mathlib.Omega.{arith}
-use lib.Dec.{eqb, ltb}
-use borrow.Author.Tests.{le-leb, lt-leb}
+use lib.Dec.{eqb}
 use Rattle.packing.specs.Fields.{get_field}
-use Rattle.rules.specs.State.{Tables}
-use Rattle.rules.specs.WellFormed.{header_formed}
 use Rattle.setcheck.specs.Records.{header_zero, set_zero}
 use Rattle.tables.specs.Layout.{header_widths, header_word, set_widths, set_word}
 
@@ -38,17 +34,3 @@ low_field w =
 
 pub set_field : (t : List ℕ) (s w : ℕ) → w ≡ set_word t s → eqb (w % 128) 0 ≡ set_zero t s
 set_field t s w e = ap (λ x. eqb x 0) (low_field w) ∙ ap (λ x. eqb (get_field set_widths x 6) 0) e
-
--- the header: b blocks and the next start x, in the order of the code's tests
-module _ (tb : Tables) (b x : ℕ) (eb : b ≡ tb.blocks) (ex : x ≡ tb.next) where
-  pub header_none : b < 1 → false ≡ header_formed tb
-  unfolding header_formed
-  header_none h = rw (← eb, lt-leb 1 b h)
-
-  pub header_many : 1 ≤ b → 4096 < b → false ≡ header_formed tb
-  unfolding header_formed
-  header_many h k = rw (← eb, le-leb 1 b h, lt-leb b 4096 k)
-
-  pub header_next : 1 ≤ b → b ≤ 4096 → ltb x b ≡ header_formed tb
-  unfolding header_formed
-  header_next h k = rw (← eb, ← ex, le-leb 1 b h, le-leb b 4096 k)

@@ -13,14 +13,7 @@ fn link_formed(t: &[u8], k: usize) -> bool
     requires { files_at ≤ length t.now }
     ensures { result ≡ link_formed (unpack t.now) k }
 {
-    if k == 8 {
-        return true;
-    }
-    if k > 8 {
-        return false;
-    }
-    let r = set_at(t, k);
-    r.used
+    k == 8 || (k < 8 && set_at(t, k).used)
 }
 
 // "Chains end": does the chain that begins at k end within 8 sets?
@@ -29,13 +22,11 @@ fn chain_ends(t: &[u8], k: usize) -> bool
     ensures { result ≡ chain_ends (unpack t.now) 8 k }
 {
     let mut at = k;
-    let mut n: usize = 8;
-    while n > 0 {
+    for _ in 0..8usize {
         if at >= 8 {
             return true;
         }
         at = next_sibling_of(t, at);
-        n -= 1;
     }
     at >= 8
 }
@@ -46,8 +37,7 @@ fn chain_below(t: &[u8], k: usize, s: usize) -> bool
     ensures { result ≡ all_in (chain (unpack t.now).sets 8 k) (λ c. eqb ((unpack t.now).sets c).parent s) }
 {
     let mut at = k;
-    let mut n: usize = 8;
-    while n > 0 {
+    for _ in 0..8usize {
         if at >= 8 {
             return true;
         }
@@ -56,30 +46,18 @@ fn chain_below(t: &[u8], k: usize, s: usize) -> bool
             return false;
         }
         at = r.next_sibling;
-        n -= 1;
     }
     true
 }
 
 // "hold only that parent's children": the chain of set s, empty where s is unused.
+#[tactic(auto, unfolding(rules::specs::WellFormed::all_in, rules::specs::State::children_of))]
 fn chain_of_parent(t: &[u8], s: usize) -> bool
     requires { (files_at ≤ length t.now) × (s < 8) }
     ensures { result ≡ all_in (children_of (unpack t.now).sets s) (λ c. eqb ((unpack t.now).sets c).parent s) }
 {
     let r = set_at(t, s);
-    if !r.used {
-        return true;
-    }
-    chain_below(t, r.first_child, s)
-}
-
-fn one_if_same(c: usize, x: usize) -> usize
-    ensures { (result ≡ cond (eqb c x) 1 0) × (result ≤ 1) }
-{
-    if c == x {
-        return 1;
-    }
-    0
+    !r.used || chain_below(t, r.first_child, s)
 }
 
 // How often c stands in the chain that begins at k.
@@ -88,20 +66,19 @@ fn times_from(t: &[u8], c: usize, k: usize) -> usize
     ensures { (result ≡ count_in (chain (unpack t.now).sets 8 k) (λ x. eqb c x)) × (result ≤ 8) }
 {
     let mut at = k;
-    let mut n: usize = 8;
-    let mut m: usize = 0;
-    while n > 0 {
+    let mut m = 0;
+    for _ in 0..8usize {
         if at >= 8 {
             return m;
         }
-        m += one_if_same(c, at);
+        m += usize::from(c == at);
         at = next_sibling_of(t, at);
-        n -= 1;
     }
     m
 }
 
 // How often c stands in the child chain of set s.
+#[tactic(auto, unfolding(rules::specs::Rules::count_in, rules::specs::State::children_of))]
 pub fn times_in_chain(t: &[u8], c: usize, s: usize) -> usize
     requires { (files_at ≤ length t.now) × (s < 8) }
     ensures { (result ≡ count_in (children_of (unpack t.now).sets s) (λ x. eqb c x)) × (result ≤ 8) }
@@ -114,19 +91,14 @@ pub fn times_in_chain(t: &[u8], c: usize, s: usize) -> usize
 }
 
 // "Chains end and hold only that parent's children": the links and the child chain of set s.
+#[tactic(auto, unfolding(rules::specs::WellFormed::chain_formed))]
 pub fn chain_formed(t: &[u8], s: usize) -> bool
     requires { (files_at ≤ length t.now) × (s < 8) }
     ensures { result ≡ chain_formed (unpack t.now) s }
 {
     let r = set_at(t, s);
-    if !link_formed(t, r.first_child) {
-        return false;
-    }
-    if !link_formed(t, r.next_sibling) {
-        return false;
-    }
-    if !chain_ends(t, r.first_child) {
-        return false;
-    }
-    chain_of_parent(t, s)
+    link_formed(t, r.first_child)
+        && link_formed(t, r.next_sibling)
+        && chain_ends(t, r.first_child)
+        && chain_of_parent(t, s)
 }

@@ -9,19 +9,14 @@ use packing::words;
 use tables::header::{block_count, next_start};
 
 // "B is 1 to 4,096, next start is below B"
+#[tactic(auto, unfolding(rules::specs::WellFormed::header_formed))]
 pub fn header_formed(t: &[u8]) -> bool
     requires { files_at ≤ length t.now }
     ensures { result ≡ header_formed (unpack t.now) }
 {
     let b = block_count(t);
     let next = next_start(t);
-    if b < 1 {
-        return false;
-    }
-    if b > 4096 {
-        return false;
-    }
-    next < b
+    b >= 1 && b <= 4096 && next < b
 }
 
 // "the pages buffer is B × 512 bytes": a pages buffer of n bytes.
@@ -37,5 +32,5 @@ pub fn header_zero(t: &[u8]) -> bool
     requires { files_at ≤ length t.now }
     ensures { result ≡ header_zero t.now }
 {
-    words::read32(t, 0) % 128 == 0
+    words::read::<4>(t, 0) % 128 == 0
 }

@@ -15,35 +15,24 @@ fn set_zero(t: &[u8], s: usize) -> bool
     requires { (files_at ≤ length t.now) × (s < 8) }
     ensures { result ≡ set_zero t.now s }
 {
-    words::read24(t, SETS_AT + s * SET_BYTES) % 128 == 0
+    words::read::<3>(t, SETS_AT + s * SET_BYTES) % 128 == 0
 }
 
 // Are all fields but the first zero?
 fn zero_record(r: SetRecord) -> bool
     ensures { result ≡ zero_set (set_meant r) }
 {
-    if r.writeable {
-        return false;
-    }
-    if r.level != 0 {
-        return false;
-    }
-    if r.parent != 0 {
-        return false;
-    }
-    if r.first_child != 0 {
-        return false;
-    }
-    if r.next_sibling != 0 {
-        return false;
-    }
-    if r.first_day != 0 {
-        return false;
-    }
-    r.end_day == 0
+    !r.writeable
+        && r.level == 0
+        && r.parent == 0
+        && r.first_child == 0
+        && r.next_sibling == 0
+        && r.term.first_day == 0
+        && r.term.end_day == 0
 }
 
 // "Unused sets are all zero"; "of a used set, first below end and end at most 36,525": one set.
+#[tactic(auto, unfolding(crate::specs::Records::record_formed, rules::specs::WellFormed::term_formed))]
 fn record_formed(t: &[u8], s: usize) -> bool
     requires { (files_at ≤ length t.now) × (s < 8) }
     ensures { result ≡ record_formed (unpack t.now) s }
@@ -52,10 +41,7 @@ fn record_formed(t: &[u8], s: usize) -> bool
     if !r.used {
         return zero_record(r);
     }
-    if r.first_day >= r.end_day {
-        return false;
-    }
-    r.end_day <= END_DAY
+    r.term.first_day < r.term.end_day && r.term.end_day <= END_DAY
 }
 
 // The rules above, which look at one set record each, for all sets.

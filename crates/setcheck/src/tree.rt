@@ -10,61 +10,36 @@ use crate::records::records_alone;
 use tables::sets::{level_of, parent_of, set_at};
 
 // "Set 0 is used, writeable, level 0, with no parent or sibling."
+#[tactic(auto, unfolding(rules::specs::WellFormed::root_formed))]
 fn root_formed(t: &[u8]) -> bool
     requires { files_at ≤ length t.now }
     ensures { result ≡ root_formed (unpack t.now) }
 {
     let r = set_at(t, 0);
-    if !r.used {
-        return false;
-    }
-    if !r.writeable {
-        return false;
-    }
-    if r.level != 0 {
-        return false;
-    }
-    if r.parent != 8 {
-        return false;
-    }
-    r.next_sibling == 8
+    r.used && r.writeable && r.level == 0 && r.parent == 8 && r.next_sibling == 8
 }
 
 // "Each other used set stands once, in its parent's child chain, with the right level, at most 5."
+#[tactic(auto, unfolding(rules::specs::WellFormed::place_formed))]
 fn place_formed(t: &[u8], c: usize) -> bool
     requires { (files_at ≤ length t.now) × (c < 8) }
     ensures { result ≡ place_formed (unpack t.now) c }
 {
     let s = parent_of(t, c);
-    if s >= 8 {
-        return false;
-    }
-    if times_in_chain(t, c, s) != 1 {
-        return false;
-    }
-    let l = level_of(t, c);
-    if l != level_of(t, s) + 1 {
-        return false;
-    }
-    l <= 5
+    s < 8
+        && times_in_chain(t, c, s) == 1
+        && level_of(t, c) == level_of(t, s) + 1
+        && level_of(t, c) <= 5
 }
 
 // The rules of the tree for one set: none where it is unused.
+#[tactic(auto, unfolding(crate::specs::Records::set_in_tree))]
 fn set_in_tree(t: &[u8], s: usize) -> bool
     requires { (files_at ≤ length t.now) × (s < 8) }
     ensures { result ≡ set_in_tree (unpack t.now) s }
 {
     let r = set_at(t, s);
-    if !r.used {
-        return true;
-    }
-    if !chain_formed(t, s) {
-        return false;
-    }
-    if s == 0 {
-        return true;
-    }
-    place_formed(t, s)
+    !r.used || (chain_formed(t, s) && (s == 0 || place_formed(t, s)))
 }
 
 // The root, and the rules of the tree for all sets.
@@ -84,12 +59,10 @@ fn tree_formed(t: &[u8]) -> bool
 }
 
 // All rules on set records.
+#[tactic(auto, unfolding(crate::specs::Records::set_records_formed))]
 pub fn sets_formed(t: &[u8]) -> bool
     requires { files_at ≤ length t.now }
     ensures { result ≡ set_records_formed t.now }
 {
-    if !records_alone(t) {
-        return false;
-    }
-    tree_formed(t)
+    records_alone(t) && tree_formed(t)
 }

@@ -1,25 +1,17 @@
--- `entrycheck::maps_equal` meets its contract. The loop's invariant: x is zero exactly where the first i bytes are the same; and after a turn it is known
+-- `entrycheck::maps_equal` meets its contract. Assumes nothing.
 use mathlib.Core.Path.{ap, ◌∙◌, ◌≡◌}
+use borrow.Author.Rules.{rules}
 use native.Mathlib.Omega.{arith}
 use Rattle.entrycheck.proofs.BytesEqual.{same_bytes, same_more, same_none, same_to}
 use Rattle.entrycheck.proofs.maps_equal.Goals as goal
 
 pub loop-i-init : goal.loop-i-init
-loop-i-init c = (omega arith, same_none c.args.t.now c.args.seen.now, λ h. absurd (omega arith))
+loop-i-init c = (same_none _ _, λ h. absurd (omega arith))
 
 pub loop-i-preserved : goal.loop-i-preserved
-loop-i-preserved c =
-    let l = c.loop-i in
-    let a = c.args in (
-      omega arith,
-      same_more a.t.now a.seen.now l.i l.x l.invariant.1,
-      λ h. (λ i. (c.type_inv.t i).fits, λ i. (c.type_inv.seen i).fits),
-    )
+loop-i-preserved c = (same_more _ _ _ _ c.loop-i.invariant.0, λ h i. search rules)
 
 pub returns : goal.returns
 returns c =
-    let l = c.loop-i in
-    let a = c.args in
-    let e : l.i ≡ 512 = omega arith in
-    let b = l.invariant.2 (omega arith) in
-    l.invariant.1 ∙ ap (same_to a.t.now a.seen.now) e ∙ same_bytes a.t.now a.seen.now b.0 b.1
+    let e : c.loop-i.i ≡ 512 = omega arith in
+    c.loop-i.invariant.0 ∙ ap (same_to _ _) e ∙ same_bytes _ _ (λ i. search rules) (c.loop-i.invariant.1 (omega arith))

@@ -1,10 +1,7 @@
 -- `entrycheck::seeing::block_of` meets its contract. Assumes nothing.
-use mathlib.Core.Path.{◌∙◌}
 use native.Mathlib.Omega.{arith}
 use Rattle.masks.proofs.LowWords.{low_block}
 use Rattle.entrycheck.proofs.seeing.block_of.Goals as goal
 
 pub returns : goal.returns
-returns c =
-    let r = c.low16-e in
-    (c.wide.ensures ∙ low_block _ _ r.result (λ i. (c.type_inv.t i).fits) r.ensures.0 r.ensures.1, omega arith)
+returns c = let r = c.low-e in (low_block _ _ r.result (λ i. (c.type_inv.t i).fits) r.ensures.0 r.ensures.1, omega arith)

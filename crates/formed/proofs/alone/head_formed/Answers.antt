@@ -11,11 +11,11 @@ pub returns-then-k-eq0 : goal.returns-then-k-eq0
 returns-then-k-eq0 c = head_absent _ _ _ _ _ (omega arith) _ _ refl refl _ c.if-k-eq0.true c.zero_file.ensures
 
 pub returns-then-not-used : goal.returns-then-not-used
-returns-then-not-used c = head_unused _ _ _ _ _ (omega arith) _ _ refl refl c.if-k-eq0.false c.if-not-used.true-raw
+returns-then-not-used c = head_unused _ _ _ _ _ (omega arith) _ _ refl refl c.if-k-eq0.false c.if-not-used.true
 
 pub returns-then-n-gt32768 : goal.returns-then-n-gt32768
-returns-then-n-gt32768 c = head_over _ _ _ _ _ (omega arith) _ _ refl refl c.if-k-eq0.false c.if-not-used.false-raw (omega arith)
+returns-then-n-gt32768 c = head_over _ _ _ _ _ (omega arith) _ _ refl refl c.if-k-eq0.false c.if-not-used.false (omega arith)
 
 pub returns : goal.returns
 returns c =
-    head_state _ _ _ _ _ (omega arith) _ _ refl refl _ c.if-k-eq0.false c.if-not-used.false-raw (omega arith) c.state_formed.ensures
+    head_state _ _ _ _ _ (omega arith) _ _ refl refl _ c.if-k-eq0.false c.if-not-used.false (omega arith) c.state_formed.ensures

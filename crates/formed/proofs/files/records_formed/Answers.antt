@@ -2,6 +2,7 @@
 use mathlib.Core.Path.{subst, sym}
 use native.Mathlib.Omega.{arith}
 use Rattle.base.specs.Count.{all_none}
+use Rattle.entrycheck.proofs.Lists.{all_are, filled}
 use Rattle.formed.proofs.PlaceDigits.{places_are}
 use Rattle.formed.proofs.Whole.{numbers_done, numbers_next, numbers_refused}
 use Rattle.formed.specs.Files.{Falling}
@@ -9,12 +10,11 @@ use Rattle.tables.proofs.Parts.{sets_front}
 use Rattle.formed.proofs.files.records_formed.Goals as goal
 
 pub put_places-requires : goal.put_places-requires
-put_places-requires c =
-    let p = c.requires in
-    (omega (arith, p.0), c.masks_of-digits.ensures, c.numbers_of-parents.ensures.0, p.4.most, p.5)
+unfolding filled
+put_places-requires c = let p = c.requires in (omega (arith, p.0), all_are 8 _, p.4.most, p.5)
 
 pub loop-f-init : goal.loop-f-init
-loop-f-init c = (omega arith, all_none _)
+loop-f-init c = all_none _
 
 pub number_formed-requires : goal.number_formed-requires
 number_formed-requires c =
@@ -24,17 +24,10 @@ number_formed-requires c =
 
 pub returns-then-not-number_formed : goal.returns-then-not-number_formed
 returns-then-not-number_formed c =
-    numbers_refused _ _ _ c.loop-f.invariant.1 (omega arith) _ c.number_formed.ensures c.if-not-number_formed.true-raw
+    numbers_refused _ _ _ c.loop-f.invariant (omega arith) c.if-not-number_formed.ensures
 
 pub loop-f-preserved : goal.loop-f-preserved
-loop-f-preserved c =
-    (omega arith, numbers_next _ _ _ c.loop-f.invariant.1 _ c.number_formed.ensures c.if-not-number_formed.false-raw)
+loop-f-preserved c = numbers_next _ _ _ c.loop-f.invariant c.if-not-number_formed.ensures
 
 pub returns : goal.returns
-returns c = numbers_done _ _ _ c.loop-f.invariant.1 (omega arith)
-
-pub masks_of-digits-requires : goal.masks_of-digits-requires
-masks_of-digits-requires c = tt
-
-pub numbers_of-parents-requires : goal.numbers_of-parents-requires
-numbers_of-parents-requires c = tt
+returns c = numbers_done _ _ _ c.loop-f.invariant (omega arith)

@@ -2,13 +2,9 @@
 use mathlib.Core.Bool.{true}
 use mathlib.Core.List.{◌++◌}
 use mathlib.Core.Path.{◌≡◌}
-use Prim.Native.Nat.{◌-◌, ◌≤◌}
 use Rattle.base.specs.Count.{all}
 use Rattle.formed.specs.Files.{number_formed}
 use Rattle.formed.proofs.files.records_formed.Given as goal
 
 abbrev pub invariant-loop-f : goal.invariant-loop-f
-invariant-loop-f l = (l.f ≤ 16) × (all l.f (number_formed (l.front ++ l.files) l.older) ≡ true)
-
-abbrev pub decreases-loop-f : goal.decreases-loop-f
-decreases-loop-f l = 16 - l.f
+invariant-loop-f l = all l.f (number_formed (l.front ++ l.files) l.older) ≡ true

@@ -13,12 +13,12 @@ returns-then-x-ge8 c =
     let p = c.requires in
     none_above _ _ _ _ _ _ _ _ _ p.1 p.0 p.2 _ refl c.if-u-eq0.false _ refl _ c.if-x-ge8.true
 
-pub returns-then-lives-digits-eq0 : goal.returns-then-lives-digits-eq0
-returns-then-lives-digits-eq0 c =
+pub returns-then-lives-places-eq0 : goal.returns-then-lives-places-eq0
+returns-then-lives-places-eq0 c =
     let p = c.requires in
-    dead_above _ _ _ _ _ _ _ _ _ p.1 p.0 p.2 _ refl c.if-u-eq0.false _ refl _ c.if-x-ge8.false c.if-lives-digits-eq0.true
+    dead_above _ _ _ _ _ _ _ _ _ p.1 p.0 p.2 _ refl c.if-u-eq0.false _ refl _ c.if-x-ge8.false c.if-lives-places-eq0.true
 
 pub returns : goal.returns
 returns c =
     let p = c.requires in
-    above_decided _ _ _ _ _ _ _ _ _ p.1 p.0 p.2 _ refl c.if-u-eq0.false _ refl c.if-x-ge8.false c.if-lives-digits-eq0.false _ p.3 _ _ c.put_resolved-2.ensures
+    above_decided _ _ _ _ _ _ _ _ _ p.1 p.0 p.2 _ refl c.if-u-eq0.false _ refl c.if-x-ge8.false c.if-lives-places-eq0.false _ p.3 _ _ c.put_resolved-2.ensures

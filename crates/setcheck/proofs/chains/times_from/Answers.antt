@@ -1,21 +1,28 @@
 -- `setcheck::chains::times_from` meets its contract. Assumes nothing.
+use mathlib.Core.Bool.{Bool, cond, false, true}
+use mathlib.Core.Path.{refl, ◌∙◌, ◌≡◌}
+use Prim.Native.Nat.{ℕ, ◌≤◌}
 use native.Mathlib.Omega.{arith}
+use Rattle.std.specs.Int.{from_bool}
 use Rattle.setcheck.proofs.Links.{times_over, times_more, times_done}
 use Rattle.setcheck.proofs.chains.times_from.Goals as goal
 
-pub loop-n-init : goal.loop-n-init
-loop-n-init c = (omega arith, omega arith)
+one_at_most : (b : Bool) (n : ℕ) → n ≡ from_bool b → n ≤ 1
+one_at_most true n e = omega arith
+one_at_most false n e = omega arith
+
+as_cond : (b : Bool) → from_bool b ≡ cond b 1 0
+as_cond true = refl
+as_cond false = refl
 
 pub returns-then-at-ge8 : goal.returns-then-at-ge8
-returns-then-at-ge8 c = let l = c.loop-n in (times_over _ _ _ _ l.n l.at (omega arith) l.invariant.1, omega arith)
+returns-then-at-ge8 c = (times_over _ _ _ _ _ _ (omega arith) c.loop.invariant.1, omega arith)
 
-pub next_sibling_of-at-requires : goal.next_sibling_of-at-requires
-next_sibling_of-at-requires c = (c.requires, omega arith)
-
-pub loop-n-preserved : goal.loop-n-preserved
-loop-n-preserved c =
-    let l = c.loop-n in
-    (omega arith, times_more _ _ _ _ l.n l.at _ _ (omega arith) (omega arith) l.invariant.1 c.one_if_same-m.ensures.0 c.next_sibling_of-at.ensures.0)
+pub loop-preserved : goal.loop-preserved
+loop-preserved c = (
+  omega (arith, one_at_most _ _ c.from-m.ensures),
+  times_more _ _ _ _ _ _ _ _ _ (omega arith) (omega arith) c.loop.invariant.1 (c.from-m.ensures ∙ as_cond _) c.next_sibling_of-at.ensures.0,
+)
 
 pub returns : goal.returns
-returns c = let l = c.loop-n in (times_done _ _ _ _ l.n l.at (omega arith) l.invariant.1, omega arith)
+returns c = (times_done _ _ _ _ _ _ (omega arith) c.loop.invariant.1, omega arith)

@@ -1,14 +1,10 @@
 -- `setcheck::tree::tree_formed` meets its contract. Assumes nothing.
 use mathlib.Core.Path.{◌≡◌}
 use mathlib.Core.Bool.{true}
-use Prim.Native.Nat.{◌≤◌, ◌-◌}
 use Rattle.base.specs.Count.{all}
 use Rattle.tables.specs.Packed.{unpack}
 use Rattle.setcheck.specs.Records.{set_in_tree}
 use Rattle.setcheck.proofs.tree.tree_formed.Given as goal
 
 abbrev pub invariant-loop-s : goal.invariant-loop-s
-invariant-loop-s l = (l.s ≤ 8) × (all l.s (set_in_tree (unpack l.t)) ≡ true)
-
-abbrev pub decreases-loop-s : goal.decreases-loop-s
-decreases-loop-s l = 8 - l.s
+invariant-loop-s l = all l.s (set_in_tree (unpack l.t)) ≡ true

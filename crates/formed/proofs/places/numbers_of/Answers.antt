@@ -1,7 +1,0 @@
--- `formed::places::numbers_of` meets its contract. Assumes nothing.
-use Rattle.entrycheck.proofs.Lists.{all_are, filled}
-use Rattle.formed.proofs.places.numbers_of.Goals as goal
-
-pub returns : goal.returns
-unfolding filled
-returns c = all_are 8 _
