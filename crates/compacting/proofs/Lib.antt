@@ -7,3 +7,5 @@ pub mod Trading
 pub mod Four
 pub mod Tracking
 pub mod Turning
+pub mod NotStored
+pub mod Becoming

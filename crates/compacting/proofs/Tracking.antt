@@ -93,9 +93,6 @@ module _ (t : List ℕ) (w : ℕ) where
       let a : suc q ≡ q + 1 = omega arith in
       g ∙ (λ i. noted_entry (h i) w (d i) (n + q)) ∙ sym (noted_more t owners w n q) ∙ ap (noted_from t owners w n) a
 
-  pub map_long : (owners one : List ℕ) (n q : ℕ) → length owners ≡ 256 → one ≡ noted_from t owners w n q → length one ≡ 256
-  map_long owners one n q len h = ap length h ∙ length_from t owners w n q ∙ len
-
   -- places where nothing is stored
   pub noted_blank : (owners : List ℕ) (n m : ℕ) → ((i : ℕ) → n ≤ i → i < n + m → is_stored (entry_in (unpack t).files i) ≡ false) → noted_from t owners w n m ≡ owners
   noted_blank owners n zero h = noted_none t owners w n
@@ -262,10 +259,10 @@ module _ (t owners : List ℕ) (w n : ℕ) (h : Tracked t owners w n) where
     }
 
 -- at the start no block is in the window
-pub tracked_start : (t p owners : List ℕ) → Lent t p → length owners ≡ 256 → Tracked t owners 4096 0
-tracked_start t p owners h len = record {
-  long = len;
-  owner = λ i b l j e v. let u = (h.ok.used (file_at i) (set_at i) (page_at i) b e).below in let m = h.most in absurd (omega (arith, u, m, (in_window_law 4096 b v).0));
+pub tracked_start : (t p owners : List ℕ) (w : ℕ) → Lent t p → (w ≡ 4096) × (length owners ≡ 256) → Tracked t owners w 0
+tracked_start t p owners w h e = record {
+  long = e.1;
+  owner = λ i b l j d v. let u = (h.ok.used (file_at i) (set_at i) (page_at i) b d).below in let m = h.most in absurd (omega (arith, u, m, e.0, (in_window_law w b v).0));
 }
 
 -- the owners as the code notes them

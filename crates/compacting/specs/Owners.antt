@@ -3,6 +3,7 @@ use Rattle.std.specs.Prelude.{Bool, ◌&&◌, cond, true, List, ◌≡◌, refl,
 use Rattle.compaction.specs.Compact.{entry_in, place_count}
 use Rattle.rules.specs.State.{Entry, hole, stored, unmapped}
 use Rattle.tables.specs.Packed.{unpack}
+use Rattle.compacting.specs.declared.owners.Owners.{Owners}
 
 -- is block b in the window from block w on?
 unfoldable pub in_window : ℕ → ℕ → Bool
@@ -34,6 +35,15 @@ owners_at t owners w n k = cond (in_window w k) owners (noted_from t owners k (n
 pub record Tracked (t owners : List ℕ) (w n : ℕ) : Type 0 where
   pub long : length owners ≡ 256
   pub owner : (i b : ℕ) → n ≤ i → i < place_count → entry_in (unpack t).files i ≡ stored b → in_window w b ≡ true → get_or owners (b - w) 0 ≡ i
+
+-- the same of the code's owners
+abbrev pub OwnersOf : List ℕ → Owners → ℕ → Type 0
+OwnersOf t o n = Tracked t o.places o.first n
+
+-- the window stays, and its owners become l
+pub record Become (o o' : Owners) (l : List ℕ) : Type 0 where
+  pub first : o'.first ≡ o.first
+  pub places : o'.places ≡ l
 
 -- laws of the recursion
 pub noted_none : (t owners : List ℕ) (w n : ℕ) → noted_from t owners w n 0 ≡ owners

@@ -8,18 +8,12 @@ ghost use Rattle.tables.specs.Meaning.{entry_meant};
 ghost use Rattle.tables.specs.Packed.{unpack};
 ghost use Rattle.compacting.specs.Exchange.{Lent};
 ghost use Rattle.compacting.specs.Gathering.{Compacted, Gathered, InOrder};
-ghost use Rattle.compacting.specs.Owners.{Tracked};
+ghost use Rattle.compacting.specs.Owners.{OwnersOf};
 
+use crate::owners::Owners;
 use crate::{exchange, places};
 use tables::entries::Entry;
 use tables::header;
-
-// A list of 256 owners.
-fn owner_list() -> [u16; 256]
-    ensures { length result ≡ 256 }
-{
-    [0; 256]
-}
 
 // How many blocks are given after an entry e, where k were before it.
 fn given(k: usize, e: Entry) -> usize
@@ -27,66 +21,49 @@ fn given(k: usize, e: Entry) -> usize
     ensures { result ≡ k + digit (is_stored (entry_meant e)) }
 {
     match e {
-        Entry::Unmapped => k,
-        Entry::Hole => k,
-        Entry::Stored(b) => k + 1,
+        Entry::Unmapped | Entry::Hole => k,
+        Entry::Stored(_) => k + 1,
     }
 }
 
-// The entry e at place n gets block k where it is stored. The first block of the owners' window afterwards.
+// The entry e at place n gets block k where it is stored.
 fn place_entry(
     t: &mut [u8],
     p: &mut [u8],
     spare: &mut [u8],
-    owners: &mut [u16; 256],
-    w: usize,
+    owners: &mut Owners,
     n: usize,
     k: usize,
     e: Entry,
-) -> usize
-    requires { Lent t.old p.old × InOrder (store_of t.old p.old) n k × (n < 8192) × (entry_meant e ≡ entry_in (unpack t.old).files n) × (length spare.old ≡ 512) × Tracked t.old owners.old w n }
-    ensures { Gathered t.old p.old t.new p.new (n + 1) (k + digit (is_stored (entry_meant e))) × Tracked t.new owners.new result (n + 1) }
+)
+    requires { Lent t.old p.old × InOrder (store_of t.old p.old) n k × (n < 8192) × (entry_meant e ≡ entry_in (unpack t.old).files n) × (length spare.old ≡ 512) × OwnersOf t.old owners.old n }
+    ensures { Gathered t.old p.old t.new p.new (n + 1) (k + digit (is_stored (entry_meant e))) × OwnersOf t.new owners.new (n + 1) }
 {
     match e {
-        Entry::Unmapped => w,
-        Entry::Hole => w,
-        Entry::Stored(b) => exchange::place_block(t, p, spare, owners, w, n, k, b),
+        Entry::Unmapped | Entry::Hole => {}
+        Entry::Stored(b) => exchange::place_block(t, p, spare, owners, n, k, b),
     }
 }
 
-// How far it is: how many blocks are given, and the first block of the owners' window.
-#[derive(Clone, Copy)]
-pub struct Progress {
-    pub given: usize,
-    pub window: usize,
-}
-
-// The four entries from page 4 * g of file record r on get their blocks.
+// The four entries from page 4 * g of file record r on get their blocks. How many are given afterwards.
 fn place_four(
     t: &mut [u8],
     p: &mut [u8],
     spare: &mut [u8],
-    owners: &mut [u16; 256],
-    done: Progress,
+    owners: &mut Owners,
+    mut k: usize,
     r: usize,
     g: usize,
-) -> Progress
-    requires { Lent t.old p.old × InOrder (store_of t.old p.old) (r * 64 + g * 4) done.given × (r < 128) × (g < 16) × (length spare.old ≡ 512) × Tracked t.old owners.old done.window (r * 64 + g * 4) }
-    ensures { Gathered t.old p.old t.new p.new (r * 64 + g * 4 + 4) result.given × Tracked t.new owners.new result.window (r * 64 + g * 4 + 4) }
+) -> usize
+    requires { Lent t.old p.old × InOrder (store_of t.old p.old) (r * 64 + g * 4) k × (r < 128) × (g < 16) × (length spare.old ≡ 512) × OwnersOf t.old owners.old (r * 64 + g * 4) }
+    ensures { Gathered t.old p.old t.new p.new (r * 64 + g * 4 + 4) result × OwnersOf t.new owners.new (r * 64 + g * 4 + 4) }
 {
-    let mut w = done.window;
-    let mut k = done.given;
-    let mut q: usize = 0;
-    while q < 4 {
+    for q in 0..4 {
         let e = places::entry_of(&*t, r, g * 4 + q);
-        w = place_entry(t, p, spare, owners, w, r * 64 + g * 4 + q, k, e);
+        place_entry(t, p, spare, owners, r * 64 + g * 4 + q, k, e);
         k = given(k, e);
-        q += 1;
     }
-    Progress {
-        given: k,
-        window: w,
-    }
+    k
 }
 
 // The same, where four entries of which none is stored are passed over.
@@ -94,39 +71,37 @@ fn place_group(
     t: &mut [u8],
     p: &mut [u8],
     spare: &mut [u8],
-    owners: &mut [u16; 256],
-    done: Progress,
+    owners: &mut Owners,
+    k: usize,
     r: usize,
     g: usize,
-) -> Progress
-    requires { Lent t.old p.old × InOrder (store_of t.old p.old) (r * 64 + g * 4) done.given × (r < 128) × (g < 16) × (length spare.old ≡ 512) × Tracked t.old owners.old done.window (r * 64 + g * 4) }
-    ensures { Gathered t.old p.old t.new p.new (r * 64 + g * 4 + 4) result.given × Tracked t.new owners.new result.window (r * 64 + g * 4 + 4) }
+) -> usize
+    requires { Lent t.old p.old × InOrder (store_of t.old p.old) (r * 64 + g * 4) k × (r < 128) × (g < 16) × (length spare.old ≡ 512) × OwnersOf t.old owners.old (r * 64 + g * 4) }
+    ensures { Gathered t.old p.old t.new p.new (r * 64 + g * 4 + 4) result × OwnersOf t.new owners.new (r * 64 + g * 4 + 4) }
 {
     if places::four_stored(&*t, r, g) == 0 {
-        return done;
+        return k;
     }
-    place_four(t, p, spare, owners, done, r, g)
+    place_four(t, p, spare, owners, k, r, g)
 }
 
-// The 64 entries of file record r get their blocks.
+// The 64 entries of file record r get their blocks. The way through them is that of `Owners::note_map`, which only reads the tables that
+// this changes, so that one walk over borrowed tables would not serve both.
 fn place_map(
     t: &mut [u8],
     p: &mut [u8],
     spare: &mut [u8],
-    owners: &mut [u16; 256],
-    done: Progress,
+    owners: &mut Owners,
+    mut k: usize,
     r: usize,
-) -> Progress
-    requires { Lent t.old p.old × InOrder (store_of t.old p.old) (r * 64) done.given × (r < 128) × (length spare.old ≡ 512) × Tracked t.old owners.old done.window (r * 64) }
-    ensures { Gathered t.old p.old t.new p.new (r * 64 + 64) result.given × Tracked t.new owners.new result.window (r * 64 + 64) }
+) -> usize
+    requires { Lent t.old p.old × InOrder (store_of t.old p.old) (r * 64) k × (r < 128) × (length spare.old ≡ 512) × OwnersOf t.old owners.old (r * 64) }
+    ensures { Gathered t.old p.old t.new p.new (r * 64 + 64) result × OwnersOf t.new owners.new (r * 64 + 64) }
 {
-    let mut x = done;
-    let mut g: usize = 0;
-    while g < 16 {
-        x = place_group(t, p, spare, owners, x, r, g);
-        g += 1;
+    for g in 0..16 {
+        k = place_group(t, p, spare, owners, k, r, g);
     }
-    x
+    k
 }
 
 // The same, where a file that can have no stored entry is passed over.
@@ -134,35 +109,30 @@ fn place_record(
     t: &mut [u8],
     p: &mut [u8],
     spare: &mut [u8],
-    owners: &mut [u16; 256],
-    done: Progress,
+    owners: &mut Owners,
+    k: usize,
     r: usize,
-) -> Progress
-    requires { Lent t.old p.old × InOrder (store_of t.old p.old) (r * 64) done.given × (r < 128) × (length spare.old ≡ 512) × Tracked t.old owners.old done.window (r * 64) }
-    ensures { Gathered t.old p.old t.new p.new (r * 64 + 64) result.given × Tracked t.new owners.new result.window (r * 64 + 64) }
+) -> usize
+    requires { Lent t.old p.old × InOrder (store_of t.old p.old) (r * 64) k × (r < 128) × (length spare.old ≡ 512) × OwnersOf t.old owners.old (r * 64) }
+    ensures { Gathered t.old p.old t.new p.new (r * 64 + 64) result × OwnersOf t.new owners.new (r * 64 + 64) }
 {
     if !places::may_hold(&*t, r) {
-        return done;
+        return k;
     }
-    place_map(t, p, spare, owners, done, r)
+    place_map(t, p, spare, owners, k, r)
 }
 
-// Every entry gets its block. How many there are. No block is in the owners' window at first.
+// Every entry gets its block. How many there are.
 fn place_all(t: &mut [u8], p: &mut [u8], spare: &mut [u8]) -> usize
     requires { Lent t.old p.old × (length spare.old ≡ 512) }
     ensures { Gathered t.old p.old t.new p.new 8192 result }
 {
-    let mut owners = owner_list();
-    let mut done = Progress {
-        given: 0,
-        window: 4096,
-    };
-    let mut r: usize = 0;
-    while r < 128 {
-        done = place_record(t, p, spare, &mut owners, done, r);
-        r += 1;
+    let mut owners = Owners::none();
+    let mut k = 0;
+    for r in 0..128 {
+        k = place_record(t, p, spare, &mut owners, k, r);
     }
-    done.given
+    k
 }
 
 // "modulo B", of a number that is at most B.

@@ -7,25 +7,25 @@ ghost use Rattle.tables.specs.Calls.{pages_of};
 ghost use Rattle.tables.specs.Meaning.{entry_meant};
 ghost use Rattle.tables.specs.Packed.{unpack};
 ghost use Rattle.compacting.specs.Exchange.{Lent, Owned, Swap};
-ghost use Rattle.compacting.specs.Owners.{Tracked};
+ghost use Rattle.compacting.specs.Owners.{OwnersOf};
 
-use crate::{owners, places};
+use crate::owners::Owners;
+use crate::places;
 use tables::entries;
 use tables::entries::{Block, Entry};
 
-// The pages in blocks a and b, which are two, change places, byte by byte through the spare page.
+// The pages in blocks a and b, which are two, change places, byte by byte through the spare page. Either may stand first, so
+// that a split into two slices would be no plainer.
 fn swap_pages(pages: &mut [u8], spare: &mut [u8], a: Block, b: Block)
     requires { (a.0 ≡ b.0 → ⊥) × (a.0 * 512 + 512 ≤ length pages.old) × (b.0 * 512 + 512 ≤ length pages.old) × (length spare.old ≡ 512) }
     ensures { pages_of pages.new ≡ upd (upd (pages_of pages.old) a.0 (pages_of pages.old b.0)) b.0 (pages_of pages.old a.0) }
 {
     let x = a.number() * 512;
     let y = b.number() * 512;
-    let mut i: usize = 0;
-    while i < 512 {
+    for i in 0..512 {
         spare[i] = pages[x + i];
         pages[x + i] = pages[y + i];
         pages[y + i] = spare[i];
-        i += 1;
     }
 }
 
@@ -65,37 +65,33 @@ fn exchange_with(
     ensures { Swap k b.0 t.old p.old t.new p.new }
 {
     match e {
-        Entry::Unmapped => {}
-        Entry::Hole => {}
+        Entry::Unmapped | Entry::Hole => {}
         Entry::Stored(c) => exchange(t, p, spare, n, o, b, c),
     }
 }
 
-// The entry at place n, which names block b, gets block k: it has it, k is free, or a later entry, its owner, names k. The
-// first block of the owners' window afterwards.
+// The entry at place n, which names block b, gets block k: it has it, k is free, or a later entry, its owner, names k.
 pub fn place_block(
     t: &mut [u8],
     p: &mut [u8],
     spare: &mut [u8],
-    owners: &mut [u16; 256],
-    w: usize,
+    owners: &mut Owners,
     n: usize,
     k: usize,
     b: Block,
-) -> usize
-    requires { Lent t.old p.old × (n < 8192) × (entry_in (unpack t.old).files n ≡ stored b.0) × (k < (unpack t.old).blocks) × ((unpack t.old).bits k ≡ true → Owned t.old k n) × (length spare.old ≡ 512) × Tracked t.old owners.old w n }
-    ensures { Swap k b.0 t.old p.old t.new p.new × Tracked t.new owners.new result (n + 1) }
+)
+    requires { Lent t.old p.old × (n < 8192) × (entry_in (unpack t.old).files n ≡ stored b.0) × (k < (unpack t.old).blocks) × ((unpack t.old).bits k ≡ true → Owned t.old k n) × (length spare.old ≡ 512) × OwnersOf t.old owners.old n }
+    ensures { Swap k b.0 t.old p.old t.new p.new × OwnersOf t.new owners.new (n + 1) }
 {
     if k == b.number() {
-        return w;
+        return;
     }
     if !entries::is_used(&*t, k) {
         move_to(t, p, n, k, b);
-        return w;
+        return;
     }
-    let first = owners::window(&*t, owners, w, n, k);
-    let o = owners::owner_of(&*owners, first, k);
+    owners.window(&*t, n, k);
+    let o = owners.owner_of(k);
     exchange_with(t, p, spare, n, o, k, b, places::entry_in(&*t, o));
-    owners::note(owners, first, b.number(), o);
-    first
+    owners.note(b.number(), o);
 }

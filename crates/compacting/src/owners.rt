@@ -1,130 +1,134 @@
 // The owners of blocks: for each block of a window of 256, the place of the entry that names it. The window is moved when a
 // block outside it is asked for, so that all entries are looked at 16 times at most.
-ghost use Rattle.std.specs.Prelude.{true, ◌≡◌, ◌*◌, ◌+◌, ◌-◌, ◌<◌, ◌≤◌, get_or, length};
+ghost use Rattle.std.specs.Prelude.{◌≡◌, ◌*◌, ◌+◌, ◌-◌, ◌<◌, ◌≤◌, get_or, length};
 ghost use Rattle.tables.specs.Layout.{read_entry};
 ghost use Rattle.tables.specs.Views.{PackedTables};
 ghost use Rattle.compacting.specs.Exchange.{StoredHeld};
-ghost use Rattle.compacting.specs.Owners.{in_window, noted, noted_entry, noted_from, owners_at, window_at};
+ghost use Rattle.compacting.specs.Owners.{Become, in_window, noted, noted_entry, noted_from, owners_at, window_at};
 
 use crate::places;
 
-// Is block b in the window from block w on?
-fn in_window(w: usize, b: usize) -> bool
-    ensures { result ≡ in_window w b }
-{
-    if b < w {
-        return false;
-    }
-    b - w < 256
+// The owners of the blocks from block `first` on.
+#[derive(Drop)]
+pub struct Owners {
+    first: usize,
+    places: [u16; 256],
 }
 
-// Place o is noted as that of the owner of block b, where b is in the window from block w on.
-pub fn note(owners: &mut [u16; 256], w: usize, b: usize, o: usize)
-    requires { (length owners.old ≡ 256) × (o < 8192) }
-    ensures { owners.new ≡ noted owners.old w b o }
-{
-    if !in_window(w, b) {
-        return;
+impl Owners {
+    // No block is in the window, which begins behind the last one.
+    pub fn none() -> Owners
+        ensures { (result.first ≡ 4096) × (length result.places ≡ 256) }
+    {
+        Owners {
+            first: 4096,
+            places: [0; 256],
+        }
     }
-    let i = b - w;
-    owners[i] = o as u16;
-}
 
-// The same for the word x of an entry at place o. That of a stored one is 32,768 and its block, so that one test tells both
-// whether it is stored and whether its block is in the window.
-fn note_word(owners: &mut [u16; 256], w: usize, x: usize, o: usize)
-    requires { (length owners.old ≡ 256) × (o < 8192) × (x < 49152) × (w ≤ 4096) }
-    ensures { owners.new ≡ noted_entry owners.old w (read_entry x) o }
-{
-    let d = x + 32768 - w;
-    if d / 256 != 256 {
-        return;
+    // Is block b in the window?
+    fn holds(&self, b: usize) -> bool
+        ensures { result ≡ in_window self.now.first b }
+    {
+        self.first <= b && b - self.first < 256
     }
-    let i = d % 256;
-    owners[i] = o as u16;
-}
 
-// The same for the four entries from page 4 * g of file record r on.
-fn note_four(t: &[u8], owners: &mut [u16; 256], w: usize, r: usize, g: usize)
-    requires { PackedTables t.now × (length owners.old ≡ 256) × (r < 128) × (g < 16) × (w ≤ 4096) }
-    ensures { owners.new ≡ noted_from t.now owners.old w (r * 64 + g * 4) 4 }
-{
-    let mut q: usize = 0;
-    while q < 4 {
-        note_word(
-            owners,
-            w,
-            places::word_of(t, r, g * 4 + q),
-            r * 64 + g * 4 + q,
-        );
-        q += 1;
+    // Place o is noted as that of the owner of block b, where b is in the window.
+    pub fn note(&mut self, b: usize, o: usize)
+        requires { o < 8192 }
+        ensures { Become self.old self.new (noted self.old.places self.old.first b o) }
+    {
+        if !self.holds(b) {
+            return;
+        }
+        let i = b - self.first;
+        self.places[i] = o as u16;
     }
-}
 
-// The same, where four entries of which none is stored are passed over.
-fn note_group(t: &[u8], owners: &mut [u16; 256], w: usize, r: usize, g: usize)
-    requires { PackedTables t.now × (length owners.old ≡ 256) × (r < 128) × (g < 16) × (w ≤ 4096) }
-    ensures { owners.new ≡ noted_from t.now owners.old w (r * 64 + g * 4) 4 }
-{
-    if places::four_stored(t, r, g) == 0 {
-        return;
+    // The same for the word x of an entry at place o. That of a stored one is 32,768 and its block, so that one test tells
+    // both whether it is stored and whether its block is in the window.
+    fn note_word(&mut self, x: usize, o: usize)
+        requires { (o < 8192) × (x < 49152) × (self.old.first ≤ 4096) }
+        ensures { Become self.old self.new (noted_entry self.old.places self.old.first (read_entry x) o) }
+    {
+        let d = x + 32768 - self.first;
+        if d / 256 != 256 {
+            return;
+        }
+        let i = d % 256;
+        self.places[i] = o as u16;
     }
-    note_four(t, owners, w, r, g);
-}
 
-// The same for the 64 entries of file record r.
-fn note_map(t: &[u8], owners: &mut [u16; 256], w: usize, r: usize)
-    requires { PackedTables t.now × (length owners.old ≡ 256) × (r < 128) × (w ≤ 4096) }
-    ensures { owners.new ≡ noted_from t.now owners.old w (r * 64) 64 }
-{
-    let mut g: usize = 0;
-    while g < 16 {
-        note_group(t, owners, w, r, g);
-        g += 1;
+    // The same for the four entries from page 4 * g of file record r on.
+    fn note_four(&mut self, t: &[u8], r: usize, g: usize)
+        requires { PackedTables t.now × (r < 128) × (g < 16) × (self.old.first ≤ 4096) }
+        ensures { Become self.old self.new (noted_from t.now self.old.places self.old.first (r * 64 + g * 4) 4) }
+    {
+        for q in 0..4 {
+            self.note_word(places::word_of(t, r, g * 4 + q), r * 64 + g * 4 + q);
+        }
     }
-}
 
-// The same, where a file that can have no stored entry is passed over.
-fn note_record(t: &[u8], owners: &mut [u16; 256], w: usize, r: usize)
-    requires { PackedTables t.now × StoredHeld t.now × (length owners.old ≡ 256) × (r < 128) × (w ≤ 4096) }
-    ensures { owners.new ≡ noted_from t.now owners.old w (r * 64) 64 }
-{
-    if !places::may_hold(t, r) {
-        return;
+    // The same, where four entries of which none is stored are passed over.
+    fn note_group(&mut self, t: &[u8], r: usize, g: usize)
+        requires { PackedTables t.now × (r < 128) × (g < 16) × (self.old.first ≤ 4096) }
+        ensures { Become self.old self.new (noted_from t.now self.old.places self.old.first (r * 64 + g * 4) 4) }
+    {
+        if places::four_stored(t, r, g) == 0 {
+            return;
+        }
+        self.note_four(t, r, g);
     }
-    note_map(t, owners, w, r);
-}
 
-// The same for all entries from file record `first` on.
-fn fill(t: &[u8], owners: &mut [u16; 256], w: usize, first: usize)
-    requires { PackedTables t.now × StoredHeld t.now × (length owners.old ≡ 256) × (first ≤ 128) × (w ≤ 4096) }
-    ensures { owners.new ≡ noted_from t.now owners.old w (first * 64) (8192 - first * 64) }
-{
-    let mut r = first;
-    while r < 128 {
-        note_record(t, owners, w, r);
-        r += 1;
+    // The same for the 64 entries of file record r.
+    fn note_map(&mut self, t: &[u8], r: usize)
+        requires { PackedTables t.now × (r < 128) × (self.old.first ≤ 4096) }
+        ensures { Become self.old self.new (noted_from t.now self.old.places self.old.first (r * 64) 64) }
+    {
+        for g in 0..16 {
+            self.note_group(t, r, g);
+        }
     }
-}
 
-// The window, which begins at block w, is moved to block k where k is not in it, with the entries from the file of place n
-// on. Its first block.
-pub fn window(t: &[u8], owners: &mut [u16; 256], w: usize, n: usize, k: usize) -> usize
-    requires { PackedTables t.now × StoredHeld t.now × (length owners.old ≡ 256) × (n < 8192) × (k ≤ 4096) }
-    ensures { (result ≡ window_at w k) × (owners.new ≡ owners_at t.now owners.old w n k) }
-{
-    if in_window(w, k) {
-        return w;
+    // The same, where a file that can have no stored entry is passed over.
+    fn note_record(&mut self, t: &[u8], r: usize)
+        requires { PackedTables t.now × StoredHeld t.now × (r < 128) × (self.old.first ≤ 4096) }
+        ensures { Become self.old self.new (noted_from t.now self.old.places self.old.first (r * 64) 64) }
+    {
+        if !places::may_hold(t, r) {
+            return;
+        }
+        self.note_map(t, r);
     }
-    fill(t, owners, k, n / 64);
-    k
-}
 
-// The owner of block k, which is in the window from block w on.
-pub fn owner_of(owners: &[u16; 256], w: usize, k: usize) -> usize
-    requires { (length owners.now ≡ 256) × (w ≤ k) × (k - w < 256) }
-    ensures { result ≡ get_or owners.now (k - w) 0 }
-{
-    let i = k - w;
-    places::wide(owners[i])
+    // The same for all entries from file record `from` on.
+    fn fill(&mut self, t: &[u8], from: usize)
+        requires { PackedTables t.now × StoredHeld t.now × (from ≤ 128) × (self.old.first ≤ 4096) }
+        ensures { Become self.old self.new (noted_from t.now self.old.places self.old.first (from * 64) (8192 - from * 64)) }
+    {
+        for r in from..128 {
+            self.note_record(t, r);
+        }
+    }
+
+    // The window is moved to block k where k is not in it, with the entries from the file of place n on.
+    pub fn window(&mut self, t: &[u8], n: usize, k: usize)
+        requires { PackedTables t.now × StoredHeld t.now × (n < 8192) × (k ≤ 4096) }
+        ensures { (self.new.first ≡ window_at self.old.first k) × (self.new.places ≡ owners_at t.now self.old.places self.old.first n k) }
+    {
+        if self.holds(k) {
+            return;
+        }
+        self.first = k;
+        self.fill(t, n / 64);
+    }
+
+    // The owner of block k, which is in the window.
+    pub fn owner_of(&self, k: usize) -> usize
+        requires { (self.now.first ≤ k) × (k - self.now.first < 256) }
+        ensures { result ≡ get_or self.now.places (k - self.now.first) 0 }
+    {
+        let i = k - self.first;
+        usize::from(self.places[i])
+    }
 }

@@ -14,13 +14,6 @@ use tables::files::State;
 use tables::places::{FILE_BYTES, MAPS_AT};
 use tables::{entries, files};
 
-// The same number as a count.
-pub fn wide(x: u16) -> usize
-    ensures { result ≡ x }
-{
-    x as usize
-}
-
 // The entry of page q in file record r.
 pub fn entry_of(t: &[u8], r: usize, q: usize) -> Entry
     requires { (length t.now ≡ table_bytes) × (r < 128) × (q < 64) }
@@ -51,7 +44,7 @@ pub fn word_of(t: &[u8], r: usize, q: usize) -> usize
     requires { (length t.now ≡ table_bytes) × (r < 128) × (q < 64) }
     ensures { result ≡ entry_word t.now (r % 16) (r / 16) q }
 {
-    wide(words::read16(t, MAPS_AT + r * FILE_BYTES + q * 2))
+    words::read::<2>(t, MAPS_AT + r * FILE_BYTES + q * 2) as usize
 }
 
 // The bits by which the four entries from page 4 * g of file record r on are stored.
@@ -59,19 +52,14 @@ pub fn four_stored(t: &[u8], r: usize, g: usize) -> u64
     requires { (length t.now ≡ table_bytes) × (r < 128) × (g < 16) }
     ensures { result ≡ four_stored t.now r g }
 {
-    words::low64(t, MAPS_AT + r * FILE_BYTES + g * 8) & 0x0080_0080_0080_0080
+    words::low::<8>(t, MAPS_AT + r * FILE_BYTES + g * 8) & 0x0080_0080_0080_0080
 }
 
 // May a file of this state have stored entries?
 fn holds(l: State) -> bool
     ensures { result ≡ may_hold (state_meant l) }
 {
-    match l {
-        State::Absent => false,
-        State::Own => true,
-        State::Virgin => false,
-        State::Marked => true,
-    }
+    matches!(l, State::Own | State::Marked)
 }
 
 // The same for the file of record r.

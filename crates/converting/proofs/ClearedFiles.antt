@@ -6,7 +6,7 @@ use Prim.Native.Nat.{◌%◌, ◌*◌, ◌+◌, ◌/◌, ◌<◌, suc, zero, ℕ
 use native.Mathlib.Nat.{zero-add}
 use native.Mathlib.Omega.{arith}
 use lib.Dec.{eqb}
-use borrow.Author.Tests.{eq-eqb, ltb-true, ne_eqb, not-false, not-true}
+use borrow.Author.Tests.{eq-eqb, ltb-true, ne_eqb}
 use Rattle.base.specs.Count.{all, all_more, all_none}
 use Rattle.base.specs.Logic.{and_both, and_false, and_left, and_right, and_true, same_test, same?, test?}
 use Rattle.base.specs.Update.{upd, upd_other, upd_same}
@@ -174,14 +174,14 @@ module _ (t : List ℕ) (f s : ℕ) (r : Bool) (l : State) (e : l ≡ ((unpack t
   marked_is = sym (q ∙ ap is_marked e)
 
   -- LAW: it is not marked
-  pub clear_kept : PackedTables t → not r ≡ true → Turns t t (cleared_file_in f s)
+  pub clear_kept : PackedTables t → r ≡ false → Turns t t (cleared_file_in f s)
   unfolding cleared_file_in
-  clear_kept k h = record { view = sym (rw (marked_is, not-true r h)); packed = k }
+  clear_kept k h = record { view = sym (rw (marked_is, h)); packed = k }
 
   -- LAW: it is
-  pub clear_turns : (t' : List ℕ) → not r ≡ false → Turns t t' (marked_in f s) → Turns t t' (cleared_file_in f s)
+  pub clear_turns : (t' : List ℕ) → r ≡ true → Turns t t' (marked_in f s) → Turns t t' (cleared_file_in f s)
   unfolding cleared_file_in
-  clear_turns t' h a = record { view = a.view ∙ sym (rw (marked_is, not-false r h)); packed = a.packed }
+  clear_turns t' h a = record { view = a.view ∙ sym (rw (marked_is, h)); packed = a.packed }
 
 -- ---- the files in turn, that of number i % 16 in set i / 16
 

@@ -1,6 +1,6 @@
 -- What stands before the file records, as it is made set by set or taken as it stands; with the file records of older tables behind it these are tables of the present
 -- length that hold the same. Assumes nothing.
-use mathlib.Core.Bool.{◌&&◌, Bool, cond, false, not, true, true≢false, ◌||◌}
+use mathlib.Core.Bool.{◌&&◌, Bool, cond, false, true, true≢false, ◌||◌}
 use mathlib.Core.List.{◌++◌, List}
 use mathlib.Core.Logic.{inl}
 use mathlib.Core.Path.{◌≡◌, ap, refl, subst, sym, ◌∙◌}
@@ -9,7 +9,7 @@ use native.Mathlib.Omega.{arith}
 use lib.Dec.{eqb, ltb}
 use lib.ListN.{get_or-append, drop, get_or, length, length-drop, length-take}
 use lib.Seq.{get_or-drop, get_or-take}
-use borrow.Author.Tests.{eq-eqb, eqb-true, ltb-false, ltb-true, ne_eqb, not-false, not-true}
+use borrow.Author.Tests.{eq-eqb, eqb-true, ltb-false, ltb-true, ne_eqb}
 use Rattle.base.specs.Logic.{and_false, or_false, or_left_false, or_right_false, same?, test?}
 use Rattle.base.specs.Tabulate.{tab_of}
 use Rattle.converting.proofs.ClearedFiles.{formed_low}
@@ -132,10 +132,7 @@ module _ (old : List ℕ) (n : ℕ) where
       (λ e. rw e (test? (termed_well_formed old n) (λ q. absurd (true≢false (sym (eq-eqb (length old) table_bytes (termed_packed old n q).len) ∙ a))) (λ q. q)))
 
 -- the lengths, by the tests of the code
-pub present_length : (n : ℕ) → n ≡ table_bytes → true ≡ older_length n
-present_length n e = rw (eq-eqb n table_bytes e)
-
-pub old_tested : (n : ℕ) → (n ≡ table_bytes → ⊥) → eqb n old_table_bytes ≡ older_length n
+old_tested : (n : ℕ) → (n ≡ table_bytes → ⊥) → eqb n old_table_bytes ≡ older_length n
 old_tested n h = rw (ne_eqb n table_bytes h)
 
 pub old_left : (n : ℕ) → older_length n ≡ true → (n ≡ table_bytes → ⊥) → n ≡ old_table_bytes
@@ -250,8 +247,8 @@ module _ (old second : List ℕ) (n : ℕ) where
   accepts = older_well_formed old n && eqb (length second) table_bytes
 
   -- the older tables are of no such length; the second buffer is not of its length
-  pub wrong_old : (r : Bool) → r ≡ older_length (length old) → not r ≡ true → false ≡ accepts
-  wrong_old r e h = rw (older_other old n (sym e ∙ not-true r h))
+  pub wrong_old : (r : Bool) → r ≡ older_length (length old) → r ≡ false → false ≡ accepts
+  wrong_old r e h = rw (older_other old n (sym e ∙ h))
 
   pub wrong_second : (length second ≡ table_bytes → ⊥) → false ≡ accepts
   wrong_second h = rw (ne_eqb (length second) table_bytes h, and_false)
@@ -268,7 +265,7 @@ module _ (old second : List ℕ) (n : ℕ) where
     converted t₁ t₂ bs q a = sym (pack_unpack t₂ a.packed bs) ∙ ap pack (a.view ∙ ap (λ (x : List ℕ). cleared (unpack x)) q ∙ ap cleared k.holds)
 
     -- what clearing needs
-    pub parts_ready : not ok ≡ false → (t₁ : List ℕ) → t₁ ≡ front ++ files_of old → PackedTables t₁ × ((f s : ℕ) → BlocksIn f s (unpack t₁))
+    pub parts_ready : ok ≡ true → (t₁ : List ℕ) → t₁ ≡ front ++ files_of old → PackedTables t₁ × ((f s : ℕ) → BlocksIn f s (unpack t₁))
     parts_ready h t₁ q =
-        let w : termed_well_formed t₁ n ≡ true = ap (λ (x : List ℕ). termed_well_formed x n) q ∙ sym e ∙ not-false ok h in
+        let w : termed_well_formed t₁ n ≡ true = ap (λ (x : List ℕ). termed_well_formed x n) q ∙ sym e ∙ h in
         (termed_packed t₁ n w, formed_low t₁ n w)

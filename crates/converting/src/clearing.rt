@@ -26,9 +26,7 @@ pub fn clear_marked(t: &mut [u8])
     requires { PackedTables t.old × ((f s : ℕ) → BlocksIn f s (unpack t.old)) }
     ensures { Turns t.old t.new cleared }
 {
-    let mut i: usize = 0;
-    while i < 128 {
+    for i in 0..128 {
         clear_file(t, i % 16, i / 16);
-        i += 1;
     }
 }

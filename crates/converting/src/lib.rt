@@ -15,6 +15,7 @@ use formed::parts_formed;
 use packing::words;
 use pages::copy_bytes;
 use tables::places::{FILES_AT, OLD_TABLE_BYTES, SET_BYTES, SETS_AT, TABLE_BYTES, TREE_BYTES};
+use tables::sets::END_DAY;
 
 pub mod clearing;
 
@@ -22,12 +23,12 @@ pub mod clearing;
 const FILES_BYTES: usize = TABLE_BYTES - FILES_AT;
 
 // The word of the term of a set with this first word: "adding the default term to used sets".
-fn default_term(w: u32) -> u32
+fn default_term(w: u64) -> u64
     requires { w < 0x1_00_00_00 }
     ensures { result ≡ cond (used_word w) last_end 0 }
 {
     if w / 8388608 == 1 {
-        return 36525;
+        return END_DAY as u64;
     }
     0
 }
@@ -37,10 +38,10 @@ fn put_record(front: &mut [u8], old: &[u8], s: usize)
     requires { FrontTo old.now front.old s × (length old.now ≡ old_table_bytes) × (s < 8) }
     ensures { FrontTo old.now front.new (s + 1) }
 {
-    let w = words::read24(old, SETS_AT + s * TREE_BYTES);
+    let w = words::read::<3>(old, SETS_AT + s * TREE_BYTES);
     let term = default_term(w);
-    words::write24(front, SETS_AT + s * SET_BYTES, w);
-    words::write32(front, SETS_AT + s * SET_BYTES + TREE_BYTES, term);
+    words::write::<3>(front, SETS_AT + s * SET_BYTES, w);
+    words::write::<4>(front, SETS_AT + s * SET_BYTES + TREE_BYTES, term);
 }
 
 // Of tables without terms: header and bitmap as they stand, and the set records with their terms.
@@ -49,10 +50,8 @@ fn widen_front(front: &mut [u8], old: &[u8])
     ensures { WidenedFront old.now front.new }
 {
     copy_bytes(front, 0, old, 0, SETS_AT);
-    let mut s: usize = 0;
-    while s < 8 {
+    for s in 0..8 {
         put_record(front, old, s);
-        s += 1;
     }
 }
 
@@ -72,10 +71,7 @@ fn put_front(front: &mut [u8], old: &[u8])
 fn older_length(n: usize) -> bool
     ensures { result ≡ older_length n }
 {
-    if n == TABLE_BYTES {
-        return true;
-    }
-    n == OLD_TABLE_BYTES
+    n == TABLE_BYTES || n == OLD_TABLE_BYTES
 }
 
 // The second buffer has the two parts.
@@ -88,7 +84,7 @@ fn put_parts(tables: &mut [u8], front: &[u8], files: &[u8])
 }
 
 // "takes well-formed tables .. into a second buffer of 17,468 ..; otherwise it .. writes nothing", and clears the marked
-// files "in older tables of either length": are they converted? The pages buffer has n bytes.
+// files "in older tables of either length": are they converted? There is one refusal, so a `bool` tells it. The pages buffer has n bytes.
 pub fn convert_tables(old: &[u8], n: usize, tables: &mut [u8]) -> bool
     ensures { (result ≡ (older_well_formed old.now n && eqb (length tables.old) table_bytes)) × (tables.new ≡ cond result (pack (cleared (older_unpack old.now))) tables.old) }
 {

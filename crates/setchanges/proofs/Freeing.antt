@@ -171,7 +171,7 @@ none_freed map bits u = ap (λ (m : ℕ → Entry ℕ). each (λ p. free_bit (m 
 
 -- LAW: nothing is freed; r is the test of the code
 pub freed_blank : (t : List ℕ) (f s : ℕ) (r : Bool) → PackedTables t → f < 16 → s < 8 → r ≡ zero_bytes t (map_at f s) map_bytes → r ≡ true → Turns t t (freed_in f s)
-unfolding freed_in with_bits
+unfolding freed_in
 freed_blank t f s r h hf hs e k =
     let tb = unpack t in
     let u = map_zero t f s (zero_at t (map_at f s) map_bytes (sym e ∙ k)) hf hs in

@@ -22,15 +22,11 @@ use Rattle.tables.specs.Views.{Turns, put_set_in}
 
 module _ (sets : ℕ → SetRecord) where
   -- LAWS of the loop
-  pub last_turn : (n x next : ℕ) → 0 < n → next ≡ (sets x).next_sibling → next < set_count → last_of sets n x ≡ last_of sets (n - 1) next
-  last_turn n x next h e l =
-      let q : n ≡ suc (n - 1) = omega arith in
-      ap (λ m. last_of sets m x) q ∙ last_next sets (n - 1) x (subst (λ k. k < set_count) e l) ∙ ap (last_of sets (n - 1)) (sym e)
+  pub last_turn : (m n x next : ℕ) → m ≡ suc n → next ≡ (sets x).next_sibling → next < set_count → last_of sets m x ≡ last_of sets n next
+  last_turn m n x next q e l = ap (λ k. last_of sets k x) q ∙ last_next sets n x (subst (λ k. k < set_count) e l) ∙ ap (last_of sets n) (sym e)
 
-  pub last_stop : (n x next : ℕ) → 0 < n → next ≡ (sets x).next_sibling → set_count ≤ next → last_of sets n x ≡ x
-  last_stop n x next h e l =
-      let q : n ≡ suc (n - 1) = omega arith in
-      ap (λ m. last_of sets m x) q ∙ last_here sets (n - 1) x (subst (λ k. set_count ≤ k) e l)
+  pub last_stop : (m n x next : ℕ) → m ≡ suc n → next ≡ (sets x).next_sibling → set_count ≤ next → last_of sets m x ≡ x
+  last_stop m n x next q e l = ap (λ k. last_of sets k x) q ∙ last_here sets n x (subst (λ k. set_count ≤ k) e l)
 
   pub last_end : (n x : ℕ) → n ≡ 0 → last_of sets n x ≡ x
   last_end n x e = ap (λ m. last_of sets m x) e ∙ last_done sets x

@@ -12,10 +12,8 @@ fn put_holes(t: &mut [u8], f: usize, s: usize)
     requires { PackedTables t.old × (f < 16) × (s < 8) }
     ensures { Turns t.old t.new (holes_in f s) }
 {
-    let mut p: usize = 0;
-    while p < 64 {
+    for p in 0..64 {
         entries::put_entry(t, f, s, Page::new(p), Entry::Hole);
-        p += 1;
     }
 }
 

@@ -7,6 +7,7 @@ ghost use Rattle.tables.specs.Packed.{pack};
 ghost use Rattle.tables.specs.Views.{PackedTables, Turns};
 ghost use Rattle.setchanges.specs.Changes.{put_header_in};
 
+use dates::Days;
 use packing::words;
 use tables::places::TABLE_BYTES;
 use tables::sets;
@@ -17,7 +18,7 @@ fn put_blocks(t: &mut [u8], blocks: usize)
     requires { PackedTables t.old × (blocks < 8192) }
     ensures { Turns t.old t.new (put_header_in blocks 0) }
 {
-    words::write32(t, 0, (blocks * 524288) as u32);
+    words::write::<4>(t, 0, (blocks * 524288) as u64);
 }
 
 // "Format makes set 0 alone": every other byte is zero. "Format and making a set give 0 and 36,525."
@@ -37,8 +38,10 @@ pub fn format_tables(t: &mut [u8], blocks: usize)
             parent: 8,
             first_child: 8,
             next_sibling: 8,
-            first_day: 0,
-            end_day: sets::END_DAY,
+            term: Days {
+                first_day: 0,
+                end_day: sets::END_DAY,
+            },
         },
     );
 }

@@ -8,24 +8,24 @@ ghost use Rattle.tables.specs.Views.{PackedTables, Turns};
 ghost use Rattle.tables.specs.Meaning.{state_meant};
 ghost use Rattle.setchanges.specs.Changes.{appended_in, child_files_in, child_put_in, first_child_in, last_of, made_in, next_sibling_in};
 
+use dates::Days;
 use tables::files::State;
 use tables::sets::SetRecord;
 use tables::{files, sets};
 
-// The last of the sibling chain that begins at set `first`; no chain has more than 8 sets.
+// The last of the sibling chain that begins at set `first`; no chain has more than 8 sets. The tables write 8 where a link
+// leads to no set, and a contract promises each link as it is stored.
 fn last_of(t: &[u8], first: usize) -> usize
     requires { (length t.now ≡ table_bytes) × (first < 8) }
     ensures { (result ≡ last_of (unpack t.now).sets 7 first) × (result < 8) }
 {
     let mut x = first;
-    let mut n: usize = 7;
-    while 0 < n {
+    for _ in 0..7usize {
         let next = sets::next_sibling_of(t, x);
         if 8 <= next {
             return x;
         }
         x = next;
-        n -= 1;
     }
     x
 }
@@ -46,12 +46,15 @@ fn put_child(t: &mut [u8], s: usize, c: usize, writeable: bool)
             parent: s,
             first_child: 8,
             next_sibling: 8,
-            first_day: 0,
-            end_day: sets::END_DAY,
+            term: Days {
+                first_day: 0,
+                end_day: sets::END_DAY,
+            },
         },
     );
 }
 
+// A field's name is no value, so that each link has a function: a closure for the change would be no plainer.
 fn put_first_child(t: &mut [u8], s: usize, c: usize)
     requires { PackedTables t.old × (s < 8) × (c < 8) }
     ensures { Turns t.old t.new (first_child_in s c) }
@@ -61,14 +64,8 @@ fn put_first_child(t: &mut [u8], s: usize, c: usize)
         t,
         s,
         SetRecord {
-            used: r.used,
-            writeable: r.writeable,
-            level: r.level,
-            parent: r.parent,
             first_child: c,
-            next_sibling: r.next_sibling,
-            first_day: r.first_day,
-            end_day: r.end_day,
+            ..r
         },
     );
 }
@@ -82,14 +79,8 @@ fn put_next_sibling(t: &mut [u8], x: usize, c: usize)
         t,
         x,
         SetRecord {
-            used: r.used,
-            writeable: r.writeable,
-            level: r.level,
-            parent: r.parent,
-            first_child: r.first_child,
             next_sibling: c,
-            first_day: r.first_day,
-            end_day: r.end_day,
+            ..r
         },
     );
 }
@@ -116,8 +107,7 @@ fn child_state(l: State) -> State
 {
     match l {
         State::Absent => State::Absent,
-        State::Own => State::Virgin,
-        State::Virgin => State::Virgin,
+        State::Own | State::Virgin => State::Virgin,
         State::Marked => State::Marked,
     }
 }
@@ -127,11 +117,9 @@ fn child_files(t: &mut [u8], s: usize, c: usize)
     requires { PackedTables t.old × (s < 8) × (c < 8) × ((f : ℕ) → f < 16 → (unpack t.old).files f c ≡ absent_file) }
     ensures { Turns t.old t.new (child_files_in s c) }
 {
-    let mut f: usize = 0;
-    while f < 16 {
+    for f in 0..16 {
         let l = child_state(files::state_at(&*t, f, s));
         files::put_head(t, f, c, l, 0);
-        f += 1;
     }
 }
 

@@ -5,6 +5,7 @@ ghost use Rattle.tables.specs.Views.{PackedTables, Turns};
 ghost use Rattle.tables.specs.Meaning.{entry_meant};
 ghost use Rattle.setchanges.specs.Changes.{BlocksIn, block_in, cleared_in, erased_in, freed_entry_in, freed_in, past_in, removed_in, unlinked_in};
 
+use dates::Days;
 use packing::words;
 use tables::entries::{Entry, Page};
 use tables::places::{FILE_BYTES, FILES_AT, MAP_BYTES, MAPS_AT};
@@ -25,8 +26,7 @@ pub fn free_entry(t: &mut [u8], e: Entry)
     ensures { Turns t.old t.new (freed_entry_in (entry_meant e)) }
 {
     match e {
-        Entry::Unmapped => {}
-        Entry::Hole => {}
+        Entry::Unmapped | Entry::Hole => {}
         Entry::Stored(b) => entries::release_block(t, b),
     }
 }
@@ -39,11 +39,9 @@ pub fn free_map(t: &mut [u8], f: usize, s: usize)
     if words::all_zero(&*t, MAPS_AT + (s * 16 + f) * FILE_BYTES, MAP_BYTES) {
         return;
     }
-    let mut p: usize = 0;
-    while p < 64 {
+    for p in 0..64 {
         let e = entries::entry_at(&*t, f, s, Page::new(p));
         free_entry(t, e);
-        p += 1;
     }
 }
 
@@ -52,11 +50,9 @@ fn clear_files(t: &mut [u8], c: usize)
     requires { PackedTables t.old × (c < 8) × ((f : ℕ) → f < 16 → BlocksIn f c (unpack t.old)) }
     ensures { Turns t.old t.new (cleared_in c) }
 {
-    let mut f: usize = 0;
-    while f < 16 {
+    for f in 0..16 {
         free_map(t, f, c);
         erase_record(t, f, c);
-        f += 1;
     }
 }
 
@@ -83,14 +79,9 @@ fn link_past(t: &mut [u8], x: usize, c: usize, next: usize)
         t,
         x,
         SetRecord {
-            used: r.used,
-            writeable: r.writeable,
-            level: r.level,
-            parent: r.parent,
             first_child: child,
             next_sibling: sibling,
-            first_day: r.first_day,
-            end_day: r.end_day,
+            ..r
         },
     );
 }
@@ -101,10 +92,8 @@ fn unlink_set(t: &mut [u8], c: usize)
     ensures { Turns t.old t.new (unlinked_in c) }
 {
     let next = sets::next_sibling_of(&*t, c);
-    let mut x: usize = 0;
-    while x < 8 {
+    for x in 0..8 {
         link_past(t, x, c, next);
-        x += 1;
     }
     sets::put_set(
         t,
@@ -116,8 +105,10 @@ fn unlink_set(t: &mut [u8], c: usize)
             parent: 0,
             first_child: 0,
             next_sibling: 0,
-            first_day: 0,
-            end_day: 0,
+            term: Days {
+                first_day: 0,
+                end_day: 0,
+            },
         },
     );
 }

@@ -6,4 +6,4 @@ use Rattle.converting.proofs.put_record.Goals as goal
 pub returns : goal.returns
 returns c =
     let h = c.requires in
-    record_put _ _ _ h.0 h.2 _ _ _ _ (λ (j : ℕ). (c.type_inv.front j).fits) c.read24-w.ensures c.default_term-term.ensures c.write24.ensures c.write32.ensures
+    record_put _ _ _ h.0 h.2 _ _ _ _ (λ (j : ℕ). (c.type_inv.front j).fits) c.read-w.ensures c.default_term-term.ensures c.write.ensures c.write-2.ensures

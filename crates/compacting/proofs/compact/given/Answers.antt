@@ -2,17 +2,13 @@
 use mathlib.Core.Path.{ap}
 use native.Mathlib.Omega.{arith}
 use Rattle.base.specs.Logic.{digit}
+use Rattle.compacting.proofs.NotStored.{not_stored}
 use Rattle.rules.specs.State.{is_stored}
 use Rattle.tables.specs.Meaning.{entry_meant}
 use Rattle.compacting.proofs.compact.given.Goals as goal
 
 pub returns-in-Unmapped : goal.returns-in-Unmapped
-unfolding entry_meant
-returns-in-Unmapped c = let z = ap (λ x. digit (is_stored (entry_meant x))) c.in-Unmapped.is in omega (arith, z)
-
-pub returns-in-Hole : goal.returns-in-Hole
-unfolding entry_meant
-returns-in-Hole c = let z = ap (λ x. digit (is_stored (entry_meant x))) c.in-Hole.is in omega (arith, z)
+returns-in-Unmapped c = let z = ap digit (not_stored _ c.in-Unmapped.is) in omega (arith, z)
 
 pub returns-in-Stored : goal.returns-in-Stored
 unfolding entry_meant

@@ -2,6 +2,7 @@
 use mathlib.Core.Path.{ap, sym, ◌∙◌}
 use native.Mathlib.Omega.{arith}
 use Rattle.base.specs.Logic.{digit}
+use Rattle.compacting.proofs.NotStored.{not_stored}
 use Rattle.compacting.proofs.Tracking.{tracked_next}
 use Rattle.compacting.proofs.Turning.{gather_below, gather_more, gather_owner, gather_skip, gathered_as}
 use Rattle.rules.specs.State.{is_stored}
@@ -16,16 +17,8 @@ place_block-requires c =
     (p.0, p.2, here, gather_below _ _ p.0 c.args.n c.args.k p.1 _ p.2 here, gather_owner _ _ p.0 c.args.n c.args.k p.1, p.4, p.5)
 
 pub returns-in-Unmapped : goal.returns-in-Unmapped
-unfolding entry_meant
 returns-in-Unmapped c =
-    let q = ap (λ x. is_stored (entry_meant x)) c.in-Unmapped.is in
-    let z = ap digit q in
-    (gathered_as _ _ _ _ _ c.args.k _ (gather_skip _ _ c.requires.0 c.args.n c.args.k c.requires.1 _ c.requires.3 q) (omega (arith, z)), tracked_next _ _ _ _ c.requires.5)
-
-pub returns-in-Hole : goal.returns-in-Hole
-unfolding entry_meant
-returns-in-Hole c =
-    let q = ap (λ x. is_stored (entry_meant x)) c.in-Hole.is in
+    let q = not_stored _ c.in-Unmapped.is in
     let z = ap digit q in
     (gathered_as _ _ _ _ _ c.args.k _ (gather_skip _ _ c.requires.0 c.args.n c.args.k c.requires.1 _ c.requires.3 q) (omega (arith, z)), tracked_next _ _ _ _ c.requires.5)
 

@@ -2,6 +2,7 @@
 use mathlib.Core.Bool.{true≢false}
 use mathlib.Core.Path.{ap, sym, ◌∙◌}
 use Rattle.compaction.proofs.Places.{name_of}
+use Rattle.compacting.proofs.NotStored.{not_stored}
 use Rattle.compacting.proofs.Turning.{swap_as}
 use Rattle.rules.specs.State.{is_stored}
 use Rattle.tables.specs.Meaning.{entry_meant}
@@ -15,12 +16,7 @@ exchange-requires c =
     (p.0, p.1, p.2, p.3, p.4 ∙ sym p.5 ∙ e, p.6, λ q. p.7 (ap name_of (sym p.5 ∙ e) ∙ q))
 
 pub returns-in-Unmapped : goal.returns-in-Unmapped
-unfolding entry_meant
-returns-in-Unmapped c = absurd (true≢false (sym (ap is_stored (sym (ap entry_meant c.in-Unmapped.is) ∙ c.requires.5))))
-
-pub returns-in-Hole : goal.returns-in-Hole
-unfolding entry_meant
-returns-in-Hole c = absurd (true≢false (sym (ap is_stored (sym (ap entry_meant c.in-Hole.is) ∙ c.requires.5))))
+returns-in-Unmapped c = absurd (true≢false (sym (ap is_stored c.requires.5) ∙ not_stored _ c.in-Unmapped.is))
 
 pub returns-in-Stored : goal.returns-in-Stored
 unfolding entry_meant

@@ -2,10 +2,11 @@
 use mathlib.Core.Bool.{false}
 use mathlib.Core.Path.{◌≡◌, sym, ◌∙◌}
 use Prim.Native.Nat.{◌<◌}
-use borrow.Author.Tests.{not-false, not-true}
+use native.Mathlib.Omega.{arith}
 use Rattle.compaction.specs.Compact.{entry_in}
+use Rattle.compacting.proofs.Becoming.{tracked_become}
 use Rattle.compacting.proofs.OnBytes.{own_swap}
-use Rattle.compacting.proofs.Tracking.{in_window_law, owner_found, tracked_exchanged, tracked_moved, tracked_next, tracked_noted, window_moved}
+use Rattle.compacting.proofs.Tracking.{in_window_law, owner_found, tracked_exchanged, tracked_moved, tracked_next, window_moved}
 use Rattle.rules.specs.State.{stored}
 use Rattle.tables.specs.Packed.{unpack}
 use Rattle.compacting.proofs.exchange.place_block.Goals as goal
@@ -17,7 +18,7 @@ returns-then-k-number c =
 
 -- block k is free
 unused : (c : Then-not-is_used) → (unpack c.args.t.now).bits c.args.k ≡ false
-unused c = sym c.is_used.ensures ∙ not-true c.is_used.result c.if-not-is_used.true-raw
+unused c = sym c.is_used.ensures ∙ c.if-not-is_used.true
 
 pub move_to-requires : goal.move_to-requires
 move_to-requires c =
@@ -25,20 +26,20 @@ move_to-requires c =
 
 pub returns-then-not-is_used : goal.returns-then-not-is_used
 returns-then-not-is_used c =
-    (c.move_to.ensures, tracked_moved _ _ c.args.w c.args.n c.requires.6 _ _ _ c.args.k c.args.b.0 c.requires.0 c.requires.2 c.move_to.ensures (unused (goal.at.returns-then-not-is_used c).Then-not-is_used))
+    (c.move_to.ensures, tracked_moved _ _ c.args.owners.now.first c.args.n c.requires.6 _ _ _ c.args.k c.args.b.0 c.requires.0 c.requires.2 c.move_to.ensures (unused (goal.at.returns-then-not-is_used c).Then-not-is_used))
+
+pub window-requires : goal.window-requires
+window-requires c = let p = c.requires in (p.0.packed, p.0.held, p.1, omega (arith, p.3, p.0.most))
 
 pub owner_of-o-requires : goal.owner_of-o-requires
-owner_of-o-requires c =
-    let m = window_moved _ _ _ _ c.args.w c.args.n c.args.k _ c.requires.0 c.requires.1 c.requires.6 c.window-first.ensures in
-    let i = in_window_law _ _ m.holds in
-    (m.tracked.long, i.0, i.1)
+owner_of-o-requires c = in_window_law _ _ (window_moved _ _ _ _ c.args.owners.now.first c.args.n c.args.k _ c.requires.0 c.requires.1 c.requires.6 c.window.ensures).holds
 
 -- its owner
 owner : (c : After-owner_of-o) → (c.owner_of-o.result < 8192) × (entry_in (unpack c.args.t.now).files c.owner_of-o.result ≡ stored c.args.k)
 owner c =
-    owner_found _ _ c.window-first.result c.args.n c.args.k _
-    (window_moved _ _ _ _ c.args.w c.args.n c.args.k _ c.requires.0 c.requires.1 c.requires.6 c.window-first.ensures)
-    (c.requires.4 (sym c.is_used.ensures ∙ not-false c.is_used.result c.if-not-is_used.false-raw)) c.owner_of-o.ensures
+    owner_found _ _ c.window.new.self.first c.args.n c.args.k _
+    (window_moved _ _ _ _ c.args.owners.now.first c.args.n c.args.k _ c.requires.0 c.requires.1 c.requires.6 c.window.ensures)
+    (c.requires.4 (sym c.is_used.ensures ∙ c.if-not-is_used.false)) c.owner_of-o.ensures
 
 pub entry_in-requires : goal.entry_in-requires
 entry_in-requires c = (c.requires.0.packed.len, (owner (goal.at.entry_in-requires c).After-owner_of-o).0)
@@ -49,13 +50,12 @@ exchange_with-requires c =
     (p.0, p.1, (owner (goal.at.exchange_with-requires c).After-owner_of-o).0, p.2, (owner (goal.at.exchange_with-requires c).After-owner_of-o).1, c.entry_in.ensures ∙ (owner (goal.at.exchange_with-requires c).After-owner_of-o).1, p.5, λ q. c.if-k-number.false (q ∙ sym c.number.ensures))
 
 pub note-requires : goal.note-requires
-note-requires c =
-    ((window_moved _ _ _ _ c.args.w c.args.n c.args.k _ c.requires.0 c.requires.1 c.requires.6 c.window-first.ensures).tracked.long, (owner (goal.at.note-requires c).After-owner_of-o).0)
+note-requires c = (owner (goal.at.note-requires c).After-owner_of-o).0
 
 pub returns : goal.returns
 returns c =
-    let m = window_moved _ _ _ _ c.args.w c.args.n c.args.k _ c.requires.0 c.requires.1 c.requires.6 c.window-first.ensures in (
+    let m = window_moved _ _ _ _ c.args.owners.now.first c.args.n c.args.k _ c.requires.0 c.requires.1 c.requires.6 c.window.ensures in (
       c.exchange_with.ensures,
-      tracked_noted _ _ _ c.window-first.result _ c.args.b.0 _ c.owner_of-o.result c.note.ensures c.number-2.ensures
+      tracked_become _ c.window.new.self _ _ c.args.b.0 _ c.owner_of-o.result c.note.ensures c.number-2.ensures
           (tracked_exchanged _ _ _ c.args.n m.tracked _ _ _ c.args.k c.args.b.0 c.requires.0 c.requires.2 c.exchange_with.ensures c.owner_of-o.result (owner (goal.at.returns c).After-owner_of-o).1),
     )

@@ -1,5 +1,5 @@
 -- `compacting::exchange::swap_pages` meets its contract. The loop's invariant: the bytes before byte i have changed places. Assumes nothing.
-use mathlib.Core.Path.{◌≡◌, ap, refl, sym, ◌∙◌}
+use mathlib.Core.Path.{◌≡◌, ap, sym, ◌∙◌}
 use Prim.Native.Nat.{◌*◌, ◌+◌, suc}
 use native.Mathlib.Omega.{arith}
 use lib.ListN.{length-set}
@@ -9,7 +9,7 @@ use Rattle.tables.specs.Calls.{pages_of}
 use Rattle.compacting.proofs.exchange.swap_pages.Goals as goal
 
 pub loop-i-init : goal.loop-i-init
-loop-i-init c = (omega arith, refl, refl, sym (traded_none _ _ _))
+loop-i-init c = sym (traded_none _ _ _)
 
 pub loop-i-preserved : goal.loop-i-preserved
 loop-i-preserved c =
@@ -18,30 +18,20 @@ loop-i-preserved c =
     let y = c.number-y.result * 512 in
     let a = c.number-x.ensures in
     let b = c.number-y.ensures in
-    let e : suc l.i ≡ l.i + 1 = omega arith in (
-      omega (arith, c.loop-i-test.true),
-      simp length-set l.invariant.1,
-      simp length-set l.invariant.2,
-      trade_more c.args.pages.now l.pages l.spare x y l.i _ l.invariant.3 l.invariant.2 (omega (arith, c.loop-i-test.true, c.requires.3))
-          (λ j k q. c.requires.0 (omega (arith, k, q, a, b, c.loop-i-test.true))) (λ j k q. c.requires.0 (omega (arith, k, q, a, b, c.loop-i-test.true)))
-          (λ q. c.requires.0 (omega (arith, q, a, b))) ∙ ap (traded c.args.pages.now x y) e,
-    )
+    let e : suc l.i ≡ l.i + 1 = omega arith in
+    trade_more c.args.pages.now l.pages l.spare x y l.i _ l.invariant l.auto.spare (omega (arith, c.loop-i-test.true, c.requires.3))
+    (λ j k q. c.requires.0 (omega (arith, k, q, a, b, c.loop-i-test.true))) (λ j k q. c.requires.0 (omega (arith, k, q, a, b, c.loop-i-test.true)))
+    (λ q. c.requires.0 (omega (arith, q, a, b))) ∙ ap (traded c.args.pages.now x y) e
 
 pub bounds-pages-y-in-loop-i : goal.bounds-pages-y-in-loop-i
 bounds-pages-y-in-loop-i c =
-    simp length-set (omega (arith, c.loop-i-test.true, c.loop-i.invariant.1, c.number-y.ensures, c.requires.2))
+    simp length-set (omega (arith, c.loop-i-test.true, c.loop-i.auto.pages, c.number-y.ensures, c.requires.2))
 
 pub returns : goal.returns
 returns c =
     let l = c.loop-i in
     let p = c.args.pages.now in
     let e : l.i ≡ 512 = omega arith in
-    ap pages_of (l.invariant.3
+    ap pages_of (l.invariant
     ∙ (λ i. traded p (c.number-x.ensures i * 512) (c.number-y.ensures i * 512) (e i)))
     ∙ pages_traded p c.args.a.0 c.args.b.0 c.requires.0 c.requires.1 c.requires.2
-
-pub shape_of-pages : goal.shape_of-pages
-shape_of-pages c = c.loop-i.invariant.1
-
-pub shape_of-spare : goal.shape_of-spare
-shape_of-spare c = c.loop-i.invariant.2

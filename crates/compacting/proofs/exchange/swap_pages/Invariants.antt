@@ -1,12 +1,7 @@
 -- `compacting::exchange::swap_pages` meets its contract. The loop's invariant: the bytes before byte i have changed places. Assumes nothing.
 use mathlib.Core.Path.{◌≡◌}
-use Prim.Native.Nat.{◌-◌, ◌≤◌}
-use lib.ListN.{length}
 use Rattle.compacting.specs.Exchange.{traded}
 use Rattle.compacting.proofs.exchange.swap_pages.Given as goal
 
 abbrev pub invariant-loop-i : goal.invariant-loop-i
-invariant-loop-i l = (l.i ≤ 512) × (length l.pages ≡ length l.initial.pages) × (length l.spare ≡ length l.initial.spare) × (l.pages ≡ traded l.initial.pages l.x l.y l.i)
-
-abbrev pub decreases-loop-i : goal.decreases-loop-i
-decreases-loop-i l = 512 - l.i
+invariant-loop-i l = l.pages ≡ traded l.initial.pages l.x l.y l.i

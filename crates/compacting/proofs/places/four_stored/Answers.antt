@@ -13,4 +13,4 @@ unfolding four_stored
 returns c =
     let a = c.args in
     let e : maps_at + a.r * file_bytes + a.g * 8 ≡ map_at (a.r % 16) (a.r / 16) + a.g * 8 = omega arith in
-    ap (λ w. bit_and w 0x0080008000800080) (c.low64.ensures ∙ ap (low_word 7 a.t.now) e)
+    ap (λ w. bit_and w 0x0080008000800080) (c.low.ensures.0 ∙ ap (low_word 7 a.t.now) e)

@@ -10,4 +10,4 @@ pub returns : goal.returns
 returns c =
     let a = c.args in
     let e : maps_at + a.r * file_bytes + a.q * 2 ≡ entry_at (a.r % 16) (a.r / 16) a.q = omega arith in
-    c.wide.ensures ∙ c.read16.ensures ∙ ap (get_word 1 a.t.now) e
+    c.read.ensures.0 ∙ ap (get_word 1 a.t.now) e

@@ -3,4 +3,4 @@ use Rattle.setchanges.proofs.BlankTables.{blocks_put}
 use Rattle.setchanges.proofs.format.put_blocks.Goals as goal
 
 pub returns : goal.returns
-returns c = blocks_put _ _ _ c.requires c.write32.ensures
+returns c = blocks_put _ _ _ c.requires c.write.ensures

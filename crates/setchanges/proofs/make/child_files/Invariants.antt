@@ -1,11 +1,7 @@
 -- `setchanges::make::child_files` meets its contract. The loop's invariant: the first f files are done. Assumes nothing.
-use Prim.Native.Nat.{◌≤◌, ◌-◌}
 use Rattle.tables.specs.Views.{Turns}
 use Rattle.setchanges.proofs.ChildFiles.{child_files_to}
 use Rattle.setchanges.proofs.make.child_files.Given as goal
 
 abbrev pub invariant-loop-f : goal.invariant-loop-f
-invariant-loop-f l = (l.f ≤ 16) × Turns l.initial.t l.t (child_files_to l.s l.c l.f)
-
-abbrev pub decreases-loop-f : goal.decreases-loop-f
-decreases-loop-f l = 16 - l.f
+invariant-loop-f l = Turns l.initial.t l.t (child_files_to l.s l.c l.f)

@@ -11,10 +11,6 @@ pub returns-in-Own : goal.returns-in-Own
 unfolding state_meant
 returns-in-Own c = search rules
 
-pub returns-in-Virgin : goal.returns-in-Virgin
-unfolding state_meant
-returns-in-Virgin c = search rules
-
 pub returns-in-Marked : goal.returns-in-Marked
 unfolding state_meant
 returns-in-Marked c = search rules

@@ -1,4 +1,5 @@
 -- `setchanges::remove::free_entry` meets its contract. Assumes nothing.
+use mathlib.Core.Logic.{inl, inr}
 use mathlib.Core.Path.{ap}
 use Rattle.tables.specs.Meaning.{entry_meant}
 use Rattle.setchanges.proofs.Freeing.{free_unmapped, free_hole, free_stored, free_below}
@@ -11,11 +12,11 @@ release_block-requires c =
 
 pub returns-in-Unmapped : goal.returns-in-Unmapped
 unfolding entry_meant
-returns-in-Unmapped c = free_unmapped _ _ (ap entry_meant c.in-Unmapped.is) c.requires.0
-
-pub returns-in-Hole : goal.returns-in-Hole
-unfolding entry_meant
-returns-in-Hole c = free_hole _ _ (ap entry_meant c.in-Hole.is) c.requires.0
+returns-in-Unmapped c =
+    elim c.in-Unmapped.is [
+      | inl e ↦ free_unmapped _ _ (ap entry_meant e) c.requires.0
+      | inr e ↦ free_hole _ _ (ap entry_meant e) c.requires.0
+    ]
 
 pub returns-in-Stored : goal.returns-in-Stored
 unfolding entry_meant

@@ -1,5 +1,5 @@
 -- `setchanges::remove::free_map` meets its contract. The loop's invariant: the blocks of the first p entries are free. Assumes nothing.
-use mathlib.Core.Path.{refl, sym, ◌∙◌}
+use mathlib.Core.Path.{refl}
 use native.Mathlib.Omega.{arith}
 use Rattle.setchanges.proofs.Freeing.{freed_blank, freed_block, freed_end, freed_start, freed_turn}
 use Rattle.setchanges.proofs.remove.free_map.Goals as goal
@@ -13,27 +13,24 @@ returns-then-all_zero c =
     freed_blank _ _ _ _ p.0 p.1 p.2 c.all_zero.ensures c.if-all_zero.true
 
 pub loop-p-init : goal.loop-p-init
-loop-p-init c = (omega arith, freed_start _ _ c.requires.0)
+loop-p-init c = freed_start _ _ c.requires.0
 
 pub entry_at-e-requires : goal.entry_at-e-requires
 entry_at-e-requires c =
     let e = c.new.ensures in
-    (c.loop-p.invariant.1.packed.len, c.requires.1, c.requires.2, omega arith)
+    (c.loop-p.invariant.packed.len, c.requires.1, c.requires.2, omega arith)
 
 pub free_entry-requires : goal.free_entry-requires
 free_entry-requires c =
-    (c.loop-p.invariant.1.packed, freed_block c.args.f c.args.s c.loop-p.p _ _ c.requires.3 c.loop-p.invariant.1 c.new.ensures c.entry_at-e.ensures)
+    (c.loop-p.invariant.packed, freed_block c.args.f c.args.s c.loop-p.p _ _ c.requires.3 c.loop-p.invariant c.new.ensures c.entry_at-e.ensures)
 
 pub loop-p-preserved : goal.loop-p-preserved
 loop-p-preserved c =
     let a = c.args in
-    (omega arith, freed_turn a.f a.s c.loop-p.p _ _ c.loop-p.invariant.1 c.new.ensures c.entry_at-e.ensures c.free_entry.ensures)
-
-pub shape_of-t : goal.shape_of-t
-shape_of-t c = c.loop-p.invariant.1.packed.len ∙ sym c.requires.0.len
+    freed_turn a.f a.s c.loop-p.p _ _ c.loop-p.invariant c.new.ensures c.entry_at-e.ensures c.free_entry.ensures
 
 pub returns : goal.returns
-returns c = freed_end _ _ c.loop-p.p (omega arith) c.loop-p.invariant.1
+returns c = freed_end _ _ c.loop-p.p (omega arith) c.loop-p.invariant
 
 pub shape_of-t-then-all_zero : goal.shape_of-t-then-all_zero
 shape_of-t-then-all_zero c = refl

@@ -6,19 +6,19 @@ use Rattle.setchanges.proofs.Unlinking.{past_start, past_turn, past_end}
 use Rattle.setchanges.proofs.remove.unlink_set.Goals as goal
 
 pub loop-x-init : goal.loop-x-init
-loop-x-init c = (omega arith, past_start _ _ c.requires.0)
+loop-x-init c = past_start _ _ c.requires.0
 
 pub link_past-requires : goal.link_past-requires
 link_past-requires c =
-    (c.loop-x.invariant.1.packed, omega arith, c.next_sibling_of-next.ensures.1)
+    (c.loop-x.invariant.packed, omega arith, c.next_sibling_of-next.ensures.1)
 
 pub loop-x-preserved : goal.loop-x-preserved
 loop-x-preserved c =
-    (omega arith, past_turn _ _ c.loop-x.x c.loop-x.invariant.1 c.link_past.ensures)
+    past_turn _ _ c.loop-x.x c.loop-x.invariant c.link_past.ensures
 
 pub put_set-requires : goal.put_set-requires
 put_set-requires c =
-    (c.loop-x.invariant.1.packed, c.requires.2, search rules)
+    (c.loop-x.invariant.packed, c.requires.2, search rules)
 
 pub shape_of-t : goal.shape_of-t
 shape_of-t c =
@@ -26,4 +26,4 @@ shape_of-t c =
 
 pub returns : goal.returns
 returns c =
-    past_end _ _ c.loop-x.x (omega arith) (c.requires.1, c.requires.2) c.next_sibling_of-next.ensures.0 c.loop-x.invariant.1 c.put_set.ensures
+    past_end _ _ c.loop-x.x (omega arith) (c.requires.1, c.requires.2) c.next_sibling_of-next.ensures.0 c.loop-x.invariant c.put_set.ensures

@@ -1,11 +1,7 @@
 -- `setchanges::remove::unlink_set` meets its contract. The loop's invariant: the links of the first x sets are past set c. Assumes nothing.
-use Prim.Native.Nat.{◌≤◌, ◌-◌}
 use Rattle.tables.specs.Views.{Turns}
 use Rattle.setchanges.proofs.Unlinking.{past_to}
 use Rattle.setchanges.proofs.remove.unlink_set.Given as goal
 
 abbrev pub invariant-loop-x : goal.invariant-loop-x
-invariant-loop-x l = (l.x ≤ 8) × Turns l.initial.t l.t (past_to l.c l.next l.x)
-
-abbrev pub decreases-loop-x : goal.decreases-loop-x
-decreases-loop-x l = 8 - l.x
+invariant-loop-x l = Turns l.initial.t l.t (past_to l.c l.next l.x)
