@@ -1,12 +1,12 @@
 -- The size changed and pages dropped, on the tables alone, as the rules say. Assumes nothing.
 use mathlib.Core.List.{List}
 use mathlib.Core.Path.{◌≡◌, ap, refl, subst, sym, ◌∙◌}
-use Prim.Native.Nat.{◌+◌, ◌-◌, ◌<◌, ℕ}
+use Prim.Native.Nat.{◌+◌, ◌<◌, ℕ}
 use Rattle.changing.specs.Tables.{AnyBlockIn, OnTables}
 use Rattle.copying.proofs.Chains.{pages_more, pages_out, up_pages}
 use Rattle.copying.proofs.Kept.{changed_does, entered_does, put_entry_all, released_does}
 use Rattle.copying.proofs.Steps.{does_as, does_then}
-use Rattle.copying.specs.Work.{Does, Rest, on_files, rest, work}
+use Rattle.copying.specs.Work.{Does, Rest, counts_new, on_files, rest, work}
 use Rattle.copying.specs.declared.giving.Counts.{Counts}
 use Rattle.rules.proofs.Blocks.GoodWork.{not_stored}
 use Rattle.rules.specs.Rules.{Work, drop_page, free_entry, put_entry, resize}
@@ -60,7 +60,7 @@ module _ {t t₁ t₂ : List ℕ} (f s q : ℕ) (e : Entry ℕ) (ee : e ≡ ((un
 
   dropped_files : (unpack t₂).files f ≡ put_entry ((unpack t).files f) s q hole
   unfolding drop_page
-  dropped_files = ap (λ (w : Work real). w.files) ((dropped_does (tree_of (unpack t).sets) (λ b i. 0) (record { taken = 0; copies = 0; marks = 0; left = 0 })).does (λ p. unmapped))
+  dropped_files = ap (λ (w : Work real). w.files) ((dropped_does (tree_of (unpack t).sets) (λ b i. 0) (counts_new 0)).does (λ p. unmapped))
 
   -- LAW: the maps name blocks of the bitmap
   pub dropped_in : AnyBlockIn f (unpack t) → AnyBlockIn f (unpack t₂)
@@ -89,20 +89,17 @@ pub record Dropping (t₀ t : List ℕ) (f : ℕ) (op todo : Work real → Work 
 pub dropping_start : {t : List ℕ} {f : ℕ} (op : Work real → Work real) → PackedTables t → AnyBlockIn f (unpack t) → Dropping t t f op op
 dropping_start op pk bl = record { same = refl; whole = λ pg k h. refl; packed = pk; blocks_in = bl }
 
-no_counts : Counts
-no_counts = record { taken = 0; copies = 0; marks = 0; left = 0 }
-
-pub dropping_turn : {t₀ t t' : List ℕ} {f : ℕ} {op : Work real → Work real} (s q n x : ℕ) → Dropping t₀ t f op (up_pages (dropping s) (unpack t₀).sets q n) → (n ≡ 0 → ⊥) → x ≡ q
-    → OnTables t t' f (drop_page real (tree_of (unpack t).sets) s x) → AnyBlockIn f (unpack t') → Dropping t₀ t' f op (up_pages (dropping s) (unpack t₀).sets (q + 1) (n - 1))
-dropping_turn {t₀} {t} {t'} {f} s q n x a h e o bl =
+pub dropping_turn : {t₀ t t' : List ℕ} {f : ℕ} {op : Work real → Work real} (s q n m x : ℕ) → Dropping t₀ t f op (up_pages (dropping s) (unpack t₀).sets q n) → n ≡ m + 1 → x ≡ q
+    → OnTables t t' f (drop_page real (tree_of (unpack t).sets) s x) → AnyBlockIn f (unpack t') → Dropping t₀ t' f op (up_pages (dropping s) (unpack t₀).sets (q + 1) m)
+dropping_turn {t₀} {t} {t'} {f} s q n m x a h e o bl =
     let sets₀ = (unpack t₀).sets in
     let ss : (unpack t).sets ≡ sets₀ = ap (λ (r : Rest). r.sets) a.same in
     record {
-      same = (o.does (λ b i. 0) no_counts).same ∙ a.same;
+      same = (o.does (λ b i. 0) (counts_new 0)).same ∙ a.same;
       whole = λ pg k g.
           let w = work (unpack t) pg f g k in
-          a.whole pg k g ∙ pages_more (dropping s) sets₀ n q h w
-          ∙ ap (up_pages (dropping s) sets₀ (q + 1) (n - 1))
+          a.whole pg k g ∙ pages_more (dropping s) sets₀ n m q h w
+          ∙ ap (up_pages (dropping s) sets₀ (q + 1) m)
           (ap (λ (y : ℕ → SetRecord). drop_page real (tree_of y) s q w) (sym ss) ∙ ap (λ y. drop_page real (tree_of (unpack t).sets) s y w) (sym e) ∙ sym ((o.does pg k).does g));
       packed = o.packed;
       blocks_in = bl;

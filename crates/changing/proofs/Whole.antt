@@ -1,7 +1,7 @@
 -- The steps of a call one after another are the call's rule. Assumes nothing.
 use mathlib.Core.Bool.{Bool, false, not, true}
 use mathlib.Core.List.{List, ◌∷◌, []}
-use mathlib.Core.Path.{ap, fun_ext, refl, sym, ◌∙◌, ◌≡◌}
+use mathlib.Core.Path.{ap, fun_ext, refl, subst, sym, ◌∙◌, ◌≡◌}
 use Prim.Native.Nat.{ℕ}
 use native.Mathlib.Omega.{arith}
 use lib.ListN.{length}
@@ -12,7 +12,7 @@ use Rattle.copying.proofs.Begin.{formed_header, formed_named}
 use Rattle.copying.proofs.Kept.{changed_does}
 use Rattle.copying.proofs.Settled.{settled_sets, settled_step}
 use Rattle.copying.specs.Changes.{settled}
-use Rattle.copying.specs.Work.{Alone, Ready, Rest, Step, give_both, rest, settle_children, work, work_of}
+use Rattle.copying.specs.Work.{Alone, Ready, Rest, Step, counts_new, give_both, rest, settle_children, work, work_of}
 use Rattle.rules.proofs.Storages.Sim.{settle_ent}
 use Rattle.rules.specs.Rules.{Work, count_in, delete_as, delete_file, each, erase_file, from, give_all, own_need, settle}
 use Rattle.rules.specs.State.{Entry, SetRecord, Tables, Tree, absent_file, is_stored, live, tree_of, unmapped}
@@ -84,8 +84,15 @@ module _ {t p t₁ t₂ : List ℕ} {f : ℕ} {k : Counts} (s : ℕ) (re : Ready
 
 -- ---- the counts at first
 
-abbrev pub begun : ℕ → Counts
-begun n = record { taken = 0; copies = 0; marks = 0; left = n }
+-- LAW: a call begins with them, whatever is free
+pub begun : {t p t' p' : List ℕ} {f : ℕ} {k : Counts} {r : Totals} {op : Work real → Work real} (left : ℕ) → k ≡ counts_new left → Changed t p t' p' f k r op → Changed t p t' p' f start_counts r op
+begun {t} {p} {t'} {p'} {f} {k} {r} {op} left e c =
+    let d : Changed t p t' p' f (counts_new left) r op = subst (λ (y : Counts). Changed t p t' p' f y r op) e c in
+    record { pending = d.pending; same = d.same; does = d.does; packed = d.packed }
+
+-- LAW: the counts told
+pub told : {t p t' p' : List ℕ} {f : ℕ} {k : Counts} {r : Totals} {op : Work real → Work real} (k' : Counts) → r ≡ totals_of k' → Changed t p t' p' f k (totals_of k') op → Changed t p t' p' f k r op
+told {t} {p} {t'} {p'} {f} {k} {r} {op} k' e c = subst (λ (y : Totals). Changed t p t' p' f k y op) (sym e) c
 
 -- ---- delete
 
@@ -124,10 +131,10 @@ module _ {t p t₁ t₂ p₂ t₃ : List ℕ} {f : ℕ} {k k₁ : Counts} (s : �
       record { pending = h; same = x.same; does = x.does; packed = e.packed }
 
 -- LAW: the whole delete by its rule
-pub deleted_so : {t p t' p' : List ℕ} {f : ℕ} {r : Totals} (s left : ℕ) → live ((unpack t).files f s).state ≡ true → Changed t p t' p' f (begun left) r (delete_as real (tree_of (unpack t).sets) true s)
+pub deleted_so : {t p t' p' : List ℕ} {f : ℕ} {r : Totals} (s : ℕ) → live ((unpack t).files f s).state ≡ true → Changed t p t' p' f start_counts r (delete_as real (tree_of (unpack t).sets) true s)
     → Changed t p t' p' f start_counts r (delete_file real (tree_of (unpack t).sets) s)
 unfolding delete_file
-deleted_so {t} {p} {t'} {p'} {f} s left l c = record {
+deleted_so {t} {p} {t'} {p'} {f} s l c = record {
   pending = c.pending;
   same = c.same;
   does = c.does ∙ ap (λ (b : Bool). delete_as real (tree_of (unpack t).sets) b s (work (unpack t) (pages_of p) f (λ q. unmapped) start_counts)) (sym l);

@@ -33,11 +33,7 @@ fn delete_live(t: &mut [u8], p: &mut [u8], f: usize, s: usize, k: Counts) -> Tot
     settling::settle_children(t, f, s);
     let a = giving::give_all(t, p, f, s, 0, 0, 64, k);
     erase_file(t, f, s);
-    Totals {
-        taken: a.taken,
-        copies: a.copies,
-        marks: a.marks,
-    }
+    Totals::from(a)
 }
 
 // DELETE: file f of set s. "A marked file is only freed and made absent."
@@ -54,11 +50,6 @@ pub fn delete_file(t: &mut [u8], p: &mut [u8], f: usize, s: usize) -> Totals
         };
     }
     let left = header::free_blocks(&*t);
-    let k = Counts {
-        taken: 0,
-        copies: 0,
-        marks: 0,
-        left: left,
-    };
+    let k = Counts::new(left);
     delete_live(t, p, f, s, k)
 }

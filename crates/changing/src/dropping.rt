@@ -35,11 +35,7 @@ pub fn drop_pages(t: &mut [u8], f: usize, s: usize, first: usize, m: usize)
     requires { PackedTables t.old × AnyBlockIn f (unpack t.old) × (f < 16) × (s < 8) × (first + m ≤ 64) }
     ensures { OnTables t.old t.new f (Rules.each (Rules.drop_page real (tree_of (unpack t.old).sets) s) (Rules.from first m)) }
 {
-    let mut q = first;
-    let mut n = m;
-    while 0 < n {
+    for q in first..first + m {
         drop_page(t, f, s, Page::new(q));
-        q += 1;
-        n -= 1;
     }
 }

@@ -3,6 +3,11 @@
 // Each function is its rule (rules/specs/Rules.antt), on what the tables and the pages hold.
 #![tactic(auto)]
 
+ghost use Rattle.std.specs.Prelude.{◌≡◌};
+ghost use Rattle.changing.specs.Whole.{totals_of};
+
+use copying::giving::Counts;
+
 pub mod deleting;
 pub mod dropping;
 
@@ -12,4 +17,17 @@ pub struct Totals {
     pub taken: u32,
     pub copies: u32,
     pub marks: u32,
+}
+
+// The free blocks that are left are not told.
+impl From<Counts> for Totals {
+    ghost from_gives = { λ k r. r ≡ totals_of k };
+
+    fn from(k: Counts) -> Totals {
+        Totals {
+            taken: k.taken,
+            copies: k.copies,
+            marks: k.marks,
+        }
+    }
 }

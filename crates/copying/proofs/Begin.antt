@@ -1,12 +1,12 @@
 -- A call begins: on well formed tables and pages, with the counts 0 and the free blocks counted, every step can be taken. Assumes nothing.
 use mathlib.Core.Bool.{not, true}
 use mathlib.Core.List.{List}
-use mathlib.Core.Path.{◌≡◌}
+use mathlib.Core.Path.{◌≡◌, subst, sym}
 use Prim.Native.Nat.{◌<◌, ℕ}
 use native.Mathlib.Omega.{arith}
 use lib.ListN.{length}
 use Rattle.base.specs.Count.{count, count_le}
-use Rattle.copying.specs.Work.{Ready}
+use Rattle.copying.specs.Work.{Ready, counts_new}
 use Rattle.rules.specs.State.{live, stored}
 use Rattle.tables.proofs.FormedStore.{FormedStore, formed_store}
 use Rattle.tables.specs.Packed.{unpack, well_formed}
@@ -30,18 +30,18 @@ module _ (t p : List ℕ) (formed : well_formed t (length p) ≡ true) where
   formed_named f s q b e = (store.blocks_ok.used f s q b e).below
 
   -- LAW
-  pub ready_begin : (f : ℕ) (k : Counts) → f < 16 → k.taken ≡ 0 → k.copies ≡ 0 → k.marks ≡ 0 → k.left ≡ count (unpack t).blocks (λ b. not ((unpack t).bits b)) → Ready t p f k
-  ready_begin f k hf et ec em el = record {
+  pub ready_begin : (f left : ℕ) (k : Counts) → f < 16 → k ≡ counts_new left → left ≡ count (unpack t).blocks (λ b. not ((unpack t).bits b)) → Ready t p f k
+  ready_begin f left k hf ek el = subst (Ready t p f) (sym ek) (record {
     packed = formed_packed;
     sound = record {
       header = formed_header;
       named = formed_named f;
       bits_past = store.bits_past;
       left_is = el;
-      room = omega (arith, em, count_le (unpack t).blocks (λ b. not ((unpack t).bits b)), formed_header.most);
+      room = omega (arith, el, count_le (unpack t).blocks (λ b. not ((unpack t).bits b)), formed_header.most);
       alive = omega (arith, count_le 8 (λ s. live ((unpack t).files f s).state));
       tree = store.sets_ok.tree;
     };
     size = store.pages;
     file = hf;
-  }
+  })

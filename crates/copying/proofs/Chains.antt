@@ -2,8 +2,8 @@
 use mathlib.Core.Bool.{true}
 use mathlib.Core.List.{List}
 use mathlib.Core.Path.{ap, refl, subst, sym, ◌∙◌, ◌≡◌}
-use Prim.Native.Nat.{◌+◌, ◌-◌, ◌<◌, suc, zero, ℕ, ◌≤◌}
-use native.Mathlib.Numerals.{add-one, sub-one}
+use Prim.Native.Nat.{◌+◌, ◌<◌, suc, zero, ℕ, ◌≤◌}
+use native.Mathlib.Numerals.{add-one}
 use borrow.Author.Tests.{le-ltb, lt-ltb}
 use Rattle.copying.proofs.Settled.{settled_step}
 use Rattle.copying.proofs.Steps.{going_as, going_more, going_sets, going_start}
@@ -30,10 +30,10 @@ unfolding children_of
 children_are sets s c h = rw (h.used, h.first)
 
 module _ (g : (ℕ → SetRecord) → ℕ → Work real → Work real) (sets : ℕ → SetRecord) where
-  pub chain_more : (n c : ℕ) → (n ≡ 0 → ⊥) → c < 8 → (w : Work real) → along g sets n c w ≡ along g sets (n - 1) (sets c).next_sibling (g sets c w)
+  -- the first of n sets, and the m behind it
+  pub chain_more : (n m c : ℕ) → n ≡ m + 1 → c < 8 → (w : Work real) → along g sets n c w ≡ along g sets m (sets c).next_sibling (g sets c w)
   unfolding chain each
-  chain_more zero c h l w = absurd (h refl)
-  chain_more (suc n) c h l w = rw (lt-ltb c 8 l, sub-one)
+  chain_more n m c h l w = rw (h, add-one, lt-ltb c 8 l)
 
   -- the chain ends
   pub chain_end : (n c : ℕ) → 8 ≤ c → (w : Work real) → along g sets n c w ≡ w
@@ -56,14 +56,14 @@ module _ (g : (ℕ → SetRecord) → ℕ → Work real → Work real) where
   chain_start {t} s c u e re = going_as (going_start (over_children g (unpack t).sets s) re) (along g (unpack t).sets 8 c) (children_chain g (unpack t).sets s c u e)
 
   -- LAW: a turn, and on to the next sibling
-  pub chain_turn : {t₀ p₀ t p t' p' : List ℕ} {f : ℕ} {k₀ k k' : Counts} {op : Work real → Work real} (n c c' : ℕ)
-      → Going t₀ p₀ t p f k₀ k op (along g (unpack t₀).sets n c) → (n ≡ 0 → ⊥) → c < 8 → Step t p t' p' f k k' (g (unpack t).sets c) → c' ≡ ((unpack t').sets c).next_sibling
-      → Going t₀ p₀ t' p' f k₀ k' op (along g (unpack t₀).sets (n - 1) c')
-  chain_turn {t₀} {p₀} {t} {p} {t'} {p'} {f} {k₀} {k} {k'} {op} n c c' a h l x e =
+  pub chain_turn : {t₀ p₀ t p t' p' : List ℕ} {f : ℕ} {k₀ k k' : Counts} {op : Work real → Work real} (n m c c' : ℕ)
+      → Going t₀ p₀ t p f k₀ k op (along g (unpack t₀).sets n c) → n ≡ m + 1 → c < 8 → Step t p t' p' f k k' (g (unpack t).sets c) → c' ≡ ((unpack t').sets c).next_sibling
+      → Going t₀ p₀ t' p' f k₀ k' op (along g (unpack t₀).sets m c')
+  chain_turn {t₀} {p₀} {t} {p} {t'} {p'} {f} {k₀} {k} {k'} {op} n m c c' a h l x e =
       let sets₀ = (unpack t₀).sets in
       let x' = subst (λ (y : ℕ → SetRecord). Step t p t' p' f k k' (g y c)) (going_sets a) x in
-      let b = going_more a (along g sets₀ (n - 1) (sets₀ c).next_sibling) (chain_more g sets₀ n c h l) x' in
-      subst (λ y. Going t₀ p₀ t' p' f k₀ k' op (along g sets₀ (n - 1) y)) (sym (e ∙ ap (λ (y : ℕ → SetRecord). (y c).next_sibling) (going_sets b))) b
+      let b = going_more a (along g sets₀ m (sets₀ c).next_sibling) (chain_more g sets₀ n m c h l) x' in
+      subst (λ y. Going t₀ p₀ t' p' f k₀ k' op (along g sets₀ m y)) (sym (e ∙ ap (λ (y : ℕ → SetRecord). (y c).next_sibling) (going_sets b))) b
 
 -- ---- the tables alone
 
@@ -76,9 +76,9 @@ abbrev pub settling : (ℕ → SetRecord) → ℕ → Work real → Work real
 settling sets = settle real (tree_of sets)
 
 -- LAW: a child settled, and on to the next
-pub settling_turn : {t₀ t t' : List ℕ} {op : Work real → Work real} (f n c c' : ℕ) → AloneGoing t₀ t f op (along settling (unpack t₀).sets n c) → (n ≡ 0 → ⊥) → c < 8
-    → Turns t t' (settled f c) → c' ≡ ((unpack t').sets c).next_sibling → AloneGoing t₀ t' f op (along settling (unpack t₀).sets (n - 1) c')
-settling_turn f n c c' a h l u e p k re = chain_turn settling n c c' (a p k re) h l (settled_step c (a p k re).ready u) e
+pub settling_turn : {t₀ t t' : List ℕ} {op : Work real → Work real} (f n m c c' : ℕ) → AloneGoing t₀ t f op (along settling (unpack t₀).sets n c) → n ≡ m + 1 → c < 8
+    → Turns t t' (settled f c) → c' ≡ ((unpack t').sets c).next_sibling → AloneGoing t₀ t' f op (along settling (unpack t₀).sets m c')
+settling_turn f n m c c' a h l u e p k re = chain_turn settling n m c c' (a p k re) h l (settled_step c (a p k re).ready u) e
 
 -- ---- pages ascending
 
@@ -87,19 +87,19 @@ abbrev pub up_pages : ((ℕ → SetRecord) → ℕ → Work real → Work real) 
 up_pages g sets q n = each (g sets) (from q n)
 
 module _ (g : (ℕ → SetRecord) → ℕ → Work real → Work real) where
-  pub pages_more : (sets : ℕ → SetRecord) (n q : ℕ) → (n ≡ 0 → ⊥) → (w : Work real) → up_pages g sets q n w ≡ up_pages g sets (q + 1) (n - 1) (g sets q w)
+  -- the first of n pages, and the m behind it
+  pub pages_more : (sets : ℕ → SetRecord) (n m q : ℕ) → n ≡ m + 1 → (w : Work real) → up_pages g sets q n w ≡ up_pages g sets (q + 1) m (g sets q w)
   unfolding each from
-  pages_more sets zero q h w = absurd (h refl)
-  pages_more sets (suc n) q h w = rw (sub-one, add-one)
+  pages_more sets n m q h w = rw (h, add-one m, add-one q)
 
   pub pages_out : (sets : ℕ → SetRecord) (n q : ℕ) → n ≡ 0 → (w : Work real) → up_pages g sets q n w ≡ w
   unfolding each from
   pages_out sets n q e w = rw e
 
   -- LAW: a page's turn, and on to the next; x is the page's number
-  pub pages_turn : {t₀ p₀ t p t' p' : List ℕ} {f : ℕ} {k₀ k k' : Counts} {op : Work real → Work real} (q n x : ℕ) → Going t₀ p₀ t p f k₀ k op (up_pages g (unpack t₀).sets q n) → (n ≡ 0 → ⊥)
-      → x ≡ q → Step t p t' p' f k k' (g (unpack t).sets x) → Going t₀ p₀ t' p' f k₀ k' op (up_pages g (unpack t₀).sets (q + 1) (n - 1))
-  pages_turn {t₀} {p₀} {t} {p} {t'} {p'} {f} {k₀} {k} {k'} {op} q n x a h e s =
+  pub pages_turn : {t₀ p₀ t p t' p' : List ℕ} {f : ℕ} {k₀ k k' : Counts} {op : Work real → Work real} (q n m x : ℕ) → Going t₀ p₀ t p f k₀ k op (up_pages g (unpack t₀).sets q n) → n ≡ m + 1
+      → x ≡ q → Step t p t' p' f k k' (g (unpack t).sets x) → Going t₀ p₀ t' p' f k₀ k' op (up_pages g (unpack t₀).sets (q + 1) m)
+  pages_turn {t₀} {p₀} {t} {p} {t'} {p'} {f} {k₀} {k} {k'} {op} q n m x a h e s =
       let y : Step t p t' p' f k k' (g (unpack t).sets q) = subst (λ z. Step t p t' p' f k k' (g (unpack t).sets z)) e s in
-      going_more a (up_pages g (unpack t₀).sets (q + 1) (n - 1)) (pages_more (unpack t₀).sets n q h)
+      going_more a (up_pages g (unpack t₀).sets (q + 1) m) (pages_more (unpack t₀).sets n m q h)
       (subst (λ (z : ℕ → SetRecord). Step t p t' p' f k k' (g z q)) (going_sets a) y)

@@ -1,18 +1,19 @@
 -- A page given is its rule: whose turns it is, copied, handed over or extra; the heir, and the block that moves to it. Pages that have not had their turn resolve to what they did. Assumes nothing.
-use mathlib.Core.Bool.{◌&&◌, Bool, cond, false, true, true≢false}
+use mathlib.Core.Bool.{◌&&◌, Bool, false, true, true≢false}
 use mathlib.Core.List.Memᴰ
 use mathlib.Core.List.{◌++◌, List, Memᴰ, ◌∷◌, []}
 use mathlib.Core.Logic.{◌⊎◌, inl, inr, ⊎_elim}
 use mathlib.Core.Path.{ap, refl, subst, sym, ◌∙◌, ◌≡◌}
-use Prim.Native.Nat.{◌+◌, ◌-◌, ◌<◌, suc, zero, ℕ, ◌≤◌}
-use native.Mathlib.Numerals.{sub-one}
+use Prim.Native.Nat.{◌+◌, ◌<◌, suc, zero, ℕ, ◌≤◌}
+use native.Mathlib.Numerals.{add-one}
 use native.Mathlib.Omega.{arith}
 use borrow.Author.Tests.{le-ltb, lt-ltb}
+use Rattle.std.specs.Prelude.{Option, None, Some}
 use Rattle.base.specs.Logic.{and_right, test?}
 use Rattle.copying.proofs.Chains.{children_are, pages_turn, up_pages}
 use Rattle.copying.proofs.Given.{give_none, give_shown, given_as, resolve_below}
 use Rattle.copying.proofs.Kept.{entered}
-use Rattle.copying.proofs.Steps.{going_start, step_as, step_none, step_sets, step_then}
+use Rattle.copying.proofs.Steps.{going_start, step_as, step_sets, step_then}
 use Rattle.copying.specs.Work.{Alone, FirstChild, Going, Ready, Step, ShownKept, give_both, give_chain, give_groups, giving_of, hand_if, handed_by, shown, touched_by, work}
 use Rattle.copying.specs.Heirs.{TurnsFound, handed_or}
 use Rattle.rules.proofs.Blocks.GoodWork.{not_stored}
@@ -36,18 +37,14 @@ use Rattle.copying.specs.declared.giving.InTurn.{InTurn}
 
 -- ---- the block moves
 
--- LAW: no set takes it over
-pub moved_none : (t : List ℕ) (f s q c : ℕ) → 8 ≤ c → Alone t t f (hand_if (tree_of (unpack t).sets) s q c)
-moved_none t f s q c l p k re = step_as (hand_if (tree_of (unpack t).sets) s q c) (λ h. rw (le-ltb c 8 l)) (step_none re)
-
 -- LAW: two entries put
-pub moved : {t t₁ t₂ : List ℕ} (f s q c : ℕ) (e : Entry ℕ) → c < 8 → e ≡ ((unpack t).files f s).map q → Turns t t₁ (put_entry_in f c q e) → Turns t₁ t₂ (put_entry_in f s q hole)
-    → Alone t t₂ f (hand_if (tree_of (unpack t).sets) s q c)
+pub moved : {t t₁ t₂ : List ℕ} (f s q c : ℕ) (heir : Option ℕ) (e : Entry ℕ) → heir ≡ Some c → e ≡ ((unpack t).files f s).map q → Turns t t₁ (put_entry_in f c q e)
+    → Turns t₁ t₂ (put_entry_in f s q hole) → Alone t t₂ f (hand_if (tree_of (unpack t).sets) s q heir)
 unfolding hand_over
-moved {t} f s q c e l own u v p k re =
+moved {t} f s q c heir e eh own u v p k re =
     let a = entered f c q e u re (λ x ee. re.sound.named s q x (sym own ∙ ee)) in
-    step_as (hand_if (tree_of (unpack t).sets) s q c)
-    (λ h. rw (lt-ltb c 8 l) (ap (λ (y : Entry ℕ). record {
+    step_as (hand_if (tree_of (unpack t).sets) s q heir)
+    (λ h. rw eh (ap (λ (y : Entry ℕ). record {
       memory = (work (unpack t) (pages_of p) f h k).memory;
       files = put_entry (put_entry ((unpack t).files f) c q y) s q hole;
       pending = h;
@@ -78,22 +75,20 @@ module _ (sets : ℕ → SetRecord) (s q : ℕ) where
   unfolding chain hand
   hand_out n c e w = rw e
 
-  hand_skip : (n c : ℕ) → (n ≡ 0 → ⊥) → c < 8 → (w : Work real) → needs w.files c q ≡ false → handing n c w ≡ handing (n - 1) (sets c).next_sibling w
+  -- the first of n sets, and the m behind it
+  hand_skip : (n m c : ℕ) → n ≡ m + 1 → c < 8 → (w : Work real) → needs w.files c q ≡ false → handing n c w ≡ handing m (sets c).next_sibling w
   unfolding chain hand
-  hand_skip zero c h l w d = absurd (h refl)
-  hand_skip (suc n) c h l w d = rw (lt-ltb c 8 l, sub-one, d)
+  hand_skip n m c h l w d = rw (h, add-one, lt-ltb c 8 l, d)
 
-  hand_take : (n c : ℕ) → (n ≡ 0 → ⊥) → c < 8 → (w : Work real) → needs w.files c q ≡ true
-      → handing n c w ≡ hand_over real (tree_of sets) s q c (each (give real (tree_of sets) true s q) (chain sets (n - 1) (sets c).next_sibling) w)
+  hand_take : (n m c : ℕ) → n ≡ m + 1 → c < 8 → (w : Work real) → needs w.files c q ≡ true
+      → handing n c w ≡ hand_over real (tree_of sets) s q c (each (give real (tree_of sets) true s q) (chain sets m (sets c).next_sibling) w)
   unfolding chain hand
-  hand_take zero c h l w d = absurd (h refl)
-  hand_take (suc n) c h l w d = rw (lt-ltb c 8 l, sub-one, d)
+  hand_take n m c h l w d = rw (h, add-one, lt-ltb c 8 l, d)
 
 -- the sets behind c in its chain are of it
-rest_within : (sets : ℕ → SetRecord) (n c : ℕ) → (n ≡ 0 → ⊥) → c < 8 → (x : ℕ) → Memᴰ x (chain sets (n - 1) (sets c).next_sibling) → Memᴰ x (chain sets n c)
+rest_within : (sets : ℕ → SetRecord) (n m c : ℕ) → n ≡ m + 1 → c < 8 → (x : ℕ) → Memᴰ x (chain sets m (sets c).next_sibling) → Memᴰ x (chain sets n c)
 unfolding chain
-rest_within sets zero c h l x i = absurd (h refl)
-rest_within sets (suc n) c h l x i = rw (lt-ltb c 8 l) (Memᴰ.tail (rw sub-one at i))
+rest_within sets n m c h l x i = rw (h, add-one, lt-ltb c 8 l) (Memᴰ.tail i)
 
 -- the search from set first on: no set before c needs page q of file f
 pub record Searching (tb : Tables) (f q first n c : ℕ) : Type 0 where
@@ -115,40 +110,39 @@ module _ (tb : Tables) (f q first : ℕ) where
 
   module _ (n c : ℕ) (x : Searching tb f q first n c) where
     -- LAW: no set needs it
-    pub heir_none : (8 ≤ c) ⊎ (n ≡ 0) → TurnsFound tb f q first true (record { heir = 8; next = 8; most = 0 })
+    pub heir_none : (8 ≤ c) ⊎ (n ≡ 0) → TurnsFound tb f q first true (record { heir = None; next = 8; most = 0 })
     heir_none o = record {
       rule = λ must d s w h. x.rule s w h ∙ ⊎_elim (λ l. hand_end tb.sets s q n c l w) (λ z. hand_out tb.sets s q n c z w) o ∙ sym (no_turns must s 8 w);
       within = none_within;
       few = omega arith;
-      heir_if_over = λ l. refl;
+      heir_if_over = λ d i. absurd cc;
     }
 
-    module _ (d : ℕ) (pos : n ≡ 0 → ⊥) (l : c < 8) (e : d ≡ (tb.sets c).next_sibling) where
+    module _ (d m : ℕ) (pos : n ≡ m + 1) (l : c < 8) (e : d ≡ (tb.sets c).next_sibling) where
       -- LAW: set c is the first that needs it
-      pub heir_first : n ≤ 8 → needs (tb.files f) c q ≡ true → TurnsFound tb f q first true (record { heir = c; next = d; most = n - 1 })
-      heir_first few nd = subst (λ i. TurnsFound tb f q first true (record { heir = c; next = i; most = n - 1 })) (sym e) (record {
-        rule = λ must d s w h. x.rule s w h ∙ hand_take tb.sets s q n c pos l w (ap (λ (y : Files ℕ). needs y c q) h ∙ nd)
-            ∙ ap (λ (b : Bool). cond b (hand_over real (tree_of tb.sets) s q c (each (give real (tree_of tb.sets) true s q) (chain tb.sets (n - 1) (tb.sets c).next_sibling) w)) (each (give real (tree_of tb.sets) true s q) (chain tb.sets (n - 1) (tb.sets c).next_sibling) w)) (sym (lt-ltb c 8 l))
-            ∙ ap (λ (b : Bool). hand_if (tree_of tb.sets) s q c (each (give real (tree_of tb.sets) b s q) (chain tb.sets (n - 1) (tb.sets c).next_sibling) w)) (sym (d refl));
-        within = λ y m. x.within y (rest_within tb.sets n c pos l y m);
+      pub heir_first : n ≤ 8 → needs (tb.files f) c q ≡ true → TurnsFound tb f q first true (record { heir = Some c; next = d; most = m })
+      heir_first few nd = subst (λ i. TurnsFound tb f q first true (record { heir = Some c; next = i; most = m })) (sym e) (record {
+        rule = λ must d s w h. x.rule s w h ∙ hand_take tb.sets s q n m c pos l w (ap (λ (y : Files ℕ). needs y c q) h ∙ nd)
+            ∙ ap (λ (b : Bool). hand_over real (tree_of tb.sets) s q c (each (give real (tree_of tb.sets) b s q) (chain tb.sets m (tb.sets c).next_sibling) w)) (sym (d refl));
+        within = λ y i. x.within y (rest_within tb.sets n m c pos l y i);
         few = omega arith;
-        heir_if_over = λ i. refl;
+        heir_if_over = λ y i. let z : c ≡ y = cc in (omega arith, refl);
       })
 
       -- LAW: set c does not need it
-      pub search_next : needs (tb.files f) c q ≡ false → Searching tb f q first (n - 1) d
-      search_next un = subst (λ i. Searching tb f q first (n - 1) i) (sym e) (record {
-        rule = λ s w h. x.rule s w h ∙ hand_skip tb.sets s q n c pos l w (ap (λ (y : Files ℕ). needs y c q) h ∙ un);
-        within = λ y m. x.within y (rest_within tb.sets n c pos l y m);
+      pub search_next : needs (tb.files f) c q ≡ false → Searching tb f q first m d
+      search_next un = subst (λ i. Searching tb f q first m i) (sym e) (record {
+        rule = λ s w h. x.rule s w h ∙ hand_skip tb.sets s q n m c pos l w (ap (λ (y : Files ℕ). needs y c q) h ∙ un);
+        within = λ y i. x.within y (rest_within tb.sets n m c pos l y i);
       })
 
 -- LAW: nothing is handed over
-pub turns_all : (tb : Tables) (f q c : ℕ) (over : Bool) → over ≡ false → TurnsFound tb f q c over (record { heir = 8; next = c; most = 8 })
+pub turns_all : (tb : Tables) (f q c : ℕ) (over : Bool) → over ≡ false → TurnsFound tb f q c over (record { heir = None; next = c; most = 8 })
 turns_all tb f q c over g = record {
   rule = λ must d s w h. ap (λ (b : Bool). handed_or b must (tree_of tb.sets) s q (chain tb.sets 8 c) w) g;
   within = λ x m. m;
   few = omega arith;
-  heir_if_over = λ l. absurd (omega arith);
+  heir_if_over = λ d i. absurd cc;
 }
 
 -- LAW: it is
@@ -212,9 +206,10 @@ own_shown t f s q h = go (((unpack t).files f s).map q) refl h
 
 -- LAW: so an heir takes over what the page resolves to
 pub heir_own : (t : List ℕ) (f s q c : ℕ) (e : Entry ℕ) (over hands : Bool) (r : InTurn) → over ≡ (hands && is_stored (((unpack t).files f s).map q)) → TurnsFound (unpack t) f q c over r → e ≡ shown t f s q
-    → r.heir < 8 → e ≡ ((unpack t).files f s).map q
-heir_own t f s q c e over hands r eg found ee l =
-    ee ∙ own_shown t f s q (and_right hands (is_stored (((unpack t).files f s).map q)) (sym eg ∙ found.heir_if_over l))
+    → (d : ℕ) → r.heir ≡ Some d → (d < 8) × (e ≡ ((unpack t).files f s).map q)
+heir_own t f s q c e over hands r eg found ee d i =
+    let x = found.heir_if_over d i in
+    (x.0, ee ∙ own_shown t f s q (and_right hands (is_stored (((unpack t).files f s).map q)) (sym eg ∙ x.1)))
 
 -- LAW: a page resolves to a block of the bitmap
 pub shown_below : {t p : List ℕ} {f : ℕ} {k : Counts} {e : Entry ℕ} (s q : ℕ) → Ready t p f k → e ≡ shown t f s q → (b : ℕ) → e ≡ stored b → b < 4096
@@ -267,10 +262,10 @@ unfolding give_all
 pages_start {t} how s first m re h = record { going = going_start (give_all real (tree_of (unpack t).sets) how s (from first m)) re; kept = h }
 
 -- LAW: a page's turn; y is the page's number
-pub pages_next : {t₀ p₀ t p t' p' : List ℕ} {l : List Kept} {f : ℕ} {k₀ k k' : Counts} (how : Giving) (s first m q n y : ℕ) → PagesGoing t₀ p₀ t p l f k₀ k how s first m q n → (n ≡ 0 → ⊥) → y ≡ q
-    → Step t p t' p' f k k' (give_page real (tree_of (unpack t).sets) how s y) → PagesGoing t₀ p₀ t' p' l f k₀ k' how s first m (q + 1) (n - 1)
-pages_next {t₀} {p₀} {t} {p} {t'} {p'} {l} {f} {k₀} {k} {k'} how s first m q n y g pos e a = record {
-  going = pages_turn (giving_page how s) q n y g.going pos e a;
+pub pages_next : {t₀ p₀ t p t' p' : List ℕ} {l : List Kept} {f : ℕ} {k₀ k k' : Counts} (how : Giving) (s first m q n r y : ℕ) → PagesGoing t₀ p₀ t p l f k₀ k how s first m q n → n ≡ r + 1 → y ≡ q
+    → Step t p t' p' f k k' (give_page real (tree_of (unpack t).sets) how s y) → PagesGoing t₀ p₀ t' p' l f k₀ k' how s first m (q + 1) r
+pages_next {t₀} {p₀} {t} {p} {t'} {p'} {l} {f} {k₀} {k} {k'} how s first m q n r y g pos e a = record {
+  going = pages_turn (giving_page how s) q n r y g.going pos e a;
   kept = λ x lo hi.
       let w = work (unpack t) (pages_of p) f (λ i. unmapped) k in
       let tr = tree_of (unpack t).sets in

@@ -8,19 +8,19 @@ use native.Mathlib.Nat.{mod-lt}
 use native.Mathlib.Numerals.{add-one}
 use native.Mathlib.Omega.{arith}
 use lib.ListN.{length}
-use Rattle.base.specs.Count.{count, count_fewer, count_less}
-use Rattle.base.specs.Logic.{pick, same?}
+use Rattle.base.specs.Count.{count, count_less}
+use Rattle.base.specs.Logic.{pick}
 use Rattle.base.specs.Search.{first_free}
-use Rattle.base.specs.Update.{upd, upd_all, upd_keeps, upd_other, upd_same, upd_upd}
+use Rattle.base.specs.Update.{upd, upd_all, upd_other, upd_same, upd_upd}
 use Rattle.copying.specs.Work.{Does, Ready, Rest, Sound, Step, on_files, one_taken, rest, work, work_of}
 use Rattle.rules.proofs.Steps.OneStep.{put_entry_state}
 use Rattle.rules.specs.Rules.{Work, copy, enter_as, put_entry, take_own}
-use Rattle.rules.specs.State.{Entry, File, Files, State, Tables, Tree, absent_file, live, stored, tree_of}
+use Rattle.rules.specs.State.{Entry, File, Files, Tables, Tree, absent_file, live, stored, tree_of}
 use Rattle.rules.specs.Storage.{PageData, real, take_block}
 use Rattle.setchanges.specs.Changes.{with_bits}
 use Rattle.tables.specs.Calls.{pages_of}
 use Rattle.tables.specs.Packed.{unpack}
-use Rattle.tables.specs.Views.{PackedTables, Took, Turns, memory_of, put_bit_in, put_entry_in, put_files, put_head, put_head_in, put_next_in, took}
+use Rattle.tables.specs.Views.{PackedTables, Took, Turns, memory_of, put_bit_in, put_entry_in, put_files, put_next_in, took}
 use Rattle.copying.specs.declared.giving.Counts.{Counts}
 
 -- ---- the files of number f are put
@@ -33,14 +33,6 @@ module _ (tb : Tables) (f : ℕ) (x : Files ℕ) where
   pub work_files : (pg : ℕ → PageData) (h : ℕ → Entry ℕ) (k : Counts) → work (put_files f x tb) pg f h k ≡ work_of (memory_of tb pg) x h k
   unfolding put_files
   work_files pg h k = ap (λ y. work_of (memory_of tb pg) y h k) (upd_same tb.files f x)
-
-  pub blocks_files : (put_files f x tb).blocks ≡ tb.blocks
-  unfolding put_files
-  blocks_files = refl
-
-  pub sets_files : (put_files f x tb).sets ≡ tb.sets
-  unfolding put_files
-  sets_files = refl
 
   -- LAW: other bits, and files whose maps name blocks of the store, and of which not too many are live
   pub sound_bits : {k k' : Counts} (bits : ℕ → Bool) → Sound tb f k → ((s p b : ℕ) → (x s).map p ≡ stored b → b < tb.blocks) → ((b : ℕ) → tb.blocks ≤ b → bits b ≡ false)
@@ -68,13 +60,6 @@ put_entry_all P files c p e a h s q =
     upd_all (λ (y : File ℕ). P (y.map q)) files c (record { state = (files c).state; size = (files c).size; map = upd (files c).map p e })
     (upd_all P (files c).map p e a (h c) q) (λ j. h j q) s
 
--- a file put that is live only where the old one was
-upd_live : (x : Files ℕ) (c : ℕ) (v : File ℕ) (s : ℕ) → (live v.state ≡ true → live (x c).state ≡ true) → live (upd x c v s).state ≡ true → live (x s).state ≡ true
-upd_live x c v s h e =
-    same? c s
-    (λ q. ap (λ i. live (x i).state) (sym q) ∙ h (ap (λ (y : File ℕ). live y.state) (sym (upd_same x c v) ∙ ap (upd x c v) q) ∙ e))
-    (λ q. ap (λ (y : File ℕ). live y.state) (sym (upd_other x c v s q)) ∙ e)
-
 module _ (tb : Tables) (f : ℕ) {k : Counts} (so : Sound tb f k) where
   -- LAW: an entry that names no block, or one of the store
   pub sound_entry : (c q : ℕ) (e : Entry ℕ) → ((b : ℕ) → e ≡ stored b → b < tb.blocks) → Sound (put_files f (put_entry (tb.files f) c q e) tb) f k
@@ -82,16 +67,6 @@ module _ (tb : Tables) (f : ℕ) {k : Counts} (so : Sound tb f k) where
       sound_files tb f (put_entry (tb.files f) c q e) so
       (put_entry_all (λ y. (b : ℕ) → y ≡ stored b → b < tb.blocks) (tb.files f) c q e h (λ s p. so.named s p))
       (subst (λ (g : ℕ → Bool). k.marks + count 8 g ≤ 8) (fun_ext (λ s. ap live (sym (put_entry_state (tb.files f) c q e s)))) so.alive)
-
-  -- LAW: a state that is live only where the old one was
-  pub sound_head : (c : ℕ) (l : State) (n : ℕ) → (live l ≡ true → live (tb.files f c).state ≡ true) → Sound (put_files f (put_head (tb.files f) c l n) tb) f k
-  unfolding put_head
-  sound_head c l n h =
-      let x = tb.files f in
-      let v : File ℕ = record { state = l; size = n; map = (x c).map } in
-      sound_files tb f (upd x c v) so
-      (λ s p b e. so.named s p b (ap (λ (m : ℕ → Entry ℕ). m p) (sym (upd_keeps (λ (y : File ℕ). y.map) x c v refl s)) ∙ e))
-      (let m = count_fewer 8 (λ s. live (x s).state) (λ s. live (upd x c v s).state) (λ s l. upd_live x c v s h) in omega (arith, so.alive))
 
   -- LAW: a block taken
   pub sound_took : {k' : Counts} (b : ℕ) → b < tb.blocks → tb.bits b ≡ false → suc k'.left ≡ k.left → k'.taken + k'.copies ≡ suc (k.taken + k.copies) → k'.marks ≡ k.marks
@@ -158,21 +133,6 @@ module _ {t t₁ : List ℕ} (f c q : ℕ) (e : Entry ℕ) (u : Turns t t₁ (pu
   entered re h =
       changed (unpack t) (put_entry ((unpack t).files f) c q e) refl entry_view re u.packed refl (sound_entry (unpack t) f re.sound c q e h)
       (on_files (λ x. put_entry x c q e)) (λ h. refl)
-
--- a state and a size put
-module _ {t t₁ : List ℕ} (f c : ℕ) (l : State) (n : ℕ) (u : Turns t t₁ (put_head_in f c l n)) where
-  pub head_view : unpack t₁ ≡ put_files f (put_head ((unpack t).files f) c l n) (unpack t)
-  unfolding put_head_in
-  head_view = u.view
-
-  pub headed_does : (pg : ℕ → PageData) (k : Counts) → Does (unpack t) pg (unpack t₁) pg f k k (on_files (λ x. put_head x c l n))
-  headed_does pg k = changed_does (unpack t) (put_head ((unpack t).files f) c l n) refl head_view (on_files (λ x. put_head x c l n)) (λ h. refl)
-
-  -- LAW
-  pub headed : {p : List ℕ} {k : Counts} → Ready t p f k → (live l ≡ true → live ((unpack t).files f c).state ≡ true) → Step t p t₁ p f k k (on_files (λ x. put_head x c l n))
-  headed re h =
-      changed (unpack t) (put_head ((unpack t).files f) c l n) refl head_view re u.packed refl (sound_head (unpack t) f re.sound c l n h)
-      (on_files (λ x. put_head x c l n)) (λ h. refl)
 
 -- LAW: the page in a block changed to v, and the block entered
 pub entered_block : {t t₁ p p₁ : List ℕ} {f : ℕ} {k : Counts} (s q b : ℕ) (v : PageData) → Turns t t₁ (put_entry_in f s q (stored b)) → pages_of p₁ ≡ upd (pages_of p) b v → length p₁ ≡ length p
@@ -246,15 +206,6 @@ module _ {t t₁ : List ℕ} (f d : ℕ) (k : Counts) (tk : Took t t₁ d) where
         copies = k.copies;
         marks = k.marks;
       })
-
-  -- LAW: the next step can be taken
-  pub took_ready : {p : List ℕ} → Ready t p f k → 0 < k.left → Ready t₁ p f (one_taken k)
-  took_ready re free = record {
-    packed = tk.turns.packed;
-    sound = subst (λ (y : Tables). Sound y f (one_taken k)) (sym tk.turns.view) (sound_took (unpack t) f re.sound d tk.below tk.unused (omega arith) (omega arith) refl);
-    size = re.size ∙ ap (λ (r : Rest). r.blocks * 512) (sym took_same);
-    file = re.file;
-  }
 
 -- ---- a block is free again: what the next steps need of the count of free blocks is not kept
 

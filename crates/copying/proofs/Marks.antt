@@ -9,13 +9,13 @@ use native.Mathlib.Omega.{arith}
 use lib.Dec.{eqb, ltb}
 use lib.ListN.{length}
 use borrow.Author.Tests.{eqb-true, le-ltb, lt-ltb, ltb-false, ltb-true, ne_eqb}
+use Rattle.std.specs.Int.{from_bool}
 use Rattle.base.specs.Count.{count, count_le, count_upd_false}
 use Rattle.base.specs.Logic.{and_left, digit, test?}
 use Rattle.base.specs.Update.{upd, upd_all, upd_is, upd_same, upd_self, upd_upd}
 use Rattle.copying.proofs.Kept.{changed, sound_bits}
 use Rattle.copying.specs.Changes.{MarkedBy, mark_if, mark_to, marks_down, reached}
 use Rattle.copying.specs.Work.{Ready, Step}
-use Rattle.packing.specs.Bitmap.{is_one, one_digit}
 use Rattle.rules.proofs.Blocks.GoodWork.{not_stored}
 use Rattle.rules.proofs.Formed.Tests.{or_then}
 use Rattle.rules.proofs.Steps.Reached.{marked_by, reaches_self}
@@ -139,14 +139,13 @@ module _ (tb : Tables) (f : ℕ) (g : ℕ → Bool) where
 
 -- ---- a set
 
-pub mark_not : {t : List ℕ} (f s x : ℕ) → x ≡ 0 → PackedTables t → Turns t t (mark_if f s (is_one x))
+pub mark_not : {t : List ℕ} (f s : ℕ) (b : Bool) → b ≡ false → PackedTables t → Turns t t (mark_if f s b)
 unfolding mark_if
-mark_not f s x e pk = record { view = rw e; packed = pk }
+mark_not f s b e pk = record { view = rw e; packed = pk }
 
-pub mark_yes : {t t' : List ℕ} (f s x : ℕ) → (x ≡ 0 → ⊥) → Turns t t' (marked_in f s) → Turns t t' (mark_if f s (is_one x))
+pub mark_yes : {t t' : List ℕ} (f s : ℕ) (b : Bool) → b ≡ true → Turns t t' (marked_in f s) → Turns t t' (mark_if f s b)
 unfolding mark_if
-mark_yes f s zero h u = absurd (h refl)
-mark_yes f s (suc x) h u = record { view = u.view; packed = u.packed }
+mark_yes f s b e u = record { view = rw e u.view; packed = u.packed }
 
 -- LAW: no map names a block that none named before
 pub marked_blocks : {t t' : List ℕ} (f s : ℕ) (b : Bool) → Turns t t' (mark_if f s b) → ((x : ℕ) → BlocksIn f x (unpack t)) → (x : ℕ) → BlocksIn f x (unpack t')
@@ -171,13 +170,29 @@ unfolding count
 count_more g s n x a b =
     rw add-one (test? (g s) (λ e. rw e (let z : digit (g s) ≡ 1 = ap digit e in omega arith)) (λ e. rw e (let z : digit (g s) ≡ 0 = ap digit e in omega arith)))
 
-pub marked_more : {t t₁ t₂ : List ℕ} {f s n : ℕ} {g : ℕ → Bool} (x d : ℕ) → d ≡ digit (g s) → x ≡ d → MarkedBy t t₁ f g s n → Turns t₁ t₂ (mark_if f s (is_one d)) → MarkedBy t t₂ f g (s + 1) (n + x)
+-- a digit is compared with 1
+digit_is : (b : Bool) (d : ℕ) → d ≡ digit b → eqb d 1 ≡ b
+digit_is true d e = rw e
+digit_is false d e = rw e
+
+-- LAW: a Boolean as a number is its digit, 1 at most
+pub byte_is : (b : Bool) → from_bool b ≡ digit b
+byte_is true = refl
+byte_is false = refl
+
+pub byte_most : (b : Bool) → from_bool b ≤ 1
+byte_most true = omega arith
+byte_most false = omega arith
+
+-- LAW: one set more; d is its digit
+pub marked_more : {t t₁ t₂ : List ℕ} {f s n : ℕ} {g : ℕ → Bool} (x d : ℕ) → d ≡ digit (g s) → x ≡ from_bool (eqb d 1) → MarkedBy t t₁ f g s n → Turns t₁ t₂ (mark_if f s (eqb d 1))
+    → MarkedBy t t₂ f g (s + 1) (n + x)
 marked_more {t} {f} {s} {n} {g} x d e q a b = record {
   view =
-      b.view ∙ (λ i. mark_if f s ((ap is_one e ∙ one_digit (g s)) i) (a.view i)) ∙ sym (mark_more (unpack t) f g s)
+      b.view ∙ (λ i. mark_if f s (digit_is (g s) d e i) (a.view i)) ∙ sym (mark_more (unpack t) f g s)
       ∙ ap (λ i. mark_to f g i (unpack t)) (sym (add-one s));
   packed = b.packed;
-  counted = count_more g s n x a.counted (q ∙ e);
+  counted = count_more g s n x a.counted (q ∙ byte_is (eqb d 1) ∙ ap digit (digit_is (g s) d e));
 }
 
 -- no set from 8 on is reached from one below

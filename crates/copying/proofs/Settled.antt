@@ -7,7 +7,7 @@ use Rattle.base.specs.Count.{count}
 use Rattle.base.specs.Update.{upd, upd_keeps, upd_self}
 use Rattle.copying.proofs.Kept.{changed, sound_files}
 use Rattle.copying.specs.Changes.{settled}
-use Rattle.copying.specs.Work.{Alone, Ready, Step}
+use Rattle.copying.specs.Work.{Ready, Step}
 use Rattle.rules.proofs.Steps.States.{virgin_is}
 use Rattle.rules.proofs.Storages.Sim.{settle_ent}
 use Rattle.rules.specs.Reading.{size_by_reading}
@@ -79,9 +79,6 @@ settled_step {t} {f} {k} c re u =
     (sound_files tb f x so (λ s q b e. so.named s q b (sym (settle_ent tree c (tb.files f) s q) ∙ e))
     (subst (λ (g : ℕ → Bool). k.marks + count 8 g ≤ 8) (fun_ext (λ s. sym (settle_live tree (tb.files f) c s))) so.alive))
     (settle real tree c) (λ h. refl)
-
-pub settled_alone : {t t' : List ℕ} (f c : ℕ) → Turns t t' (settled f c) → Alone t t' f (settle real (tree_of (unpack t).sets) c)
-settled_alone f c u p k re = settled_step c re u
 
 pub settled_sets : {t t' : List ℕ} (f c : ℕ) → Turns t t' (settled f c) → (unpack t').sets ≡ (unpack t).sets
 unfolding settled put_files

@@ -2,8 +2,7 @@
 use mathlib.Core.Bool.{true}
 use mathlib.Core.List.{List}
 use mathlib.Core.Path.{ap, refl, subst, sym, ◌∙◌, ◌≡◌}
-use Prim.Native.Nat.{◌*◌, ℕ}
-use lib.ListN.{length}
+use Prim.Native.Nat.{ℕ}
 use Rattle.copying.specs.Work.{Does, FirstChild, Going, Ready, Rest, Step, work}
 use Rattle.rules.specs.Rules.{Work}
 use Rattle.rules.specs.State.{Entry, SetRecord, Tables}
@@ -55,9 +54,6 @@ module _ {t p : List ℕ} {f : ℕ} {k : Counts} where
     pub step_first : (s c : ℕ) → Step t p t₁ p₁ f k k₁ op → FirstChild (unpack t).sets s c → FirstChild (unpack t₁).sets s c
     step_first s c x h = subst (λ (y : ℕ → SetRecord). FirstChild y s c) (sym (step_sets x)) h
 
-    pub step_pages : Ready t p f k → Step t p t₁ p₁ f k k₁ op → length p₁ ≡ length p
-    step_pages re s = s.ready.size ∙ ap (λ n. n * 512) (step_blocks s) ∙ sym re.size
-
 -- ---- loops: what is done, then what is to do, is the whole
 
 pub going_start : {t p : List ℕ} {f : ℕ} {k : Counts} (op : Work real → Work real) → Ready t p f k → Going t p t p f k k op op
@@ -86,9 +82,3 @@ module _ {t₀ p₀ t p : List ℕ} {f : ℕ} {k₀ k : Counts} {op todo : Work 
 
   pub going_first : (s c : ℕ) → FirstChild (unpack t₀).sets s c → FirstChild (unpack t).sets s c
   going_first s c h = subst (λ (y : ℕ → SetRecord). FirstChild y s c) (sym going_sets) h
-
-  pub going_pages : Ready t₀ p₀ f k₀ → length p ≡ length p₀
-  going_pages re = g.ready.size ∙ ap (λ (r : Rest). r.blocks * 512) g.same ∙ sym re.size
-
-  pub going_tables : Ready t₀ p₀ f k₀ → length t ≡ length t₀
-  going_tables re = g.ready.packed.len ∙ sym re.packed.len

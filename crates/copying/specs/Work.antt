@@ -1,5 +1,5 @@
 -- For the contracts of the code, not for a reader of document 01: the rules' work on the files of one number, read off tables, pages and the counts of the code; what every step of a call needs and keeps; what a step must show.
-use Rattle.std.specs.Prelude.{Bool, cond, false, not, true, List, ◌≡◌, ◌*◌, ◌+◌, ◌-◌, ◌<◌, ℕ, ◌≤◌, ltb, length}
+use Rattle.std.specs.Prelude.{Bool, cond, false, not, true, List, Option, None, Some, ◌≡◌, ◌*◌, ◌+◌, ◌-◌, ◌<◌, ℕ, ◌≤◌, length}
 use Rattle.base.specs.Count.{count}
 use Rattle.base.specs.Update.{upd}
 use Rattle.rules.proofs.Steps.OneStep.{TreeOk}
@@ -22,6 +22,10 @@ work_of m x h k = record { memory = m; files = x; pending = h; taken = k.taken; 
 -- the work on the files of number f
 abbrev pub work : Tables → (ℕ → PageData) → ℕ → (ℕ → Entry ℕ) → Counts → Work real
 work tb pg f h k = work_of (memory_of tb pg) (tb.files f) h k
+
+-- the counts that a call begins with, where n blocks are free
+abbrev pub counts_new : ℕ → Counts
+counts_new n = record { taken = 0; copies = 0; marks = 0; left = n }
 
 -- the counts after a block is taken
 abbrev pub one_taken : Counts → Counts
@@ -95,9 +99,10 @@ pub record FirstChild (sets : ℕ → SetRecord) (s c : ℕ) : Type 0 where
   pub used : (sets s).used ≡ true
   pub first : c ≡ (sets s).first_child
 
--- page q of set s is taken over by set c, where that is one
-abbrev pub hand_if : Tree → ℕ → ℕ → ℕ → Work real → Work real
-hand_if t s q c w = cond (ltb c 8) (hand_over real t s q c w) w
+-- page q of set s is taken over by the heir, where there is one
+abbrev pub hand_if : Tree → ℕ → ℕ → Option ℕ → Work real → Work real
+hand_if t s q None w = w
+hand_if t s q (Some c) w = hand_over real t s q c w
 
 -- how the code gives pages
 abbrev pub giving_of : How → Giving

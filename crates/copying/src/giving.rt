@@ -1,7 +1,7 @@
 // Step 4: "For each touched page ascending, for each child in order of making that needs it"; and of pages dropped whole: "the
 // first child that needs it takes over the block itself. Other children needing it still get copies." After it the extra pages of
 // a write, "ascending, children in order of making, with the same copying".
-ghost use Rattle.std.specs.Prelude.{◌&&◌, true, ◌++◌, ◌≡◌, ℕ, ◌+◌, ◌-◌, ◌<◌, ◌≤◌, length};
+ghost use Rattle.std.specs.Prelude.{◌&&◌, true, ◌++◌, ◌≡◌, ℕ, ◌+◌, ◌-◌, ◌<◌, ◌≤◌, length, Some};
 ghost use Rattle.rules.specs.Rules as Rules;
 ghost use Rattle.rules.specs.State.{is_stored, live, stored, tree_of};
 ghost use Rattle.rules.specs.Storage.{real};
@@ -9,7 +9,7 @@ ghost use Rattle.tables.specs.Layout.{table_bytes};
 ghost use Rattle.tables.specs.Packed.{unpack};
 ghost use Rattle.tables.specs.Meaning.{entry_meant};
 ghost use Rattle.tables.specs.Views.{PackedTables};
-ghost use Rattle.copying.specs.Work.{Alone, FirstChild, Ready, ShownKept, Step, give_as, give_both, give_chain, give_groups, giving_of, hand_if, handed_by, shown, touched_by};
+ghost use Rattle.copying.specs.Work.{Alone, FirstChild, counts_new, Ready, ShownKept, Step, give_as, give_both, give_chain, give_groups, giving_of, hand_if, handed_by, shown, touched_by};
 ghost use Rattle.copying.specs.Heirs.{TurnsFound};
 
 use crate::marking;
@@ -24,6 +24,20 @@ pub struct Counts {
     pub copies: u32,
     pub marks: u32,
     pub left: u32,
+}
+
+impl Counts {
+    // The counts that a call begins with, where `left` blocks are free.
+    pub fn new(left: u32) -> Counts
+        ensures { result ≡ counts_new left }
+    {
+        Counts {
+            taken: 0,
+            copies: 0,
+            marks: 0,
+            left,
+        }
+    }
 }
 
 // "One resolving to stored is copied to a block taken": block b, for a page of set c.
@@ -43,15 +57,15 @@ fn copy_to(
     pages::copy_page(p, b, d);
     entries::put_entry(t, f, c, page, Entry::Stored(d));
     Counts {
-        taken: k.taken,
         copies: k.copies + 1,
-        marks: k.marks,
         left: k.left - 1,
+        ..k
     }
 }
 
 // How pages are given to the children that need them: copied; handed over, to the first of them, where the file's own map stores
-// the page, and copied for the others; or, as extra pages, copied where a block is free and else left.
+// the page, and copied for the others; or, as extra pages, copied where a block is free and else left. The three differ in two tests, so an
+// enum says it and no closure.
 #[derive(Clone, Copy)]
 enum How {
     Copied,
@@ -80,10 +94,9 @@ fn give_block(
         }
         let n = marking::mark_down(t, f, c);
         return Counts {
-            taken: k.taken,
-            copies: k.copies,
             marks: k.marks + n,
             left: header::free_blocks(&*t),
+            ..k
         };
     }
     copy_to(t, p, f, c, page, b, k)
@@ -150,23 +163,21 @@ fn give_chain(
 {
     let mut w = k;
     let mut c = first;
-    let mut n = most;
-    while 0 < n {
+    for _ in 0..most {
         if 8 <= c {
             return w;
         }
         w = give(t, p, f, page, e, c, must, w);
         c = sets::next_sibling_of(&*t, c);
-        n -= 1;
     }
     w
 }
 
-// Who has a turn at a page: set `next` and the sets behind it in its chain, `most` at most; then set `heir` takes the page over, where that is
-// a set.
+// Who has a turn at a page: set `next` and the sets behind it in its chain, `most` at most; then the heir, if there is one, takes the page over.
+// `next` stays a link as the tables have it, 8 where no set follows: the loop over the chain reads its other links from the tables too.
 #[derive(Clone, Copy)]
 struct InTurn {
-    heir: usize,
+    heir: Option<usize>,
     next: usize,
     most: usize,
 }
@@ -175,11 +186,7 @@ struct InTurn {
 fn is_touched(how: How) -> bool
     ensures { result ≡ touched_by how }
 {
-    match how {
-        How::Copied => true,
-        How::Handed => true,
-        How::Extra => false,
-    }
+    matches!(how, How::Copied | How::Handed)
 }
 
 // Is a page of set s handed over, where pages are: is it "stored in the file's own map"?
@@ -187,11 +194,7 @@ fn is_handed(t: &[u8], f: usize, s: usize, page: Page, how: How) -> bool
     requires { (length t.now ≡ table_bytes) × (f < 16) × (s < 8) × (page.0 < 64) }
     ensures { result ≡ (handed_by how && is_stored (((unpack t.now).files f s).map page.0)) }
 {
-    match how {
-        How::Copied => false,
-        How::Handed => entries::is_stored(entries::entry_at(t, f, s, page)),
-        How::Extra => false,
-    }
+    matches!(how, How::Handed) && entries::is_stored(entries::entry_at(t, f, s, page))
 }
 
 // The heir is the first of set `child` and the sets behind it in its chain that needs the page; those behind the heir have turns.
@@ -200,28 +203,22 @@ fn behind_heir(t: &[u8], f: usize, page: Page, child: usize) -> InTurn
     ensures { TurnsFound (unpack t.now) f page.0 child true result }
 {
     let mut c = child;
-    let mut n: usize = 8;
-    while 0 < n {
+    for n in (0..8).rev() {
         if 8 <= c {
-            return InTurn {
-                heir: 8,
-                next: 8,
-                most: 0,
-            };
+            break;
         }
         let next = sets::next_sibling_of(t, c);
         if maps::marking::needs(t, f, c, page) {
             return InTurn {
-                heir: c,
-                next: next,
-                most: n - 1,
+                heir: Some(c),
+                next,
+                most: n,
             };
         }
         c = next;
-        n -= 1;
     }
     InTurn {
-        heir: 8,
+        heir: None,
         next: 8,
         most: 0,
     }
@@ -234,7 +231,7 @@ fn in_turn(t: &[u8], f: usize, page: Page, child: usize, over: bool) -> InTurn
 {
     if !over {
         return InTurn {
-            heir: 8,
+            heir: None,
             next: child,
             most: 8,
         };
@@ -242,16 +239,15 @@ fn in_turn(t: &[u8], f: usize, page: Page, child: usize, over: bool) -> InTurn
     behind_heir(t, f, page, child)
 }
 
-// The entry that a page has in set s, e, moves to the map of set c, if there is such a set.
-fn hand_over(t: &mut [u8], f: usize, s: usize, page: Page, e: Entry, c: usize)
-    requires { PackedTables t.old × (f < 16) × (s < 8) × (page.0 < 64) × (c < 8 → entry_meant e ≡ ((unpack t.old).files f s).map page.0) × ((b : ℕ) → entry_meant e ≡ stored b → b < 4096) }
-    ensures { Alone t.old t.new f (hand_if (tree_of (unpack t.old).sets) s page.0 c) }
+// The entry that a page has in set s, e, moves to the map of the heir, if there is one.
+fn hand_over(t: &mut [u8], f: usize, s: usize, page: Page, e: Entry, heir: Option<usize>)
+    requires { PackedTables t.old × (f < 16) × (s < 8) × (page.0 < 64) × ((c : ℕ) → heir ≡ Some c → (c < 8) × (entry_meant e ≡ ((unpack t.old).files f s).map page.0)) × ((b : ℕ) → entry_meant e ≡ stored b → b < 4096) }
+    ensures { Alone t.old t.new f (hand_if (tree_of (unpack t.old).sets) s page.0 heir) }
 {
-    if 8 <= c {
-        return;
+    if let Some(c) = heir {
+        entries::put_entry(t, f, c, page, e);
+        entries::put_entry(t, f, s, page, Entry::Hole);
     }
-    entries::put_entry(t, f, c, page, e);
-    entries::put_entry(t, f, s, page, Entry::Hole);
 }
 
 // A page of set s, which resolves to e, for each child; the first child is `child`. Where it is handed over, the others get their copies before
@@ -290,17 +286,13 @@ fn give_pages(
     how: How,
     k: Counts,
 ) -> Counts
-    requires { Ready t.old p.old f k × (s < 8) × (first + m ≤ 64) × FirstChild (unpack t.old).sets s child × (length kept ≡ 64) × ShownKept kept t.old f s first m }
+    requires { Ready t.old p.old f k × (s < 8) × (first + m ≤ 64) × FirstChild (unpack t.old).sets s child × ShownKept kept t.old f s first m }
     ensures { Step t.old p.old t.new p.new f k result (Rules.give_all real (tree_of (unpack t.old).sets) (giving_of how) s (Rules.from first m)) }
 {
     let mut w = k;
-    let mut q = first;
-    let mut n = m;
-    while 0 < n {
+    for q in first..first + m {
         let x = kept[q];
         w = give_page(t, p, f, s, Page::new(q), x.entry(), child, how, w);
-        q += 1;
-        n -= 1;
     }
     w
 }

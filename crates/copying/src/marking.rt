@@ -2,7 +2,6 @@
 // are free again.
 ghost use Rattle.std.specs.Prelude.{◌≡◌, Bool, ℕ, ◌<◌, ◌≤◌};
 ghost use Rattle.base.specs.Count.{count};
-ghost use Rattle.packing.specs.Bitmap.{is_one};
 ghost use Rattle.tables.specs.Packed.{unpack};
 ghost use Rattle.tables.specs.Views.{PackedTables, Turns};
 ghost use Rattle.maps.specs.Mask.{packs};
@@ -11,16 +10,14 @@ ghost use Rattle.copying.specs.Changes.{MarkedBy, mark_if, marks_down, reached};
 
 use setchanges::mark;
 
-// File f of set s is marked where x is 1; gives x.
-fn mark_if(t: &mut [u8], f: usize, s: usize, x: u32) -> u32
-    requires { PackedTables t.old × (f < 16) × (s < 8) × BlocksIn f s (unpack t.old) × (x < 2) }
-    ensures { Turns t.old t.new (mark_if f s (is_one x)) × (result ≡ x) }
+// File f of set s is marked, or not.
+fn mark_if(t: &mut [u8], f: usize, s: usize, marked: bool)
+    requires { PackedTables t.old × (f < 16) × (s < 8) × BlocksIn f s (unpack t.old) }
+    ensures { Turns t.old t.new (mark_if f s marked) }
 {
-    if x == 0 {
-        return 0;
+    if marked {
+        mark::mark_record(t, f, s);
     }
-    mark::mark_record(t, f, s);
-    1
 }
 
 // File f of the sets of a mask, set 0 the lowest digit; gives how many.
@@ -30,11 +27,11 @@ fn mark_sets(t: &mut [u8], f: usize, mask: u32) -> u32
 {
     let mut m = mask;
     let mut n: u32 = 0;
-    let mut s: usize = 0;
-    while s < 8 {
-        n += mark_if(t, f, s, m % 2);
-        m = m / 2;
-        s += 1;
+    for s in 0..8 {
+        let marked = m % 2 == 1;
+        mark_if(t, f, s, marked);
+        n += u32::from(marked);
+        m /= 2;
     }
     n
 }

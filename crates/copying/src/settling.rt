@@ -27,13 +27,11 @@ pub fn settle_children(t: &mut [u8], f: usize, s: usize)
     ensures { PackedTables t.new × Alone t.old t.new f (settle_children (unpack t.old).sets s) }
 {
     let mut c = sets::first_child_of(&*t, s);
-    let mut n: usize = 8;
-    while 0 < n {
+    for _ in 0..8_usize {
         if 8 <= c {
             return;
         }
         settle_set(t, f, c);
         c = sets::next_sibling_of(&*t, c);
-        n -= 1;
     }
 }

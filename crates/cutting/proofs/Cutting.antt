@@ -9,12 +9,12 @@ use lib.Dec.{eqb, ltb}
 use lib.ListN.{length}
 use borrow.Author.Tests.{eq-eqb, le-ltb, lt-ltb, ne_eqb}
 use Rattle.base.specs.Count.{count}
-use Rattle.changing.proofs.Whole.{Did, begun, both_did, did_step, did_tables, did_then, settle_both}
+use Rattle.changing.proofs.Whole.{Did, both_did, did_step, did_tables, did_then, settle_both}
 use Rattle.changing.specs.Tables.{OnTables}
 use Rattle.changing.specs.Whole.{Changed, ChangedAlone, start_counts, totals_of}
 use Rattle.copying.proofs.Begin.{ready_begin}
 use Rattle.copying.specs.Changes.{settled}
-use Rattle.copying.specs.Work.{Alone, Ready, Step, give_both, settle_children, work}
+use Rattle.copying.specs.Work.{Alone, Ready, Step, counts_new, give_both, settle_children, work}
 use Rattle.entering.specs.Pending.{Reserves, StepAt}
 use Rattle.rules.proofs.Formed.Shape.{size_most}
 use Rattle.rules.specs.Reading.{resolve, size_by_reading}
@@ -186,8 +186,8 @@ module _ {t p t' p' : List ℕ} {f : ℕ} {k : Counts} {r : Totals} (s n z : ℕ
 -- a change of the tables alone, from well-formed tables on, whatever the count of free blocks
 pub alone_begun : {t' : List ℕ} {f : ℕ} {op : Work real → Work real} (t p : List ℕ) → well_formed t (length p) ≡ true → f < 16 → ChangedAlone t t' f op → Changed t p t' p f start_counts (totals_of start_counts) op
 alone_begun {t'} {f} t p formed h g =
-    let k = begun (count (unpack t).blocks (λ b. not ((unpack t).bits b))) in
-    let c = g p k (ready_begin t p formed f k h refl refl refl refl) in
+    let n = count (unpack t).blocks (λ b. not ((unpack t).bits b)) in
+    let c = g p (counts_new n) (ready_begin t p formed f n (counts_new n) h refl refl) in
     record { pending = c.pending; same = c.same; does = c.does; packed = c.packed }
 
 module _ (t p : List ℕ) (f s n z : ℕ) (ez : z ≡ size_by_reading (tree_of (unpack t).sets) ((unpack t).files f) s) where
@@ -206,20 +206,20 @@ module _ (t p : List ℕ) (f s n z : ℕ) (ez : z ≡ size_by_reading (tree_of (
   truncate_above h l c = record { pending = c.pending; same = c.same; does = c.does ∙ (rw (ne_eqb n z h, lt-ltb z n l)) ∙ as_size; packed = c.packed }
 
   -- LAW: below it
-  pub truncate_below : {t' p' : List ℕ} {r : Totals} (left : ℕ) → (n ≡ z → ⊥) → n ≤ z
-      → Changed t p t' p' f (begun left) r (change real (tree_of (unpack t).sets) s (part_pages n) (kept_pages n (resolve (tree_of (unpack t).sets) ((unpack t).files f) s (n / 512))) (dropped_pages n z) [] (λ q. zero_from (n % 512)) (λ i. n))
+  pub truncate_below : {t' p' : List ℕ} {r : Totals} → (n ≡ z → ⊥) → n ≤ z
+      → Changed t p t' p' f start_counts r (change real (tree_of (unpack t).sets) s (part_pages n) (kept_pages n (resolve (tree_of (unpack t).sets) ((unpack t).files f) s (n / 512))) (dropped_pages n z) [] (λ q. zero_from (n % 512)) (λ i. n))
       → Changed t p t' p' f start_counts r (truncate_file real (tree_of (unpack t).sets) s n)
   unfolding truncate_as
-  truncate_below left h l c = record { pending = c.pending; same = c.same; does = c.does ∙ (rw (ne_eqb n z h, le-ltb z n l)) ∙ as_size; packed = c.packed }
+  truncate_below h l c = record { pending = c.pending; same = c.same; does = c.does ∙ (rw (ne_eqb n z h, le-ltb z n l)) ∙ as_size; packed = c.packed }
 
 -- the own need below the size
-pub need_below : (t : List ℕ) (f s n z left : ℕ) → z ≡ size_by_reading (tree_of (unpack t).sets) ((unpack t).files f) s → n < z → left ≡ count (unpack t).blocks (λ b. not ((unpack t).bits b))
+pub need_below : (t : List ℕ) (f s n z left : ℕ) (k : Counts) → k ≡ counts_new left → z ≡ size_by_reading (tree_of (unpack t).sets) ((unpack t).files f) s → n < z → left ≡ count (unpack t).blocks (λ b. not ((unpack t).bits b))
     → truncate_need real (tree_of (unpack t).sets) s n ((unpack t).files f) ≤ count (unpack t).blocks (λ b. not ((unpack t).bits b))
-    → own_need real s (kept_pages n (resolve (tree_of (unpack t).sets) ((unpack t).files f) s (n / 512))) ((unpack t).files f) ≤ left
+    → own_need real s (kept_pages n (resolve (tree_of (unpack t).sets) ((unpack t).files f) s (n / 512))) ((unpack t).files f) ≤ k.left
 unfolding truncate_need
-need_below t f s n z left ez l el h =
+need_below t f s n z left k ek ez l el h =
     let x : ltb n (size_by_reading (tree_of (unpack t).sets) ((unpack t).files f) s) ≡ true = ap (ltb n) (sym ez) ∙ lt-ltb n z l in
-    subst (λ i. own_need real s (kept_pages n (resolve (tree_of (unpack t).sets) ((unpack t).files f) s (n / 512))) ((unpack t).files f) ≤ i) (sym el)
+    subst (λ i. own_need real s (kept_pages n (resolve (tree_of (unpack t).sets) ((unpack t).files f) s (n / 512))) ((unpack t).files f) ≤ i) (sym (ap (λ (y : Counts). y.left) ek ∙ el))
     (subst (λ (b : Bool). cond b (own_need real s (kept_pages n (resolve (tree_of (unpack t).sets) ((unpack t).files f) s (n / 512))) ((unpack t).files f)) 0 ≤ count (unpack t).blocks (λ b. not ((unpack t).bits b))) x h)
 
 pub size_in_law : (t p : List ℕ) → well_formed t (length p) ≡ true → (f s z : ℕ) → z ≡ size_by_reading (tree_of (unpack t).sets) ((unpack t).files f) s → z ≤ 32768

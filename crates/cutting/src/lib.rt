@@ -51,11 +51,7 @@ fn cut_away(
     let b = giving::give_all(t, p, f, s, first, m, d, k);
     dropping::drop_pages(t, f, s, first + m, d);
     dropping::resize(t, f, s, n);
-    Totals {
-        taken: b.taken,
-        copies: b.copies,
-        marks: b.marks,
-    }
+    Totals::from(b)
 }
 
 // Below it, where the page of the new size stays stored: it is copied; the m - 1 pages behind it are handed over where the file's own map
@@ -83,11 +79,7 @@ fn cut_kept(
     zeroing::enter_cut(t, p, own, f, s, Page::new(first), n % 512, b);
     dropping::drop_pages(t, f, s, first + 1, m - 1);
     dropping::resize(t, f, s, n);
-    Totals {
-        taken: b.taken,
-        copies: b.copies,
-        marks: b.marks,
-    }
+    Totals::from(b)
 }
 
 // Below it: the size becomes n, which was z.
@@ -127,11 +119,6 @@ pub fn truncate_file(t: &mut [u8], p: &mut [u8], f: usize, s: usize, n: usize) -
         return none;
     }
     let left = header::free_blocks(&*t);
-    let k = Counts {
-        taken: 0,
-        copies: 0,
-        marks: 0,
-        left: left,
-    };
+    let k = Counts::new(left);
     cut(t, p, f, s, n, z, k)
 }

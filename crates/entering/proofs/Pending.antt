@@ -2,8 +2,8 @@
 use mathlib.Core.Bool.{◌&&◌, Bool, cond, false, not, true}
 use mathlib.Core.List.{List}
 use mathlib.Core.Path.{◌≡◌, ap, fun_ext, refl, subst, sym, ◌∙◌}
-use Prim.Native.Nat.{◌*◌, ◌+◌, ◌-◌, ◌<◌, suc, zero, ℕ, ◌≤◌}
-use native.Mathlib.Numerals.{add-one, sub-one}
+use Prim.Native.Nat.{◌*◌, ◌+◌, ◌<◌, ℕ, ◌≤◌}
+use native.Mathlib.Numerals.{add-one}
 use native.Mathlib.Omega.{arith}
 use lib.Dec.{leb, ltb}
 use lib.ListN.{length}
@@ -114,14 +114,14 @@ reserve_files tree s q w = as_files tree ((w.files s).map q) q w
 abbrev pub reserving : ℕ → (ℕ → SetRecord) → ℕ → Work real → Work real
 reserving s sets = reserve real (tree_of sets) s
 
-need_more : (g : ℕ → Bool) (n q : ℕ) → (n ≡ 0 → ⊥) → count_in (from q n) g ≡ cond (g q) 1 0 + count_in (from (q + 1) (n - 1)) g
+-- the first of n pages, and the m behind it
+need_more : (g : ℕ → Bool) (n m q : ℕ) → n ≡ m + 1 → count_in (from q n) g ≡ cond (g q) 1 0 + count_in (from (q + 1) m) g
 unfolding count_in from
-need_more g zero q h = absurd (h refl)
-need_more g (suc n) q h = rw (sub-one, add-one)
+need_more g n m q h = rw (h, add-one m, add-one q)
 
-own_more : (s : ℕ) (files : Files ℕ) (n q : ℕ) → (n ≡ 0 → ⊥) → own_need real s (from q n) files ≡ cond (not (is_stored ((files s).map q))) 1 0 + own_need real s (from (q + 1) (n - 1)) files
+own_more : (s : ℕ) (files : Files ℕ) (n m q : ℕ) → n ≡ m + 1 → own_need real s (from q n) files ≡ cond (not (is_stored ((files s).map q))) 1 0 + own_need real s (from (q + 1) m) files
 unfolding own_need
-own_more s files n q h = need_more (λ p. not (is_stored ((files s).map p))) n q h
+own_more s files n m q h = need_more (λ p. not (is_stored ((files s).map p))) n m q h
 
 pub record Reserving (t₀ t : List ℕ) (l₀ l : List Pending) (f s q n : ℕ) (k₀ k : Counts) (op : Work real → Work real) : Type 0 where
   pub same : rest (unpack t) f ≡ rest (unpack t₀) f
@@ -135,32 +135,32 @@ pub reserving_start : {t : List ℕ} {l : List Pending} {k : Counts} (f s q n : 
     → Reserving t t l l f s q n k k (up_pages (reserving s) (unpack t).sets q n)
 reserving_start f s q n pk so ok nd = record { same = refl; whole = λ pg. refl; packed = pk; sound = so; pending = ok; need = nd }
 
-pub reserving_some : {t₀ t : List ℕ} {l₀ l : List Pending} {f s q n : ℕ} {k₀ k : Counts} {op : Work real → Work real} (x : ℕ) → Reserving t₀ t l₀ l f s q n k₀ k op → (n ≡ 0 → ⊥) → x ≡ q
+pub reserving_some : {t₀ t : List ℕ} {l₀ l : List Pending} {f s q n : ℕ} {k₀ k : Counts} {op : Work real → Work real} (m x : ℕ) → Reserving t₀ t l₀ l f s q n k₀ k op → n ≡ m + 1 → x ≡ q
     → is_stored (((unpack t).files f s).map x) ≡ false → 0 < k.left
-reserving_some {t₀} {t} {l₀} {l} {f} {s} {q} {n} {k₀} {k} x g h ex e =
-    let m = own_more s ((unpack t).files f) n q h in
+reserving_some {t₀} {t} {l₀} {l} {f} {s} {q} {n} {k₀} {k} m x g h ex e =
+    let r = own_more s ((unpack t).files f) n m q h in
     let z : ◌≡◌ {A = ℕ} (cond (not (is_stored (((unpack t).files f s).map q))) 1 0) 1 = ap (λ y. cond (not (is_stored (((unpack t).files f s).map y))) 1 0) (sym ex) ∙ rw e in
     omega (arith, g.need)
 
-pub reserving_turn : {t₀ t t' : List ℕ} {l₀ l l' : List Pending} {f s q n : ℕ} {k₀ k k' : Counts} {op : Work real → Work real} (x b : ℕ) → Reserving t₀ t l₀ l f s q n k₀ k op → (n ≡ 0 → ⊥) → x ≡ q
-    → Reserved t t' f s x k b k' → pending_of l' ≡ upd (pending_of l) q (stored b) → length l' ≡ 64 → Reserving t₀ t' l₀ l' f s (q + 1) (n - 1) k₀ k' op
-reserving_turn {t₀} {t} {t'} {l₀} {l} {l'} {f} {s} {q} {n} {k₀} {k} {k'} x b g h ex r' el len =
+pub reserving_turn : {t₀ t t' : List ℕ} {l₀ l l' : List Pending} {f s q n : ℕ} {k₀ k k' : Counts} {op : Work real → Work real} (m x b : ℕ) → Reserving t₀ t l₀ l f s q n k₀ k op → n ≡ m + 1 → x ≡ q
+    → Reserved t t' f s x k b k' → pending_of l' ≡ upd (pending_of l) q (stored b) → length l' ≡ 64 → Reserving t₀ t' l₀ l' f s (q + 1) m k₀ k' op
+reserving_turn {t₀} {t} {t'} {l₀} {l} {l'} {f} {s} {q} {n} {k₀} {k} {k'} m x b g h ex r' el len =
     let r : Reserved t t' f s q k b k' = subst (λ y. Reserved t t' f s y k b k') ex r' in
     let v = r.reserves l l' g.pending el len in
     let ss : (unpack t).sets ≡ (unpack t₀).sets = sets_of t₀ t f g.same in
     let files : (unpack t').files f ≡ (unpack t).files f =
     ap (λ (w : Work real). w.files) (v.does (λ b i. 0)) ∙ reserve_files (tree_of (unpack t).sets) s q (work (unpack t) (λ b i. 0) f (pending_of l) k) in
-    let m = own_more s ((unpack t).files f) n q h in
+    let need = own_more s ((unpack t).files f) n m q h in
     record {
       same = v.same ∙ g.same;
       whole = λ pg.
           let w = work (unpack t) pg f (pending_of l) k in
-          g.whole pg ∙ pages_more (reserving s) (unpack t₀).sets n q h w
-          ∙ ap (up_pages (reserving s) (unpack t₀).sets (q + 1) (n - 1)) (ap (λ (y : ℕ → SetRecord). reserve real (tree_of y) s q w) (sym ss) ∙ sym (v.does pg));
+          g.whole pg ∙ pages_more (reserving s) (unpack t₀).sets n m q h w
+          ∙ ap (up_pages (reserving s) (unpack t₀).sets (q + 1) m) (ap (λ (y : ℕ → SetRecord). reserve real (tree_of y) s q w) (sym ss) ∙ sym (v.does pg));
       packed = v.packed;
       sound = v.sound;
       pending = subst (PendingIn l') (sym (blocks_of t t' f v.same)) v.pending;
-      need = subst (λ (y : Files ℕ). own_need real s (from (q + 1) (n - 1)) y ≤ k'.left) (sym files) (omega (arith, g.need, r.spent));
+      need = subst (λ (y : Files ℕ). own_need real s (from (q + 1) m) y ≤ k'.left) (sym files) (omega (arith, g.need, r.spent));
     }
 
 pub reserving_done : {t₀ t : List ℕ} {l₀ l : List Pending} {f s q n : ℕ} {k₀ k : Counts} {op : Work real → Work real} → Reserving t₀ t l₀ l f s q n k₀ k op → n ≡ 0 → Reserves t₀ t l₀ l f k₀ k op
@@ -281,24 +281,21 @@ pub entering_start : {t p : List ℕ} {f : ℕ} {k : Counts} (h : ℕ → Entry 
 entering_start h s q n lay re = record { same = refl; whole = refl; ready = re }
 
 module _ {h : ℕ → Entry ℕ} {t₀ p₀ t p : List ℕ} {f s q n : ℕ} {lay : ℕ → PageData → PageData} {k : Counts} {op : Work real → Work real} (g : Entering h t₀ p₀ t p f s q n lay k op) where
-  pub entering_turn : {t' p' : List ℕ} (x : ℕ) → (n ≡ 0 → ⊥) → x ≡ q → StepAt h t p t' p' f k (enter real (tree_of (unpack t).sets) s lay x) → Entering h t₀ p₀ t' p' f s (q + 1) (n - 1) lay k op
-  entering_turn x z ex v =
+  pub entering_turn : {t' p' : List ℕ} (m x : ℕ) → n ≡ m + 1 → x ≡ q → StepAt h t p t' p' f k (enter real (tree_of (unpack t).sets) s lay x) → Entering h t₀ p₀ t' p' f s (q + 1) m lay k op
+  entering_turn m x z ex v =
       let ss : (unpack t).sets ≡ (unpack t₀).sets = sets_of t₀ t f g.same in
       let w = work (unpack t) (pages_of p) f h k in
       record {
         same = v.same ∙ g.same;
         ready = v.ready;
         whole =
-            g.whole ∙ pages_more (entering s lay) (unpack t₀).sets n q z w
-            ∙ ap (up_pages (entering s lay) (unpack t₀).sets (q + 1) (n - 1))
+            g.whole ∙ pages_more (entering s lay) (unpack t₀).sets n m q z w
+            ∙ ap (up_pages (entering s lay) (unpack t₀).sets (q + 1) m)
             (ap (λ (y : ℕ → SetRecord). enter real (tree_of y) s lay q w) (sym ss) ∙ ap (λ y. enter real (tree_of (unpack t).sets) s lay y w) (sym ex) ∙ sym v.does);
       }
 
   pub entering_done : n ≡ 0 → StepAt h t₀ p₀ t p f k op
   entering_done e = record { same = g.same; ready = g.ready; does = sym (g.whole ∙ pages_out (entering s lay) (unpack t₀).sets n q e (work (unpack t) (pages_of p) f h k)) }
-
-  pub entering_pages : Ready t₀ p₀ f k → length p ≡ length p₀
-  entering_pages re = g.ready.size ∙ ap (λ (r : Rest). r.blocks * 512) g.same ∙ sym re.size
 
   pub entering_pending : {l : List Pending} → PendingIn l (unpack t₀).blocks → PendingIn l (unpack t).blocks
   entering_pending {l} ok = subst (PendingIn l) (sym (blocks_of t₀ t f g.same)) ok

@@ -30,8 +30,7 @@ pub fn prepare(p: &mut [u8], e: Entry, b: Block)
     ensures { pages_of p.new ≡ upd (pages_of p.old) b.0 (bytes_of (pages_of p.old) (entry_meant e)) }
 {
     match e {
-        Entry::Unmapped => pages::zero_page(p, b),
-        Entry::Hole => pages::zero_page(p, b),
+        Entry::Unmapped | Entry::Hole => pages::zero_page(p, b),
         Entry::Stored(a) => pages::copy_page(p, a, b),
     }
 }
@@ -42,10 +41,7 @@ fn covers(page: Page, off: usize, n: usize) -> bool
     ensures { result ≡ (leb off (page.0 * 512) && leb (page.0 * 512 + 512) (off + n)) }
 {
     let start = page.number() * 512;
-    if start < off {
-        return false;
-    }
-    start + 512 <= off + n
+    off <= start && start + 512 <= off + n
 }
 
 // Old bytes are carried to block b, unless the n bytes from `off` on that will be laid over the page cover it whole.
@@ -106,11 +102,8 @@ fn enter(
     requires { Ready t.old p.old f k × OwnIn own (unpack t.old).blocks × (s < 8) × (page.0 < 64) × (off + length «data».now ≤ 32768) }
     ensures { StepWith own page.0 t.old p.old t.new p.new f k (Rules.enter real (tree_of (unpack t.old).sets) s (overlay off «data».now) page.0) }
 {
-    let e = own.held();
-    match e {
-        Entry::Unmapped => {}
-        Entry::Hole => {}
-        Entry::Stored(b) => enter_block(t, p, f, s, page, b, off, data, k),
+    if let Entry::Stored(b) = own.held() {
+        enter_block(t, p, f, s, page, b, off, data, k);
     }
 }
 
@@ -130,12 +123,8 @@ pub fn enter_all(
     requires { Ready t.old p.old f k × PendingIn pending (unpack t.old).blocks × (s < 8) × (first + m ≤ 64) × (off + length «data».now ≤ 32768) }
     ensures { StepAt (pending_of pending) t.old p.old t.new p.new f k (Rules.each (Rules.enter real (tree_of (unpack t.old).sets) s (overlay off «data».now)) (Rules.from first m)) }
 {
-    let mut q = first;
-    let mut n = m;
-    while 0 < n {
+    for q in first..first + m {
         let own = pending[q];
         enter(t, p, own, f, s, Page::new(q), off, data, k);
-        q += 1;
-        n -= 1;
     }
 }

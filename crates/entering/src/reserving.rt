@@ -35,9 +35,8 @@ fn take_own(t: &mut [u8], k: Counts) -> OwnBlock
     let b = entries::take_block(t);
     let c = Counts {
         taken: k.taken + 1,
-        copies: k.copies,
-        marks: k.marks,
         left: k.left - 1,
+        ..k
     };
     OwnBlock {
         block: b,
@@ -52,8 +51,7 @@ fn reserve(t: &mut [u8], f: usize, s: usize, page: Page, k: Counts) -> OwnBlock
 {
     let e = entries::entry_at(&*t, f, s, page);
     match e {
-        Entry::Unmapped => take_own(t, k),
-        Entry::Hole => take_own(t, k),
+        Entry::Unmapped | Entry::Hole => take_own(t, k),
         Entry::Stored(b) => OwnBlock {
             block: b,
             counts: k,
@@ -75,18 +73,11 @@ pub fn reserve_all(
 {
     let mut pending = entries::none_pending();
     let mut w = k;
-    let mut q = first;
-    let mut n = m;
-    while 0 < n {
+    for q in first..first + m {
         let own = reserve(t, f, s, Page::new(q), w);
         let b = own.block;
         pending[q] = Pending::of(b);
         w = own.counts;
-        q += 1;
-        n -= 1;
     }
-    Reservation {
-        pending: pending,
-        counts: w,
-    }
+    Reservation { pending, counts: w }
 }

@@ -48,14 +48,8 @@ pub fn enter_cut(
     requires { Ready t.old p.old f k × OwnIn own (unpack t.old).blocks × (s < 8) × (page.0 < 64) × (n ≤ 512) }
     ensures { StepWith own page.0 t.old p.old t.new p.new f k (Rules.enter real (tree_of (unpack t.old).sets) s (λ q. zero_from n) page.0) }
 {
-    let e = own.held();
-    match e {
-        Entry::Unmapped => {}
-        Entry::Hole => {}
-        Entry::Stored(b) => {
-            let r = reading::resolve_in(&*t, f, page, s);
-            let old = r.entry;
-            cut_block(t, p, f, s, page, old, b, n, k);
-        }
+    if let Entry::Stored(b) = own.held() {
+        let r = reading::resolve_in(&*t, f, page, s);
+        cut_block(t, p, f, s, page, r.entry, b, n, k);
     }
 }

@@ -6,11 +6,11 @@ use Prim.Native.Nat.{◌+◌, ◌-◌, ◌/◌, ◌<◌, max, suc, zero, ℕ, �
 use native.Mathlib.Omega.{arith}
 use lib.ListN.{length}
 use Rattle.base.specs.Count.{count}
-use Rattle.changing.proofs.Whole.{Did, begun, both_did, did_step, did_then, settle_both}
+use Rattle.changing.proofs.Whole.{Did, both_did, did_step, did_then, settle_both}
 use Rattle.changing.specs.Tables.{OnTables}
 use Rattle.changing.specs.Whole.{Changed, start_counts, totals_of}
 use Rattle.copying.specs.Changes.{settled}
-use Rattle.copying.specs.Work.{Alone, Ready, Rest, Step, give_groups, settle_children, work}
+use Rattle.copying.specs.Work.{Alone, Ready, Rest, Step, counts_new, give_groups, settle_children, work}
 use Rattle.entering.specs.Pending.{Reserves, StepAt}
 use Rattle.rules.specs.Rules.{Work, change, each, enter, extra_pages, from, give_all, group_end, group_first, own_need, reserve, resize, touched, write_file}
 use Rattle.rules.specs.State.{Entry, SetRecord, Tree, tree_of, unmapped}
@@ -75,10 +75,10 @@ is_write tree g s off first m es bs e d w =
     (λ i. change real tree s (sym e i) (sym e i) [] (sym d i) (overlay off bs) (λ i. max i (off + length bs)) w)
 
 -- LAW: the whole write by its rule
-pub wrote : {t p t' p' : List ℕ} {f : ℕ} {r : Totals} (g s off first m left : ℕ) (es bs : List ℕ) → touched off (length bs) ≡ from first m → extra_pages g off (length bs) ≡ es
-    → Changed t p t' p' f (begun left) r (change real (tree_of (unpack t).sets) s (from first m) (from first m) [] es (overlay off bs) (λ i. max i (off + length bs)))
+pub wrote : {t p t' p' : List ℕ} {f : ℕ} {r : Totals} (g s off first m : ℕ) (es bs : List ℕ) → touched off (length bs) ≡ from first m → extra_pages g off (length bs) ≡ es
+    → Changed t p t' p' f start_counts r (change real (tree_of (unpack t).sets) s (from first m) (from first m) [] es (overlay off bs) (λ i. max i (off + length bs)))
     → Changed t p t' p' f start_counts r (write_file real (tree_of (unpack t).sets) g s off bs)
-wrote {t} {p} {t'} {p'} {f} g s off first m left es bs e d c = record {
+wrote {t} {p} {t'} {p'} {f} g s off first m es bs e d c = record {
   pending = c.pending;
   same = c.same;
   does = c.does ∙ is_write (tree_of (unpack t).sets) g s off first m es bs e d (work (unpack t) (pages_of p) f (λ q. unmapped) start_counts);
@@ -97,8 +97,8 @@ extra_is g off (suc n) first m lo hi pos ef em el eh =
     rw (em', eh', el, ef)
 
 -- the own need, by the pages and the free blocks counted
-pub need_begin : (t : List ℕ) (f s off n first m left : ℕ) → touched off n ≡ from first m → left ≡ count (unpack t).blocks (λ b. not ((unpack t).bits b))
-    → own_need real s (touched off n) ((unpack t).files f) ≤ count (unpack t).blocks (λ b. not ((unpack t).bits b)) → own_need real s (from first m) ((unpack t).files f) ≤ left
-need_begin t f s off n first m left e el h =
-    subst (λ i. own_need real s (from first m) ((unpack t).files f) ≤ i) (sym el)
+pub need_begin : (t : List ℕ) (f s off n first m left : ℕ) (k : Counts) → touched off n ≡ from first m → k ≡ counts_new left → left ≡ count (unpack t).blocks (λ b. not ((unpack t).bits b))
+    → own_need real s (touched off n) ((unpack t).files f) ≤ count (unpack t).blocks (λ b. not ((unpack t).bits b)) → own_need real s (from first m) ((unpack t).files f) ≤ k.left
+need_begin t f s off n first m left k e ek el h =
+    subst (λ i. own_need real s (from first m) ((unpack t).files f) ≤ i) (sym (ap (λ (y : Counts). y.left) ek ∙ el))
     (subst (λ (ps : List ℕ). own_need real s ps ((unpack t).files f) ≤ count (unpack t).blocks (λ b. not ((unpack t).bits b))) e h)

@@ -42,13 +42,9 @@ fn write_pages(
     let b = giving::give_groups(t, p, f, s, lo, first, m, hi, a);
     entering::enter_all(t, p, pending, f, s, first, m, off, data, b);
     let z = files::size_at(&*t, f, s);
-    let n = pages::larger(z, off + data.len());
+    let n = z.max(off + data.len());
     dropping::resize(t, f, s, n);
-    Totals {
-        taken: b.taken,
-        copies: b.copies,
-        marks: b.marks,
-    }
+    Totals::from(b)
 }
 
 // "aligned groups" of so many pages: the first page of the group of a page.
@@ -64,11 +60,7 @@ fn group_end(group: usize, page: usize) -> usize
     requires { (0 < group) × (group ≤ 64) × (page < 64) }
     ensures { result ≡ Rules.group_end group page }
 {
-    let end = group_first(group, page) + group;
-    if 64 < end {
-        return 64;
-    }
-    end
+    (group_first(group, page) + group).min(64)
 }
 
 // WRITE: the bytes of data, one or more, from byte `off` of file f of set s on, by groups of so many pages.
@@ -90,11 +82,6 @@ pub fn write_file(
     let m = last - first + 1;
     let lo = group_first(group, first);
     let hi = group_end(group, last);
-    let k = Counts {
-        taken: 0,
-        copies: 0,
-        marks: 0,
-        left: left,
-    };
+    let k = Counts::new(left);
     write_pages(t, p, f, s, lo, first, m, hi, off, data, k)
 }

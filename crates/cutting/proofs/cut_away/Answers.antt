@@ -1,8 +1,6 @@
 -- `cutting::cut_away` meets its contract. Assumes nothing.
-use mathlib.Core.Path.{sym, ◌∙◌}
-use native.Mathlib.Omega.{arith}
 use Rattle.cutting.proofs.Cutting.{cut_away}
-use Rattle.changing.proofs.Whole.{both_ready, both_used, ready_in, settled_used}
+use Rattle.changing.proofs.Whole.{both_ready, both_used, ready_in, settled_used, told}
 use Rattle.cutting.proofs.cut_away.Goals as goal
 
 pub settle_children-requires : goal.settle_children-requires
@@ -18,23 +16,12 @@ give_all-b-requires c =
       both_used a.s c.requires.0 c.settle_set.ensures c.settle_children.ensures.1 c.requires.2,
     )
 
-pub overflow_add-first : goal.overflow_add-first
-overflow_add-first c =
-    omega (arith, c.requires.3)
-
 pub drop_pages-requires : goal.drop_pages-requires
 drop_pages-requires c =
     let re = c.give_all-b.ensures.ready in
     (re.packed, ready_in re, re.file, c.requires.1, c.requires.3)
 
-pub resize-requires : goal.resize-requires
-resize-requires c =
-    (c.drop_pages.ensures.packed, c.give_all-b.ensures.ready.file, c.requires.1, c.requires.4)
-
-pub shape_of-t : goal.shape_of-t
-shape_of-t c = c.resize.ensures.packed.len ∙ sym c.requires.0.packed.len
-
 pub returns : goal.returns
 returns c =
     let a = c.args in
-    cut_away a.s a.first a.m a.d a.n c.requires.0 c.settle_set.ensures c.settle_children.ensures.1 c.give_all-b.ensures c.drop_pages.ensures c.resize.ensures
+    told c.give_all-b.result c.from.ensures (cut_away a.s a.first a.m a.d a.n c.requires.0 c.settle_set.ensures c.settle_children.ensures.1 c.give_all-b.ensures c.drop_pages.ensures c.resize.ensures)

@@ -10,7 +10,7 @@ use Rattle.tables.specs.Meaning.{pending_meant}
 use Rattle.tables.specs.Views.{pending_of}
 use Rattle.cutting.proofs.Cutting.{cut_kept}
 use Rattle.entering.proofs.Pending.{pending_kept, reserves_ready}
-use Rattle.changing.proofs.Whole.{both_need, both_ready, both_used, ready_in, same_used, settled_used}
+use Rattle.changing.proofs.Whole.{both_need, both_ready, both_used, ready_in, same_used, settled_used, told}
 use Rattle.cutting.proofs.cut_kept.Goals as goal
 use Rattle.cutting.proofs.cut_kept.Goals.{After-enter_cut, After-give_all-b}
 
@@ -29,18 +29,6 @@ reserve_all-r-requires c =
       omega (arith, c.requires.3, c.requires.4),
       subst (λ (x : ℕ). x ≤ a.k.left) (sym (both_need a.s c.requires.0 c.settle_set.ensures c.settle_children.ensures.1 (from a.first 1))) c.requires.6,
     )
-
-pub bounds-pending-first : goal.bounds-pending-first
-bounds-pending-first c =
-    omega (arith, c.requires.3, c.requires.4)
-
-pub offset_bounds-pending-first : goal.offset_bounds-pending-first
-offset_bounds-pending-first c =
-    omega (arith, c.requires.3, c.requires.4)
-
-pub overflow_sub-m : goal.overflow_sub-m
-overflow_sub-m c =
-    omega (arith, c.requires.3)
 
 pub give_all-b-requires : goal.give_all-b-requires
 give_all-b-requires c =
@@ -67,14 +55,6 @@ enter_cut-requires c = (
   omega arith,
 )
 
-pub overflow_add-first : goal.overflow_add-first
-overflow_add-first c =
-    omega (arith, c.requires.4)
-
-pub overflow_sub-m-2 : goal.overflow_sub-m-2
-overflow_sub-m-2 c =
-    omega (arith, c.requires.3)
-
 -- the page enters
 entered : (c : After-enter_cut) → pending_of c.reserve_all-r.result.pending c.new.result.0 ≡ pending_meant (get_or c.reserve_all-r.result.pending c.args.first (record { 0 = 0 }))
 entered c =
@@ -89,12 +69,8 @@ pub resize-requires : goal.resize-requires
 resize-requires c =
     (c.drop_pages.ensures.packed, (c.enter_cut.ensures (pending_of c.reserve_all-r.result.pending) (entered (goal.at.resize-requires c).After-enter_cut)).ready.file, c.requires.1, c.requires.5)
 
-pub shape_of-t : goal.shape_of-t
-shape_of-t c =
-    c.resize.ensures.packed.len ∙ sym c.requires.0.packed.len
-
 pub returns : goal.returns
 returns c =
     let a = c.args in
-    cut_kept a.s a.first (a.m - 1) a.n c.new.result.0 (λ q. zero_from (a.n % 512)) refl c.new.ensures c.requires.0 c.settle_set.ensures
-    c.settle_children.ensures.1 c.reserve_all-r.ensures c.give_all-b.ensures (c.enter_cut.ensures (pending_of c.reserve_all-r.result.pending) (entered (goal.at.returns c).After-enter_cut)) c.drop_pages.ensures c.resize.ensures
+    told c.give_all-b.result c.from.ensures (cut_kept a.s a.first (a.m - 1) a.n c.new.result.0 (λ q. zero_from (a.n % 512)) refl c.new.ensures c.requires.0 c.settle_set.ensures
+    c.settle_children.ensures.1 c.reserve_all-r.ensures c.give_all-b.ensures (c.enter_cut.ensures (pending_of c.reserve_all-r.result.pending) (entered (goal.at.returns c).After-enter_cut)) c.drop_pages.ensures c.resize.ensures)

@@ -1,5 +1,4 @@
 -- `cutting::grow` meets its contract. Assumes nothing.
-use mathlib.Core.Path.{sym, ◌∙◌}
 use Rattle.cutting.proofs.Cutting.{grown}
 use Rattle.changing.proofs.Whole.{settled_used}
 use Rattle.cutting.proofs.grow.Goals as goal
@@ -7,13 +6,6 @@ use Rattle.cutting.proofs.grow.Goals as goal
 pub settle_children-requires : goal.settle_children-requires
 settle_children-requires c =
     (c.settle_set.ensures.packed, c.requires.1, c.requires.2, settled_used c.args.f c.args.s c.settle_set.ensures c.requires.3)
-
-pub resize-requires : goal.resize-requires
-resize-requires c =
-    (c.settle_children.ensures.0, c.requires.1, c.requires.2, c.requires.4)
-
-pub shape_of-t : goal.shape_of-t
-shape_of-t c = c.resize.ensures.packed.len ∙ sym c.requires.0.len
 
 pub returns : goal.returns
 returns c =

@@ -1,5 +1,4 @@
 -- `cutting::truncate_file` meets its contract. Assumes nothing.
-use mathlib.Core.Path.{refl, sym, ◌∙◌}
 use Prim.Native.Nat.{◌<◌}
 use native.Mathlib.Omega.{arith}
 use Rattle.tables.proofs.FormedStore.{formed_store}
@@ -23,11 +22,6 @@ grow-requires c =
     let a = c.args in
     (formed_packed a.t.now a.p.now c.requires.0, c.requires.1, c.requires.2, c.requires.3, omega (arith, c.requires.4))
 
-pub shape_of-t-then-z-n : goal.shape_of-t-then-z-n
-shape_of-t-then-z-n c =
-    let a = c.args in
-    (alone_begun a.t.now a.p.now c.requires.0 c.requires.1 c.grow.ensures).packed.len ∙ sym (formed_packed a.t.now a.p.now c.requires.0).len
-
 pub returns-then-z-n : goal.returns-then-z-n
 returns-then-z-n c =
     let a = c.args in
@@ -43,20 +37,15 @@ pub cut-requires : goal.cut-requires
 cut-requires c =
     let a = c.args in
     let l : a.n < c.size_of-z.result = omega (arith, c.if-n-z.false, c.if-z-n.false) in (
-      ready_begin a.t.now a.p.now c.requires.0 a.f (begun c.free_blocks-left.result) c.requires.1 refl refl refl c.free_blocks-left.ensures.0,
+      ready_begin a.t.now a.p.now c.requires.0 a.f c.free_blocks-left.result _ c.requires.1 c.new-k.ensures c.free_blocks-left.ensures.0,
       c.requires.2,
       c.requires.3,
       l,
       size_in_law a.t.now a.p.now c.requires.0 a.f a.s c.size_of-z.result c.size_of-z.ensures.0,
-      need_below a.t.now a.f a.s a.n c.size_of-z.result c.free_blocks-left.result c.size_of-z.ensures.0 l c.free_blocks-left.ensures.0 c.requires.5,
+      need_below a.t.now a.f a.s a.n c.size_of-z.result c.free_blocks-left.result _ c.new-k.ensures c.size_of-z.ensures.0 l c.free_blocks-left.ensures.0 c.requires.5,
     )
-
-pub shape_of-t : goal.shape_of-t
-shape_of-t c =
-    let a = c.args in
-    c.cut.ensures.packed.len ∙ sym (formed_packed a.t.now a.p.now c.requires.0).len
 
 pub returns : goal.returns
 returns c =
     let a = c.args in
-    truncate_below a.t.now a.p.now a.f a.s a.n c.size_of-z.result c.size_of-z.ensures.0 c.free_blocks-left.result c.if-n-z.false c.if-z-n.false c.cut.ensures
+    truncate_below a.t.now a.p.now a.f a.s a.n c.size_of-z.result c.size_of-z.ensures.0 c.if-n-z.false c.if-z-n.false (begun c.free_blocks-left.result c.new-k.ensures c.cut.ensures)

@@ -5,6 +5,7 @@ use Rattle.tables.specs.Meaning.{entry_meant}
 use Rattle.tables.specs.Calls.{pages_of}
 use Rattle.tables.specs.declared.entries.Entry.{Entry}
 use Rattle.entering.specs.Pending.{bytes_of}
+use Rattle.entering.proofs.Named.{either_zero}
 use Rattle.entering.proofs.prepare.Goals as goal
 
 pub copy_page-requires : goal.copy_page-requires
@@ -13,16 +14,9 @@ copy_page-requires c =
     (c.requires.1 _ (ap entry_meant c.in-Stored.is), c.requires.0)
 
 pub returns-in-Unmapped : goal.returns-in-Unmapped
-unfolding entry_meant bytes_of
 returns-in-Unmapped c =
     let a = c.args in
-    c.zero_page.ensures ∙ sym (ap (λ (x : Entry). upd (pages_of a.p.now) a.b.0 (bytes_of (pages_of a.p.now) (entry_meant x))) c.in-Unmapped.is)
-
-pub returns-in-Hole : goal.returns-in-Hole
-unfolding entry_meant bytes_of
-returns-in-Hole c =
-    let a = c.args in
-    c.zero_page-in-Hole.ensures ∙ sym (ap (λ (x : Entry). upd (pages_of a.p.now) a.b.0 (bytes_of (pages_of a.p.now) (entry_meant x))) c.in-Hole.is)
+    c.zero_page.ensures ∙ sym (ap (upd (pages_of a.p.now) a.b.0) (either_zero (pages_of a.p.now) a.e c.in-Unmapped.is))
 
 pub returns-in-Stored : goal.returns-in-Stored
 unfolding entry_meant bytes_of

@@ -1,12 +1,8 @@
 -- `writing::group_first` meets its contract. Assumes nothing.
 use mathlib.Core.Path.{◌≡◌}
 use Prim.Native.Nat.{max}
-use native.Mathlib.Nat.{div-mul-le_self}
 use native.Mathlib.Omega.{arith}
 use Rattle.writing.proofs.group_first.Goals as goal
-
-pub overflow_mul-result : goal.overflow_mul-result
-overflow_mul-result c = omega (arith, div-mul-le_self c.args.page c.args.group, c.requires.1)
 
 pub returns : goal.returns
 returns c = let e : max 1 c.args.group ≡ c.args.group = omega (arith, c.requires.0) in rw e

@@ -1,6 +1,6 @@
 -- `writing::write_file` meets its contract. Assumes nothing.
 use mathlib.Core.List.{◌++◌}
-use mathlib.Core.Path.{refl, sym, ◌∙◌}
+use mathlib.Core.Path.{refl}
 use Prim.Native.Nat.{◌+◌, ◌-◌, ◌/◌}
 use native.Mathlib.Omega.{arith}
 use lib.ListN.{length}
@@ -8,7 +8,8 @@ use Rattle.rules.proofs.Agreement.Agree.{touched_is}
 use Rattle.rules.proofs.Steps.Groups.{group_high, group_low}
 use Rattle.rules.specs.Rules.{from}
 use Rattle.tables.proofs.FormedStore.{formed_store}
-use Rattle.copying.proofs.Begin.{formed_packed, ready_begin}
+use Rattle.copying.proofs.Begin.{ready_begin}
+use Rattle.changing.proofs.Whole.{begun}
 use Rattle.writing.proofs.Writing.{extra_is, need_begin, wrote}
 use Rattle.writing.proofs.write_file.Goals as goal
 
@@ -18,24 +19,6 @@ free_blocks-left-requires c =
     let h = formed_store a.t.now a.p.now c.requires.2 in
     (h.packed.len, h.header.most, h.bits_past)
 
-pub overflow_add-last : goal.overflow_add-last
-overflow_add-last c = omega (arith, c.requires.7)
-
-pub overflow_sub-last : goal.overflow_sub-last
-overflow_sub-last c = omega (arith, c.requires.6)
-
-pub overflow_sub-m : goal.overflow_sub-m
-overflow_sub-m c = omega (arith, c.requires.6)
-
-pub overflow_add-m : goal.overflow_add-m
-overflow_add-m c = omega (arith, c.requires.7)
-
-pub group_first-lo-requires : goal.group_first-lo-requires
-group_first-lo-requires c = (c.requires.0, omega (arith, c.requires.6, c.requires.7))
-
-pub group_end-hi-requires : goal.group_end-hi-requires
-group_end-hi-requires c = (c.requires.0, c.requires.1, omega (arith, c.requires.6, c.requires.7))
-
 pub write_pages-requires : goal.write_pages-requires
 write_pages-requires c =
     let a = c.args in
@@ -43,20 +26,15 @@ write_pages-requires c =
     let first = a.off / 512 in
     let last = (a.off + n - 1) / 512 in
     let m = last - first + 1 in (
-      ready_begin a.t.now a.p.now c.requires.2 a.f _ c.requires.3 refl refl refl c.free_blocks-left.ensures.0,
+      ready_begin a.t.now a.p.now c.requires.2 a.f c.free_blocks-left.result _ c.requires.3 c.new-k.ensures c.free_blocks-left.ensures.0,
       c.requires.4,
       c.requires.5,
       omega (arith, c.group_first-lo.ensures, group_low a.group first),
       omega (arith, c.group_end-hi.ensures, group_high a.group last, c.requires.6, c.requires.7),
       omega (arith, c.group_end-hi.ensures),
       c.requires.7,
-      need_begin a.t.now a.f a.s a.off n first m c.free_blocks-left.result (touched_is a.off n first m c.requires.6 refl refl) c.free_blocks-left.ensures.0 c.requires.8,
+      need_begin a.t.now a.f a.s a.off n first m c.free_blocks-left.result _ (touched_is a.off n first m c.requires.6 refl refl) c.new-k.ensures c.free_blocks-left.ensures.0 c.requires.8,
     )
-
-pub shape_of-t : goal.shape_of-t
-shape_of-t c =
-    let a = c.args in
-    c.write_pages.ensures.packed.len ∙ sym (formed_packed a.t.now a.p.now c.requires.2).len
 
 pub returns : goal.returns
 returns c =
@@ -66,6 +44,6 @@ returns c =
     let m = (a.off + n - 1) / 512 - first + 1 in
     let lo = c.group_first-lo.result in
     let hi = c.group_end-hi.result in
-    wrote a.group a.s a.off first m c.free_blocks-left.result (from lo (first - lo) ++ from (first + m) (hi - (first + m))) a.«data».now
+    wrote a.group a.s a.off first m (from lo (first - lo) ++ from (first + m) (hi - (first + m))) a.«data».now
     (touched_is a.off n first m c.requires.6 refl refl)
-    (extra_is a.group a.off n first m lo hi c.requires.6 refl (omega (arith, c.requires.6)) c.group_first-lo.ensures c.group_end-hi.ensures) c.write_pages.ensures
+    (extra_is a.group a.off n first m lo hi c.requires.6 refl (omega (arith, c.requires.6)) c.group_first-lo.ensures c.group_end-hi.ensures) (begun c.free_blocks-left.result c.new-k.ensures c.write_pages.ensures)

@@ -1,13 +1,13 @@
 -- `writing::write_pages` meets its contract. Assumes nothing.
 use mathlib.Core.List.{◌++◌}
-use mathlib.Core.Path.{refl, subst, sym, ◌∙◌}
+use mathlib.Core.Path.{refl, subst, sym}
 use Prim.Native.Nat.{◌+◌, ◌-◌, ◌≤◌, ℕ}
 use native.Mathlib.Omega.{arith}
 use lib.ListN.{length}
 use Rattle.rules.specs.Rules.{from}
 use Rattle.rules.specs.Storage.{overlay}
 use Rattle.entering.proofs.Pending.{pending_kept, reserves_ready}
-use Rattle.changing.proofs.Whole.{both_need, both_ready, both_used, same_used, settled_used}
+use Rattle.changing.proofs.Whole.{both_need, both_ready, both_used, same_used, settled_used, told}
 use Rattle.writing.proofs.Writing.{written}
 use Rattle.writing.proofs.write_pages.Goals as goal
 
@@ -43,24 +43,8 @@ pub enter_all-requires : goal.enter_all-requires
 enter_all-requires c =
     (c.give_groups-b.ensures.ready, pending_kept c.reserve_all-r.ensures c.give_groups-b.ensures, c.requires.1, omega (arith, c.requires.4, c.requires.5), c.requires.6)
 
-pub size_at-z-requires : goal.size_at-z-requires
-size_at-z-requires c =
-    (c.enter_all.ensures.ready.packed.len, c.enter_all.ensures.ready.file, c.requires.1)
-
-pub overflow_add-off : goal.overflow_add-off
-overflow_add-off c =
-    omega (arith, c.requires.6)
-
-pub resize-requires : goal.resize-requires
-resize-requires c =
-    (c.enter_all.ensures.ready.packed, c.enter_all.ensures.ready.file, c.requires.1, omega (arith, c.larger-n.ensures, c.size_at-z.ensures.1, c.requires.6))
-
-pub shape_of-t : goal.shape_of-t
-shape_of-t c =
-    c.resize.ensures.packed.len ∙ sym c.requires.0.packed.len
-
 pub returns : goal.returns
 returns c =
     let a = c.args in
-    written a.s a.first a.m (from a.lo (a.first - a.lo) ++ from (a.first + a.m) (a.hi - (a.first + a.m))) (overlay a.off a.«data».now) (a.off + length a.«data».now) c.size_at-z.result c.larger-n.result refl c.larger-n.ensures
-    c.requires.0 c.settle_set.ensures c.settle_children.ensures.1 c.reserve_all-r.ensures c.give_groups-b.ensures c.enter_all.ensures c.size_at-z.ensures.0 c.resize.ensures
+    told c.give_groups-b.result c.from.ensures (written a.s a.first a.m (from a.lo (a.first - a.lo) ++ from (a.first + a.m) (a.hi - (a.first + a.m))) (overlay a.off a.«data».now) (a.off + length a.«data».now) c.size_at-z.result c.max-n.result refl c.max-n.ensures
+    c.requires.0 c.settle_set.ensures c.settle_children.ensures.1 c.reserve_all-r.ensures c.give_groups-b.ensures c.enter_all.ensures c.size_at-z.ensures.0 c.resize.ensures)

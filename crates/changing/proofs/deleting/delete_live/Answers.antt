@@ -1,12 +1,8 @@
 -- `changing::deleting::delete_live` meets its contract. Assumes nothing.
-use mathlib.Core.Path.{sym, ◌∙◌}
 use native.Mathlib.Omega.{arith}
 use Rattle.copying.proofs.Steps.{step_used}
-use Rattle.changing.proofs.Whole.{deleted, ready_in}
+use Rattle.changing.proofs.Whole.{deleted, ready_in, told}
 use Rattle.changing.proofs.deleting.delete_live.Goals as goal
-
-pub settle_children-requires : goal.settle_children-requires
-settle_children-requires c = (c.requires.0.packed, c.requires.0.file, c.requires.1, c.requires.2)
 
 pub give_all-a-requires : goal.give_all-a-requires
 give_all-a-requires c =
@@ -17,11 +13,7 @@ pub erase_file-requires : goal.erase_file-requires
 erase_file-requires c =
     (c.give_all-a.ensures.ready.packed, ready_in c.give_all-a.ensures.ready, c.give_all-a.ensures.ready.file, c.requires.1)
 
-pub shape_of-t : goal.shape_of-t
-shape_of-t c =
-    c.erase_file.ensures.packed.len ∙ sym c.requires.0.packed.len
-
 pub returns : goal.returns
 returns c =
     let a = c.args in
-    deleted a.s c.requires.0 c.settle_children.ensures.1 c.give_all-a.ensures c.erase_file.ensures
+    told c.give_all-a.result c.from.ensures (deleted a.s c.requires.0 c.settle_children.ensures.1 c.give_all-a.ensures c.erase_file.ensures)

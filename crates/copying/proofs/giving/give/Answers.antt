@@ -1,7 +1,6 @@
 -- `copying::giving::give` meets its contract. Assumes nothing.
 use mathlib.Core.Bool.{true}
 use mathlib.Core.Path.{◌≡◌, sym, ◌∙◌}
-use borrow.Author.Tests.{not-false, not-true}
 use Rattle.rules.specs.Reading as Reading
 use Rattle.tables.specs.Meaning.{entry_meant}
 use Rattle.tables.specs.Packed.{unpack}
@@ -12,11 +11,11 @@ use Rattle.copying.proofs.giving.give.Goals.{Else-not-needs}
 pub returns-then-not-needs : goal.returns-then-not-needs
 returns-then-not-needs c =
     let a = c.args in
-    give_not a.must (entry_meant a.e) a.page.0 a.c c.requires.0 (sym c.needs.ensures ∙ not-true c.needs.result c.if-not-needs.true-raw)
+    give_not a.must (entry_meant a.e) a.page.0 a.c c.requires.0 (sym c.needs.ensures ∙ c.if-not-needs.true)
 
 -- the child needs the page
 needed : (c : Else-not-needs) → let a = c.args in Reading.needs ((unpack a.t.now).files a.f) a.c a.page.0 ≡ true
-needed c = sym c.needs.ensures ∙ not-false c.needs.result c.if-not-needs.false-raw
+needed c = sym c.needs.ensures ∙ c.if-not-needs.false
 
 pub supply-requires : goal.supply-requires
 supply-requires c =

@@ -23,7 +23,7 @@ pub give_pages-a-requires : goal.give_pages-a-requires
 give_pages-a-requires c =
     let e = c.resolve_range-r.ensures in
     let ch = first-child (goal.at.give_pages-a-requires c).After-first_child_of-child in
-    (c.requires.0, c.requires.1, omega (arith, c.requires.2), ch, e.len, λ x lo hi. e.found x lo (omega (arith, hi)))
+    (c.requires.0, c.requires.1, omega (arith, c.requires.2), ch, λ x lo hi. e.found x lo (omega (arith, hi)))
 
 pub give_pages-requires : goal.give_pages-requires
 give_pages-requires c =
@@ -34,7 +34,6 @@ give_pages-requires c =
       c.requires.1,
       c.requires.2,
       step_first a.s _ x (first-child (goal.at.give_pages-requires c).After-first_child_of-child),
-      e.len,
       kept_apart c.resolve_range-r.result.kept copied a.s a.first a.m (a.first + a.m) a.d (inr (omega arith)) c.requires.0
           (λ y lo hi. e.found y (omega (arith, lo)) (omega (arith, hi))) x,
     )

@@ -1,5 +1,4 @@
 -- `copying::giving::give_block` meets its contract. Assumes nothing.
-use borrow.Author.Tests.{not-false, not-true}
 use Rattle.copying.proofs.Given.{supply_copy, supply_leave, supply_mark}
 use Rattle.copying.proofs.Marks.{all_blocks, marked_countable, marked_step}
 use Rattle.copying.proofs.giving.give_block.Goals as goal
@@ -7,7 +6,7 @@ use Rattle.copying.proofs.giving.give_block.Goals as goal
 pub returns-then-not-must : goal.returns-then-not-must
 returns-then-not-must c =
     let a = c.args in
-    supply_leave a.c a.page.0 a.b.0 c.requires.0 a.must (not-true a.must c.if-not-must.true-raw) c.if-k-eq0.true
+    supply_leave a.c a.page.0 a.b.0 c.requires.0 a.must c.if-not-must.true c.if-k-eq0.true
 
 pub mark_down-n-requires : goal.mark_down-n-requires
 mark_down-n-requires c =
@@ -21,7 +20,7 @@ free_blocks-requires c =
 pub returns-then-k-eq0 : goal.returns-then-k-eq0
 returns-then-k-eq0 c =
     let a = c.args in
-    supply_mark a.c a.page.0 a.b.0 c.requires.0 a.must (not-false a.must c.if-not-must.false-raw) c.if-k-eq0.true
+    supply_mark a.c a.page.0 a.b.0 c.requires.0 a.must c.if-not-must.false c.if-k-eq0.true
     (marked_step a.c c.requires.0 c.mark_down-n.ensures.0 c.mark_down-n.result c.free_blocks.result c.requires.1 c.requires.4 c.mark_down-n.ensures.1 c.free_blocks.ensures)
 
 pub returns : goal.returns

@@ -22,7 +22,7 @@ returns-then-child-gt7 c =
 pub give_pages-a-requires : goal.give_pages-a-requires
 give_pages-a-requires c =
     let e = c.resolve_range-r.ensures in
-    (c.requires.0, c.requires.1, omega (arith, c.requires.3, c.requires.4), first-child (goal.at.give_pages-a-requires c).After-first_child_of-child, e.len, λ x l h. e.found x (omega (arith, l, c.requires.2)) (omega (arith, h, c.requires.2, c.requires.3)))
+    (c.requires.0, c.requires.1, omega (arith, c.requires.3, c.requires.4), first-child (goal.at.give_pages-a-requires c).After-first_child_of-child, λ x l h. e.found x (omega (arith, l, c.requires.2)) (omega (arith, h, c.requires.2, c.requires.3)))
 
 pub give_pages-b-requires : goal.give_pages-b-requires
 give_pages-b-requires c =
@@ -33,7 +33,6 @@ give_pages-b-requires c =
       c.requires.1,
       omega (arith, c.requires.2, c.requires.3, c.requires.4),
       step_first a.s _ x (first-child (goal.at.give_pages-b-requires c).After-first_child_of-child),
-      e.len,
       kept_apart c.resolve_range-r.result.kept copied a.s a.first a.m a.lo (a.first - a.lo) (inl (omega (arith, c.requires.2))) c.requires.0
           (λ y l h. e.found y l (omega (arith, h, c.requires.2, c.requires.3))) x,
     )
@@ -51,18 +50,8 @@ give_pages-requires c =
       c.requires.1,
       omega (arith, c.requires.3, c.requires.4),
       step_first a.s _ y (step_first a.s _ x (first-child (goal.at.give_pages-requires c).After-first_child_of-child)),
-      e.len,
       kept_apart kept extra a.s a.lo (a.first - a.lo) (a.first + a.m) (a.hi - (a.first + a.m)) (inr (omega (arith, c.requires.2))) x.ready behind y,
     )
-
-pub overflow_add-first : goal.overflow_add-first
-overflow_add-first c = omega (arith, c.requires.3, c.requires.4)
-
-pub overflow_add-first-2 : goal.overflow_add-first-2
-overflow_add-first-2 c = omega (arith, c.requires.3, c.requires.4)
-
-pub overflow_sub-hi-2 : goal.overflow_sub-hi-2
-overflow_sub-hi-2 c = omega (arith, c.requires.3)
 
 pub returns : goal.returns
 returns c =

@@ -16,7 +16,7 @@ hand_over-requires c =
     let re = c.give_chain-w.ensures.ready in
     let left = map_left _ a.s a.page.0 a.child (entry_meant a.e) c.is_handed-over.result c.in_turn-r.result c.requires.0 c.requires.3 c.requires.4 c.in_turn-r.ensures c.give_chain-w.ensures a.page.0 in
     let own = heir_own a.t.now a.f a.s a.page.0 a.child (entry_meant a.e) c.is_handed-over.result (handed_by a.how) c.in_turn-r.result c.is_handed-over.ensures c.in_turn-r.ensures c.requires.4 in
-    (re.packed, re.file, c.requires.1, c.requires.2, (λ l. own l ∙ sym left), shown_below a.s a.page.0 c.requires.0 c.requires.4)
+    (re.packed, re.file, c.requires.1, c.requires.2, (λ d i. ((own d i).0, (own d i).1 ∙ sym left)), shown_below a.s a.page.0 c.requires.0 c.requires.4)
 
 pub returns : goal.returns
 returns c =

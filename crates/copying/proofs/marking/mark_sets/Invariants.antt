@@ -10,8 +10,9 @@ use Rattle.copying.specs.Changes.{MarkedBy}
 use Rattle.copying.proofs.marking.mark_sets.Given as goal
 
 abbrev pub invariant-loop-s : goal.invariant-loop-s
-invariant-loop-s l =
-    (l.s ≤ 8) × (l.n ≤ l.s) × PackedTables l.t × ((x : ℕ) → BlocksIn l.f x (unpack l.t)) × ((g : ℕ → Bool) → l.mask ≡ packs g 0 8 → (l.m ≡ packs g l.s (8 - l.s)) × MarkedBy l.initial.t l.t l.f g l.s l.n)
-
-abbrev pub decreases-loop-s : goal.decreases-loop-s
-decreases-loop-s l = 8 - l.s
+invariant-loop-s l = record {
+  few : l.n ≤ l.s;
+  packed : PackedTables l.t;
+  blocks_in : (x : ℕ) → BlocksIn l.f x (unpack l.t);
+  by : (g : ℕ → Bool) → l.mask ≡ packs g 0 8 → (l.m ≡ packs g l.s (8 - l.s)) × MarkedBy l.initial.t l.t l.f g l.s l.n;
+}

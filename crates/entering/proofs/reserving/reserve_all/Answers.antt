@@ -1,6 +1,7 @@
--- `entering::reserving::reserve_all` meets its contract. The loop's invariant: reserving the m pages is what is done and then reserving the n pages from q on, for which blocks are free. Assumes nothing.
+-- `entering::reserving::reserve_all` meets its contract. The loop's invariant: reserving the m pages is what is done and then reserving those from q on, for which blocks are free. Assumes nothing.
 use mathlib.Core.List.{List}
-use mathlib.Core.Path.{refl, subst, sym, ◌∙◌}
+use mathlib.Core.Path.{◌≡◌, refl, subst, sym, ◌∙◌}
+use Prim.Native.Nat.{◌+◌, ◌-◌}
 use native.Mathlib.Omega.{arith}
 use lib.ListN.{length-set}
 use Rattle.tables.proofs.Pending.{pending_set}
@@ -11,36 +12,28 @@ use Rattle.copying.proofs.Chains.{up_pages}
 use Rattle.entering.proofs.Pending.{Reserving, none_in, reserving, reserving_done, reserving_some, reserving_start, reserving_turn}
 use Rattle.entering.proofs.reserving.reserve_all.Goals as goal
 
-pub loop-n-init : goal.loop-n-init
-loop-n-init c =
-    let a = c.args in (
-      c.requires.4,
-      subst (λ (x : List Pending). Reserving a.t.now a.t.now none_pending x a.f a.s a.first a.m a.k a.k (up_pages (reserving a.s) (unpack a.t.now).sets a.first a.m))
-          (sym c.none_pending-pending.ensures)
-          (reserving_start a.f a.s a.first a.m c.requires.0 c.requires.1 (none_in none_pending _ refl) c.requires.5),
-    )
+pub loop-q-init : goal.loop-q-init
+loop-q-init c =
+    let a = c.args in
+    let e : a.first + a.m - a.first ≡ a.m = omega arith in
+    rw e (subst (λ (x : List Pending). Reserving a.t.now a.t.now none_pending x a.f a.s a.first a.m a.k a.k (up_pages (reserving a.s) (unpack a.t.now).sets a.first a.m))
+    (sym c.none_pending-pending.ensures)
+    (reserving_start a.f a.s a.first a.m c.requires.0 c.requires.1 (none_in none_pending _ refl) c.requires.5))
 
 pub reserve-own-requires : goal.reserve-own-requires
 reserve-own-requires c =
-    let g = c.loop-n.invariant.1 in
-    (g.packed, g.sound, c.requires.2, c.requires.3, omega (arith, c.new.ensures), reserving_some _ g (omega arith) c.new.ensures)
+    let a = c.args in
+    let g = c.loop-q.invariant in
+    (g.packed, g.sound, c.requires.2, c.requires.3, omega (arith, c.new.ensures), reserving_some (a.first + a.m - (c.loop-q.q + 1)) _ g (omega arith) c.new.ensures)
 
-pub of-requires : goal.of-requires
-of-requires c =
-    omega (arith, c.reserve-own.ensures.below, c.loop-n.invariant.1.sound.header.most)
-
-pub loop-n-preserved : goal.loop-n-preserved
-loop-n-preserved c =
+pub loop-q-preserved : goal.loop-q-preserved
+loop-q-preserved c =
+    let a = c.args in
     let o = c.of in
-    let l = c.loop-n in
-    let len = l.invariant.1.pending.len in (
-      omega arith,
-      reserving_turn _ _ l.invariant.1 (omega arith) c.new.ensures c.reserve-own.ensures
-          (pending_set l.pending l.q o.result _ (omega (arith, len)) o.ensures) (length-set l.pending l.q o.result ∙ len),
-    )
-
-pub shape_of-t : goal.shape_of-t
-shape_of-t c = c.loop-n.invariant.1.packed.len ∙ sym c.requires.0.len
+    let l = c.loop-q in
+    let len = l.invariant.pending.len in
+    reserving_turn (a.first + a.m - (l.q + 1)) _ _ l.invariant (omega arith) c.new.ensures c.reserve-own.ensures
+    (pending_set l.pending l.q o.result _ (omega (arith, len)) o.ensures) (length-set l.pending l.q o.result ∙ len)
 
 pub returns : goal.returns
-returns c = reserving_done c.loop-n.invariant.1 (omega arith)
+returns c = reserving_done c.loop-q.invariant (omega arith)
