@@ -1,12 +1,21 @@
 -- A call on bytes by its three cases: tables not well formed, refused, accepted. Assumes nothing.
-use mathlib.Core.Bool.{Bool, false, not, true, true≢false}
+use mathlib.Core.Bool.{Bool, false, true, true≢false}
 use mathlib.Core.List.{List}
 use mathlib.Core.Path.{ap, refl, sym, ◌∙◌, ◌≡◌}
 use Prim.Native.Nat.{suc, zero, ℕ}
 use lib.ListN.{length}
-use Rattle.calls.specs.Outcomes.{answer_meant, outcome}
+use Rattle.std.specs.Prelude.{Err, Result}
+use Rattle.std.specs.Result.{IsErrAnd}
+use Rattle.std.proofs.lemmas.Result.{err_from_is_err_and}
+use Rattle.calls.specs.Answered.{answered}
+use Rattle.calls.specs.Outcomes.{outcome}
+use Rattle.calls.specs.declared.answer.Counts.{Counts}
+use Rattle.numbers.proofs.Told.{above_0}
+use Rattle.numbers.specs.Refusals.{number}
+use Rattle.numbers.specs.declared.refusal.Refusal.{Refusal}
+use Rattle.numbers.specs.declared.refusal.Refusal.TheVariants.{NotWellFormed}
 use Rattle.rules.specs.Calls.{Store, view_of}
-use Rattle.rules.specs.Numbers.{Answer, Call, View, conditions, create, delete, format, look_of, lowest, make, number_of, read, refusal, remove, tell_free, tell_size, truncate, write}
+use Rattle.rules.specs.Numbers.{Call, View, conditions, create, delete, format, look_of, lowest, make, number_of, read, refusal, remove, tell_free, tell_size, truncate, write}
 use Rattle.rules.specs.Storage.{real}
 use Rattle.tables.specs.Calls.{accepted_on, buffer_in, call_on, looked_at, outcome_of, store_of, view_on}
 use Rattle.tables.specs.Packed.{well_formed}
@@ -79,23 +88,20 @@ module _ (t p : List ℕ) (c : Call) (o : on_store c ≡ true) where
     unfolding outcome_of
     call_accepted e = call_number ∙ ap (λ x. outcome_of x c t p) (sym e)
 
--- the outcome after a refusal; b is what the check of the tables gave
-module _ (r : declared.Answer) (t p : List ℕ) (c : Call) (o : on_store c ≡ true) where
-  pub unformed_as : (b : Bool) → answer_meant r ≡ refusal 1 → b ≡ well_formed t (length p) → not b ≡ true → outcome r t p (buffer_in (look_of c)) ≡ call_on c t p
-  unformed_as true a h n = absurd (true≢false (sym n))
-  unformed_as false a h n = ap (λ (x : Answer). looked_at x t p (buffer_in (look_of c))) a ∙ sym (call_unformed t p c o (sym h))
+-- what `?` answers of a refusal
+pub passed : (q : Result Counts Refusal) (e : Refusal) → IsErrAnd q (λ x. x ≡ e) → answered q ≡ answered (Err e)
+passed q e h = let x = err_from_is_err_and q h in ap answered x.1 ∙ ap (λ (r : Refusal). answered (Err r)) x.2
 
-  pub refused_as : (n : ℕ) → well_formed t (length p) ≡ true → answer_meant r ≡ refusal n → n ≡ number_in t p c → (n ≡ 0 → ⊥) → outcome r t p (buffer_in (look_of c)) ≡ call_on c t p
-  refused_as n formed a e k = ap (λ (x : Answer). looked_at x t p (buffer_in (look_of c))) a ∙ sym (call_refused t p c o formed n e k)
+-- the outcome after a refusal
+module _ (q : Result Counts Refusal) (e : Refusal) (h : IsErrAnd q (λ x. x ≡ e)) (t p : List ℕ) (c : Call) (o : on_store c ≡ true) where
+  pub unformed_as : (well_formed t (length p) ≡ false) × (e ≡ NotWellFormed) → outcome (answered q) t p (buffer_in (look_of c)) ≡ call_on c t p
+  unformed_as k =
+      ap (λ (r : declared.Answer). outcome r t p (buffer_in (look_of c))) (passed q e h ∙ ap (λ (r : Refusal). answered (Err r)) k.1) ∙ sym (call_unformed t p c o k.0)
 
-pub is_formed : (b : Bool) (t : List ℕ) (n : ℕ) → b ≡ well_formed t n → not b ≡ false → well_formed t n ≡ true
-is_formed true t n h k = sym h
-is_formed false t n h k = absurd (true≢false k)
+  pub refused_as : well_formed t (length p) ≡ true → number e ≡ number_in t p c → outcome (answered q) t p (buffer_in (look_of c)) ≡ call_on c t p
+  refused_as formed n =
+      ap (λ (r : declared.Answer). outcome r t p (buffer_in (look_of c))) (passed q e h) ∙ sym (call_refused t p c o formed (number e) n (above_0 e))
 
 -- the number of the call, of a store that is well formed
 pub number_on : (t p : List ℕ) (c : Call) → on_store c ≡ true → well_formed t (length p) ≡ true → 0 ≡ number_in t p c → number_of (view_on t p) c ≡ 0
 number_on t p c o formed e = formed_number (well_formed t (length p)) _ (store_of t p) c o formed ∙ sym e
-
--- a number that is 0
-pub zero_is : {n x : ℕ} → n ≡ x → n ≡ 0 → 0 ≡ x
-zero_is e z = sym z ∙ e

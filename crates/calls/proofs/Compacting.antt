@@ -1,11 +1,17 @@
 -- Compaction on bytes, by its three cases. Assumes nothing.
-use mathlib.Core.Bool.{Bool, not, true}
+use mathlib.Core.Bool.{false, true}
 use mathlib.Core.List.{List}
 use mathlib.Core.Path.{ap, refl, sym, ◌∙◌, ◌≡◌}
 use Prim.Native.Nat.{◌*◌, ℕ}
 use lib.ListN.{length}
-use borrow.Author.Tests.{not-true}
+use Rattle.std.specs.Prelude.{Err, Result}
+use Rattle.std.specs.Result.{IsErrAnd}
+use Rattle.calls.proofs.CallCases.{passed}
+use Rattle.calls.specs.Answered.{answered}
 use Rattle.calls.specs.Outcomes.{answer_meant, outcome}
+use Rattle.calls.specs.declared.answer.Counts.{Counts}
+use Rattle.numbers.specs.declared.refusal.Refusal.{Refusal}
+use Rattle.numbers.specs.declared.refusal.Refusal.TheVariants.{NotWellFormed}
 use Rattle.compacting.specs.Exchange.{Lent, StoredHeld, may_hold}
 use Rattle.compacting.specs.Gathering.{Compacted}
 use Rattle.compaction.proofs.Cases.{compact_accepted, compact_spare, compact_unformed}
@@ -25,12 +31,14 @@ use Rattle.tables.specs.Packed.{unpack, well_formed}
 use Rattle.calls.specs.declared.answer.Answer as declared
 
 -- REFUSED: "any refusal leaves the spare page too"
-module _ (r : declared.Answer) (t p spare : List ℕ) (free : Free) where
-  pub compact_unformed_as : (b : Bool) → answer_meant r ≡ refusal 1 → b ≡ well_formed t (length p) → not b ≡ true → outcome r t p spare ≡ compact_on spare free t p
-  compact_unformed_as b a e h = ap (λ (x : Answer). looked_at x t p spare) a ∙ sym (compact_unformed spare free t p (sym e ∙ not-true b h))
+pub compact_unformed_as : (q : Result Counts Refusal) (x : Refusal) → IsErrAnd q (λ v. v ≡ x) → (t p spare : List ℕ) (free : Free) → (well_formed t (length p) ≡ false) × (x ≡ NotWellFormed)
+    → outcome (answered q) t p spare ≡ compact_on spare free t p
+compact_unformed_as q x h t p spare free w =
+    ap (λ (r : declared.Answer). outcome r t p spare) (passed q x h ∙ ap (λ (v : Refusal). answered (Err v)) w.1) ∙ sym (compact_unformed spare free t p w.0)
 
-  pub compact_spare_as : answer_meant r ≡ refusal 16 → well_formed t (length p) ≡ true → (length spare ≡ 512 → ⊥) → outcome r t p spare ≡ compact_on spare free t p
-  compact_spare_as a h n = ap (λ (x : Answer). looked_at x t p spare) a ∙ sym (compact_spare spare free t p h n)
+pub compact_spare_as : (r : declared.Answer) (t p spare : List ℕ) (free : Free) → answer_meant r ≡ refusal 16 → well_formed t (length p) ≡ true → (length spare ≡ 512 → ⊥)
+    → outcome r t p spare ≡ compact_on spare free t p
+compact_spare_as r t p spare free a h n = ap (λ (x : Answer). looked_at x t p spare) a ∙ sym (compact_spare spare free t p h n)
 
 -- what the code asks for: absent and virgin files have no stored entry
 stored_held : (t p : List ℕ) → well_formed t (length p) ≡ true → StoredHeld t

@@ -1,12 +1,10 @@
 -- Format on bytes, case by case. Assumes nothing.
 use mathlib.Core.Bool.{Bool, cond, false, not, true, true≢false}
 use mathlib.Core.List.{List, []}
-use mathlib.Core.Path.{ap, refl, sym, ◌∙◌, ◌≡◌}
-use Prim.Native.Nat.{◌%◌, ◌*◌, ◌/◌, ◌<◌, ℕ, ◌≤◌}
+use mathlib.Core.Path.{ap, sym, ◌∙◌, ◌≡◌}
+use Prim.Native.Nat.{◌*◌, ◌/◌, ℕ, ◌≤◌}
 use native.Mathlib.Omega.{arith}
-use lib.Dec.{leb}
 use lib.ListN.{length}
-use borrow.Author.Tests.{eq-eqb, le-leb, lt-leb, ne_eqb}
 use Rattle.base.specs.Tabulate.{tab_of}
 use Rattle.calls.specs.Outcomes.{answer_meant, outcome}
 use Rattle.pages.specs.Run.{length_zeroed, zeroed, zeroed_in}
@@ -31,23 +29,6 @@ zero_pages p n h =
     tab_of 0 (n * 512) (λ i. 0) (zeroed p 0 (length p)) (length_zeroed p 0 (length p) ∙ h)
     (λ i k. zeroed_in p 0 (length p) i (omega arith) (omega (arith, h)) (omega arith))
 
--- LAWS: the test of the lengths, one after another
-pub lengths_tables : (n m : ℕ) → (n ≡ table_bytes → ⊥) → false ≡ format_lengths n m
-unfolding format_lengths
-lengths_tables n m h = rw (ne_eqb n table_bytes h)
-
-pub lengths_part : (n m : ℕ) → n ≡ table_bytes → (m % 512 ≡ 0 → ⊥) → false ≡ format_lengths n m
-unfolding format_lengths
-lengths_part n m a h = rw (eq-eqb n table_bytes a) (rw (ne_eqb (m % 512) 0 h) refl)
-
-pub lengths_few : (n m : ℕ) → n ≡ table_bytes → m % 512 ≡ 0 → m < 512 → false ≡ format_lengths n m
-unfolding format_lengths
-lengths_few n m a b h = rw (eq-eqb n table_bytes a) (rw (eq-eqb (m % 512) 0 b) (rw (lt-leb 512 m h) refl))
-
-pub lengths_most : (n m : ℕ) → n ≡ table_bytes → m % 512 ≡ 0 → 512 ≤ m → leb m 2097152 ≡ format_lengths n m
-unfolding format_lengths
-lengths_most n m a b h = rw (eq-eqb n table_bytes a) (rw (eq-eqb (m % 512) 0 b) (rw (le-leb 512 m h) refl))
-
 -- an accepted format
 format_accepted : (t p t' : List ℕ) → format_lengths (length t) (length p) ≡ true
     → t' ≡ pack (tables_of (formatted real (blank_memory (length p / 512))))
@@ -59,17 +40,17 @@ format_accepted t p t' h e =
     ∙ (λ i. looked_at no_counts (sym e i) (zero_pages p (length p / 512) w i) [])
 
 -- LAWS for the call: after a refusal, and after the tables and the pages are written; b is what the test of the lengths gave
-pub refused_as : (r : declared.Answer) (t p : List ℕ) (b : Bool) → answer_meant r ≡ refusal 1 → b ≡ format_lengths (length t) (length p) → not b ≡ true
+pub refused_as : (r : declared.Answer) (t p : List ℕ) (b : Bool) → answer_meant r ≡ refusal 1 → b ≡ format_lengths (length t) (length p) → b ≡ false
     → outcome r t p [] ≡ call_on format t p
-refused_as r t p true a h n = absurd (true≢false (sym n))
+refused_as r t p true a h n = absurd (true≢false n)
 refused_as r t p false a h n = ap (λ (x : Answer). looked_at x t p []) a ∙ sym (format_refused t p (sym h))
 
 -- the tables and the pages can be written
-pub format_fits : (n m : ℕ) (b : Bool) → b ≡ format_lengths n m → not b ≡ false → (n ≡ table_bytes) × (m / 512 ≤ 4096)
+pub format_fits : (n m : ℕ) (b : Bool) → b ≡ format_lengths n m → b ≡ true → (n ≡ table_bytes) × (m / 512 ≤ 4096)
 format_fits n m true h k = let l = lengths_in n m (sym h) in (l.0, l.3)
-format_fits n m false h k = absurd (true≢false k)
+format_fits n m false h k = absurd (true≢false (sym k))
 
-pub accepted_as : (r : declared.Answer) (t p t' p' : List ℕ) (b : Bool) → answer_meant r ≡ refusal 0 → b ≡ format_lengths (length t) (length p) → not b ≡ false
+pub accepted_as : (r : declared.Answer) (t p t' p' : List ℕ) (b : Bool) → answer_meant r ≡ refusal 0 → b ≡ format_lengths (length t) (length p) → b ≡ true
     → t' ≡ pack (tables_of (formatted real (blank_memory (length p / 512)))) → p' ≡ zeroed p 0 (length p) → outcome r t' p' [] ≡ call_on format t p
 accepted_as r t p t' p' true a h k e z = (λ i. looked_at (a i) t' (z i) []) ∙ sym (format_accepted t p t' (sym h) e)
-accepted_as r t p t' p' false a h k e z = absurd (true≢false k)
+accepted_as r t p t' p' false a h k e z = absurd (true≢false (sym k))

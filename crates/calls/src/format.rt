@@ -4,25 +4,18 @@ ghost use Rattle.rules.specs.Numbers;
 ghost use Rattle.tables.specs.Calls.{call_on, format_lengths};
 ghost use Rattle.calls.specs.Outcomes.{outcome};
 
-use crate::answer::{Answer, counts_0};
+use crate::answer::{Answer, Counts};
+use numbers::refusal::Refusal;
 use pages::zero_bytes;
 use setchanges::format::format_tables;
 use tables::places::TABLE_BYTES;
 
 // "tables of wrong length or pages no multiple of 512 from 512 to 2,097,152 bytes" do not fit.
+#[tactic(auto, unfolding(tables::specs::Calls::format_lengths))]
 fn lengths_fit(tables: usize, pages: usize) -> bool
     ensures { result ≡ format_lengths tables pages }
 {
-    if tables != TABLE_BYTES {
-        return false;
-    }
-    if pages % 512 != 0 {
-        return false;
-    }
-    if pages < 512 {
-        return false;
-    }
-    pages <= 2097152
+    tables == TABLE_BYTES && pages % 512 == 0 && 512 <= pages && pages <= 2097152
 }
 
 // "Format makes set 0 alone, all blocks free, next start 0, every page zero."
@@ -31,9 +24,9 @@ pub fn format(t: &mut [u8], p: &mut [u8]) -> Answer
 {
     let n = p.len();
     if !lengths_fit(t.len(), n) {
-        return counts_0(1);
+        return Answer::refused(Refusal::NotWellFormed);
     }
     format_tables(t, n / 512);
     zero_bytes(p, 0, n);
-    counts_0(0)
+    Answer::accepted(Counts::NONE)
 }

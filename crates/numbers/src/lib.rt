@@ -1,4 +1,4 @@
-// The table of numbers: for each call the lowest number that applies on a store whose tables are well formed, 0 for none.
+// The table of numbers: for each call the refusal of the lowest number that applies on a store whose tables are well formed, if any.
 // Numbers of sets and files, offsets and sizes are judged at full width.
 #![tactic(auto)]
 
@@ -16,79 +16,73 @@ ghost use Rattle.tables.specs.Meaning.{entry_meant};
 ghost use Rattle.tables.specs.Packed.{unpack};
 ghost use Rattle.tables.specs.Terms.{current_conditions, set_term_conditions};
 ghost use Rattle.tables.proofs.FormedStore.{FormedStore};
+ghost use Rattle.numbers.specs.Refusals.{told};
 ghost use Rattle.numbers.specs.Shared.{no_such_place, not_changeable, not_readable, read_only_place, view_in};
 
-use dates::{count_fits, date_exists};
+use crate::refusal::Refusal;
+use dates::{Date, count_fits, date_exists};
 use maps::reading;
 use tables::entries::{Entry, Page};
 use tables::{entries, files, header, sets};
+
+pub mod refusal;
 
 // Is it the number of a used set?
 fn is_used(t: &[u8], set: u32) -> bool
     requires { length t.now ≡ table_bytes }
     ensures { result ≡ (ltb set 8 && ((unpack t.now).sets set).used) }
 {
-    if 8 <= set {
-        return false;
-    }
-    let r = sets::set_at(t, set as usize);
-    r.used
+    set < 8 && sets::set_at(t, set as usize).used
 }
 
 // 2 and 3: "a set number over 7, or a set that must be used is not", "file number over 15".
-fn no_such_place(t: &[u8], set: u32, file: u32) -> u32
+fn no_such_place(t: &[u8], set: u32, file: u32) -> Result<(), Refusal>
     requires { length t.now ≡ table_bytes }
-    ensures { result ≡ lowest (no_such_place (view_in t.now) set file) }
+    ensures { told result ≡ lowest (no_such_place (view_in t.now) set file) }
 {
     if !is_used(t, set) {
-        return 2;
+        return Err(Refusal::NoSet);
     }
     if 16 <= file {
-        return 3;
+        return Err(Refusal::NoFile);
     }
-    0
+    Ok(())
 }
 
 // 2, 3 and 4: "create, write, truncate, delete in a read-only set" too.
-fn read_only_place(t: &[u8], set: u32, file: u32) -> u32
+fn read_only_place(t: &[u8], set: u32, file: u32) -> Result<(), Refusal>
     requires { length t.now ≡ table_bytes }
-    ensures { result ≡ lowest (read_only_place (view_in t.now) set file) }
+    ensures { told result ≡ lowest (read_only_place (view_in t.now) set file) }
 {
-    let n = no_such_place(t, set, file);
-    if n != 0 {
-        return n;
-    }
+    no_such_place(t, set, file)?;
     let r = sets::set_at(t, set as usize);
     if !r.writeable {
-        return 4;
+        return Err(Refusal::ReadOnly);
     }
-    0
+    Ok(())
 }
 
 // 5 and 6: the file is absent, or marked.
-fn not_readable(t: &[u8], f: usize, s: usize) -> u32
+fn not_readable(t: &[u8], f: usize, s: usize) -> Result<(), Refusal>
     requires { (length t.now ≡ table_bytes) × (f < 16) × (s < 8) }
-    ensures { result ≡ lowest (not_readable (view_in t.now) s f) }
+    ensures { told result ≡ lowest (not_readable (view_in t.now) s f) }
 {
     let l = files::state_at(t, f, s);
     if files::is_absent(l) {
-        return 5;
+        return Err(Refusal::Absent);
     }
     if files::is_marked(l) {
-        return 6;
+        return Err(Refusal::Marked);
     }
-    0
+    Ok(())
 }
 
 // 2 to 6, of a write and of a truncate.
-fn not_changeable(t: &[u8], set: u32, file: u32) -> u32
+fn not_changeable(t: &[u8], set: u32, file: u32) -> Result<(), Refusal>
     requires { length t.now ≡ table_bytes }
-    ensures { result ≡ lowest (not_changeable (view_in t.now) set file) }
+    ensures { told result ≡ lowest (not_changeable (view_in t.now) set file) }
 {
-    let n = read_only_place(t, set, file);
-    if n != 0 {
-        return n;
-    }
+    read_only_place(t, set, file)?;
     not_readable(t, file as usize, set as usize)
 }
 
@@ -108,12 +102,9 @@ fn own_need(t: &[u8], f: usize, s: usize, first: usize, m: usize) -> u32
     requires { (length t.now ≡ table_bytes) × (f < 16) × (s < 8) × (first + m ≤ 64) }
     ensures { result ≡ own_need real s (from first m) ((unpack t.now).files f) }
 {
-    let end = first + m;
     let mut n: u32 = 0;
-    let mut i = first;
-    while i < end {
+    for i in first..first + m {
         n += missing(entries::entry_at(t, f, s, Page::new(i)));
-        i += 1;
     }
     n
 }
@@ -154,157 +145,138 @@ fn truncate_need(t: &[u8], f: usize, s: usize, n: usize) -> u32
 fn end_over(off: u32, n: usize) -> bool
     ensures { result ≡ ltb 32768 (off + n) }
 {
-    if 32768 < n {
-        return true;
-    }
-    32768 < off as usize + n
+    n > 32768 || 32768 < off as usize + n
 }
 
-pub fn of_create(t: &[u8], p: &[u8], set: u32, file: u32) -> u32
+pub fn of_create(t: &[u8], p: &[u8], set: u32, file: u32) -> Result<(), Refusal>
     requires { FormedStore t.now p.now }
-    ensures { result ≡ number_of (view_of real true true (store_of t.now p.now)) (Numbers.create set file) }
+    ensures { told result ≡ number_of (view_of real true true (store_of t.now p.now)) (Numbers.create set file) }
 {
-    let n = read_only_place(t, set, file);
-    if n != 0 {
-        return n;
-    }
+    read_only_place(t, set, file)?;
     if !files::is_absent(files::state_at(t, file as usize, set as usize)) {
-        return 9;
+        return Err(Refusal::Exists);
     }
-    0
+    Ok(())
 }
 
 // Of a write, by groups of any size.
-pub fn of_write(t: &[u8], p: &[u8], set: u32, file: u32, offset: u32, data: &[u8]) -> u32
-    requires { FormedStore t.now p.now }
-    ensures { (group : ℕ) → result ≡ number_of (view_of real true true (store_of t.now p.now)) (Numbers.write group set file offset «data».now) }
-{
-    let n = not_changeable(t, set, file);
-    if n != 0 {
-        return n;
-    }
-    if end_over(offset, data.len()) {
-        return 7;
-    }
-    let need = write_need(t, file as usize, set as usize, offset as usize, data.len());
-    if !header::has_free(t, need) {
-        return 8;
-    }
-    0
-}
-
-// Of a read, at any offset and into any buffer, and of the call that tells a size.
-pub fn of_look(t: &[u8], p: &[u8], set: u32, file: u32) -> u32
-    requires { FormedStore t.now p.now }
-    ensures { ((off : ℕ) (buffer : List ℕ) → result ≡ number_of (view_of real true true (store_of t.now p.now)) (Numbers.read set file off buffer)) × (result ≡ number_of (view_of real true true (store_of t.now p.now)) (Numbers.tell_size set file)) }
-{
-    let n = no_such_place(t, set, file);
-    if n != 0 {
-        return n;
-    }
-    not_readable(t, file as usize, set as usize)
-}
-
-pub fn of_truncate(t: &[u8], p: &[u8], set: u32, file: u32, size: u32) -> u32
-    requires { FormedStore t.now p.now }
-    ensures { result ≡ number_of (view_of real true true (store_of t.now p.now)) (Numbers.truncate set file size) }
-{
-    let n = not_changeable(t, set, file);
-    if n != 0 {
-        return n;
-    }
-    if 32768 < size {
-        return 7;
-    }
-    let own = truncate_need(t, file as usize, set as usize, size as usize);
-    if !header::has_free(t, own) {
-        return 8;
-    }
-    0
-}
-
-pub fn of_delete(t: &[u8], p: &[u8], set: u32, file: u32) -> u32
-    requires { FormedStore t.now p.now }
-    ensures { result ≡ number_of (view_of real true true (store_of t.now p.now)) (Numbers.delete set file) }
-{
-    let n = read_only_place(t, set, file);
-    if n != 0 {
-        return n;
-    }
-    if files::is_absent(files::state_at(t, file as usize, set as usize)) {
-        return 5;
-    }
-    0
-}
-
-pub fn of_make(t: &[u8], p: &[u8], parent: u32, set: u32, writeable: bool) -> u32
-    requires { FormedStore t.now p.now }
-    ensures { result ≡ number_of (view_of real true true (store_of t.now p.now)) (Numbers.make parent set writeable) }
-{
-    if !is_used(t, parent) {
-        return 2;
-    }
-    if 8 <= set {
-        return 2;
-    }
-    if is_used(t, set) {
-        return 9;
-    }
-    if 5 <= sets::level_of(t, parent as usize) {
-        return 10;
-    }
-    0
-}
-
-pub fn of_remove(t: &[u8], p: &[u8], set: u32) -> u32
-    requires { FormedStore t.now p.now }
-    ensures { result ≡ number_of (view_of real true true (store_of t.now p.now)) (Numbers.remove set) }
-{
-    if !is_used(t, set) {
-        return 2;
-    }
-    if sets::first_child_of(t, set as usize) < 8 {
-        return 11;
-    }
-    if set == 0 {
-        return 12;
-    }
-    0
-}
-
-// Of setting a term: "14 .. and .. 15, both after 2, with 14 first".
-pub fn of_set_term(
+pub fn of_write(
     t: &[u8],
     p: &[u8],
     set: u32,
-    year: u32,
-    month: u32,
-    day: u32,
-    months: u32,
-) -> u32
+    file: u32,
+    offset: u32,
+    data: &[u8],
+) -> Result<(), Refusal>
     requires { FormedStore t.now p.now }
-    ensures { result ≡ lowest (set_term_conditions (view_of real true true (store_of t.now p.now)) set year month day months) }
+    ensures { (group : ℕ) → told result ≡ number_of (view_of real true true (store_of t.now p.now)) (Numbers.write group set file offset «data».now) }
+{
+    not_changeable(t, set, file)?;
+    if end_over(offset, data.len()) {
+        return Err(Refusal::EndOver);
+    }
+    let need = write_need(t, file as usize, set as usize, offset as usize, data.len());
+    if !header::has_free(t, need) {
+        return Err(Refusal::NeedOver);
+    }
+    Ok(())
+}
+
+// Of a read, at any offset and into any buffer, and of the call that tells a size.
+pub fn of_look(t: &[u8], p: &[u8], set: u32, file: u32) -> Result<(), Refusal>
+    requires { FormedStore t.now p.now }
+    ensures { ((off : ℕ) (buffer : List ℕ) → told result ≡ number_of (view_of real true true (store_of t.now p.now)) (Numbers.read set file off buffer)) × (told result ≡ number_of (view_of real true true (store_of t.now p.now)) (Numbers.tell_size set file)) }
+{
+    no_such_place(t, set, file)?;
+    not_readable(t, file as usize, set as usize)
+}
+
+pub fn of_truncate(t: &[u8], p: &[u8], set: u32, file: u32, size: u32) -> Result<(), Refusal>
+    requires { FormedStore t.now p.now }
+    ensures { told result ≡ number_of (view_of real true true (store_of t.now p.now)) (Numbers.truncate set file size) }
+{
+    not_changeable(t, set, file)?;
+    if 32768 < size {
+        return Err(Refusal::EndOver);
+    }
+    let own = truncate_need(t, file as usize, set as usize, size as usize);
+    if !header::has_free(t, own) {
+        return Err(Refusal::NeedOver);
+    }
+    Ok(())
+}
+
+pub fn of_delete(t: &[u8], p: &[u8], set: u32, file: u32) -> Result<(), Refusal>
+    requires { FormedStore t.now p.now }
+    ensures { told result ≡ number_of (view_of real true true (store_of t.now p.now)) (Numbers.delete set file) }
+{
+    read_only_place(t, set, file)?;
+    if files::is_absent(files::state_at(t, file as usize, set as usize)) {
+        return Err(Refusal::Absent);
+    }
+    Ok(())
+}
+
+pub fn of_make(t: &[u8], p: &[u8], parent: u32, set: u32, writeable: bool) -> Result<(), Refusal>
+    requires { FormedStore t.now p.now }
+    ensures { told result ≡ number_of (view_of real true true (store_of t.now p.now)) (Numbers.make parent set writeable) }
+{
+    if !is_used(t, parent) {
+        return Err(Refusal::NoSet);
+    }
+    if 8 <= set {
+        return Err(Refusal::NoSet);
+    }
+    if is_used(t, set) {
+        return Err(Refusal::Exists);
+    }
+    if 5 <= sets::level_of(t, parent as usize) {
+        return Err(Refusal::TooDeep);
+    }
+    Ok(())
+}
+
+pub fn of_remove(t: &[u8], p: &[u8], set: u32) -> Result<(), Refusal>
+    requires { FormedStore t.now p.now }
+    ensures { told result ≡ number_of (view_of real true true (store_of t.now p.now)) (Numbers.remove set) }
 {
     if !is_used(t, set) {
-        return 2;
+        return Err(Refusal::NoSet);
     }
-    if !date_exists(year, month, day) {
-        return 14;
+    if sets::first_child_of(t, set as usize) < 8 {
+        return Err(Refusal::HasChildren);
+    }
+    if set == 0 {
+        return Err(Refusal::Root);
+    }
+    Ok(())
+}
+
+// Of setting a term: "14 .. and .. 15, both after 2, with 14 first".
+pub fn of_set_term(t: &[u8], p: &[u8], set: u32, date: Date, months: u32) -> Result<(), Refusal>
+    requires { FormedStore t.now p.now }
+    ensures { told result ≡ lowest (set_term_conditions (view_of real true true (store_of t.now p.now)) set date.year date.month date.day months) }
+{
+    if !is_used(t, set) {
+        return Err(Refusal::NoSet);
+    }
+    if !date_exists(date) {
+        return Err(Refusal::NoDate);
     }
     if !count_fits(months) {
-        return 15;
+        return Err(Refusal::NoMonths);
     }
-    0
+    Ok(())
 }
 
 // Of asking whether a set is current.
-pub fn of_current(t: &[u8], p: &[u8], set: u32) -> u32
+pub fn of_current(t: &[u8], p: &[u8], set: u32) -> Result<(), Refusal>
     requires { FormedStore t.now p.now }
-    ensures { result ≡ lowest (current_conditions (view_of real true true (store_of t.now p.now)) set) }
+    ensures { told result ≡ lowest (current_conditions (view_of real true true (store_of t.now p.now)) set) }
 {
     let used = is_used(t, set);
     if !used {
-        return 2;
+        return Err(Refusal::NoSet);
     }
-    0
+    Ok(())
 }

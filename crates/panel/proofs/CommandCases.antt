@@ -1,5 +1,5 @@
 -- The commands: which values name one, and what a write leaves. Assumes nothing.
-use mathlib.Core.Bool.{◌&&◌, Bool, false, not, true, true≢false}
+use mathlib.Core.Bool.{◌&&◌, Bool, false, true, true≢false}
 use mathlib.Core.List.{List, []}
 use mathlib.Core.Option.{none, some}
 use mathlib.Core.Path.{ap, ap₂, refl, sym, ◌∙◌, ◌≡◌}
@@ -8,7 +8,7 @@ use native.Mathlib.Omega.{arith}
 use lib.Dec.{eqb, leb}
 use lib.ListN.{get_or, length, length-set, set}
 use lib.Seq.{get_or-set_other}
-use borrow.Author.Tests.{eq-eqb, eqb-false, leb-true, ne_eqb, not-false, not-true}
+use borrow.Author.Tests.{eq-eqb, eqb-false, leb-true, ne_eqb}
 use Rattle.base.specs.Logic.{and_left, and_right, test?}
 use Rattle.calls.specs.Outcomes.{answer_meant, outcome}
 use Rattle.calls.specs.declared.answer.Answer as declared
@@ -48,21 +48,19 @@ unnamed op s f o h =
 
 -- ---- what a write of the command register leaves
 
-pub ran_nothing : (z : declared.Answer) (b : Bool) (op : ℕ) (r r' t p : List ℕ) → answer_meant z ≡ no_counts → b ≡ is_command op → not b ≡ true → r' ≡ cause_added 2 r
+pub ran_nothing : (z : declared.Answer) (op : ℕ) (r r' t p : List ℕ) → answer_meant z ≡ no_counts → is_command op ≡ false → r' ≡ cause_added 2 r
     → panel_outcome z r' t p ≡ commanded call_on (command_in op r) r t p
 unfolding commanded
-ran_nothing z b op r r' t p ez e h q =
-    ap (λ (x : Answer). panel_left x r' t p) ez ∙ (rw (unnamed op (get_or r 4 0) (get_or r 5 0) (get_or r 6 0) (sym e ∙ not-true b h), q) refl)
+ran_nothing z op r r' t p ez h q =
+    ap (λ (x : Answer). panel_left x r' t p) ez ∙ (rw (unnamed op (get_or r 4 0) (get_or r 5 0) (get_or r 6 0) h, q) refl)
 
-pub is_named : (b : Bool) (op : ℕ) → b ≡ is_command op → not b ≡ false → is_command op ≡ true
-is_named b op e h = sym e ∙ not-false b h
-
-pub ran_call : (z : declared.Answer) (op s f o : ℕ) (r r' t t' p p' : List ℕ) (a : declared.Answer) → answer_meant z ≡ no_counts → is_command op ≡ true → s ≡ get_or r 4 0
-    → f ≡ get_or r 5 0 → o ≡ get_or r 6 0 → outcome a t' p' [] ≡ call_on (call_named op s f o) t p → r' ≡ answered (answer_meant a) r
+pub ran_call : (z : declared.Answer) (op s f o : ℕ) (r r' t t' p p' : List ℕ) (a : declared.Answer) (k : Call) → answer_meant z ≡ no_counts → is_command op ≡ true → s ≡ get_or r 4 0
+    → f ≡ get_or r 5 0 → o ≡ get_or r 6 0 → k ≡ call_named op s f o → outcome a t' p' [] ≡ call_on k t p → r' ≡ answered (answer_meant a) r
     → panel_outcome z r' t' p' ≡ commanded call_on (command_in op r) r t p
 unfolding commanded
-ran_call z op s f o r r' t t' p p' a ez h es ef eo e q =
-    let n : command_in op r ≡ some (call_named op s f o) = rw (es, ef, eo) (named op (get_or r 4 0) (get_or r 5 0) (get_or r 6 0) h) in
+ran_call z op s f o r r' t t' p p' a k ez h es ef eo en e q =
+    let m : command_in op r ≡ some (call_named op s f o) = rw (es, ef, eo) (named op (get_or r 4 0) (get_or r 5 0) (get_or r 6 0) h) in
+    let n : command_in op r ≡ some k = rw en m in
     ap (λ (x : Answer). panel_left x r' t' p') ez ∙ (rw (n, q) (ap (λ (x : Outcome). panel_left no_counts (answered x.answer r) x.tables x.pages) e))
 
 -- its number fits a register

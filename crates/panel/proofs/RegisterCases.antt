@@ -1,19 +1,17 @@
--- The registers: when there are none, the reset of all sixteen, what a command notes. Assumes nothing.
+-- The registers: when there are none, what a command notes, what a read, the line and a reset give. Assumes nothing.
 use mathlib.Core.Bool.{Bool, cond, false, true}
 use mathlib.Core.List.{List, []}
 use mathlib.Core.Path.{ap, ap₂, refl, sym, ◌∙◌, ◌≡◌}
-use Prim.Native.Nat.{◌+◌, ◌<◌, ℕ, ◌≤◌}
+use Prim.Native.Nat.{◌<◌, ℕ}
 use native.Mathlib.Nat.{min-eq_left}
 use native.Mathlib.Omega.{arith}
 use lib.ListN.{get_or, length, set}
-use lib.Seq.{ext_get_or, get_or-set_other, get_or-set_same}
 use borrow.Author.Tests.{ne_eqb}
-use Rattle.base.specs.Logic.{same?}
 use Rattle.calls.specs.Outcomes.{answer_meant}
 use Rattle.calls.specs.declared.answer.Answer as declared
 use Rattle.panel.specs.Outcomes.{panel_outcome}
 use Rattle.rules.specs.Numbers.{Answer, no_counts, refusal}
-use Rattle.tables.proofs.Registers.{register_there, values_count}
+use Rattle.tables.proofs.Registers.{register_there}
 use Rattle.tables.specs.Panel.{PanelOutcome, answered, cause_of, cause_added, line_of, no_register, panel_left, panel_line_on, panel_read_on, panel_reset_on, reset_values, shown, value_given, value_read}
 
 -- other lengths; sixteen registers
@@ -23,18 +21,6 @@ none_there o r h = rw (ne_eqb (length r) 16 h) refl
 
 pub sixteen : (b : Bool) (o : ℕ) (r : List ℕ) → b ≡ no_register o r → b ≡ false → (length r ≡ 16) × (o < 16)
 sixteen b o r e h = register_there o r (sym e ∙ h)
-
--- ---- the reset, register by register
-
-pub reset_more : (r : List ℕ) (i v : ℕ) → length r ≡ 16 → i < 16 → v ≡ get_or reset_values i 0 → ((j : ℕ) → j < i → get_or r j 0 ≡ get_or reset_values j 0)
-    → (j : ℕ) → j < i + 1 → get_or (set r i v) j 0 ≡ get_or reset_values j 0
-reset_more r i v l h e p j k =
-    same? j i
-    (λ q. ap (λ x. get_or (set r i v) x 0) q ∙ get_or-set_same r i v 0 (omega arith) ∙ e ∙ ap (λ x. get_or reset_values x 0) (sym q))
-    (λ n. get_or-set_other r i j v 0 n ∙ p j (omega arith))
-
-pub reset_whole : (r : List ℕ) (i : ℕ) → 16 ≤ i → length r ≡ 16 → ((j : ℕ) → j < i → get_or r j 0 ≡ get_or reset_values j 0) → r ≡ reset_values
-reset_whole r i h l p = ext_get_or 0 r reset_values (l ∙ sym values_count) (λ j k. p j (omega arith))
 
 -- ---- a command's answer in the registers
 

@@ -10,9 +10,11 @@ ghost use Rattle.panel.specs.Outcomes.{panel_outcome};
 use crate::command::command;
 use crate::registers::{enter, line_of, no_register, reset_all, value_read};
 use crate::table::{CAUSE, COMMAND, MASK};
-use calls::answer::{Answer, counts_0};
+use calls::answer::{Answer, Counts};
+use numbers::refusal::Refusal;
 
 pub mod command;
+pub mod commands;
 pub mod noting;
 pub mod registers;
 pub mod table;
@@ -22,10 +24,10 @@ pub fn reset(r: &mut [u8]) -> Answer
     ensures { panel_outcome result r.new [] [] ≡ panel_reset_on r.old }
 {
     if no_register(&*r, 0) {
-        return counts_0(13);
+        return Answer::refused(Refusal::NoRegister);
     }
     reset_all(r);
-    counts_0(0)
+    Answer::accepted(Counts::NONE)
 }
 
 // "A read gives the value as the first count."
@@ -33,15 +35,10 @@ pub fn read(r: &[u8], offset: u32) -> Answer
     ensures { panel_outcome result r.now [] [] ≡ panel_read_on offset r.now }
 {
     if no_register(r, offset) {
-        return counts_0(13);
+        return Answer::refused(Refusal::NoRegister);
     }
     let v = value_read(r, offset as usize);
-    Answer {
-        number: 0,
-        first: v,
-        second: 0,
-        third: 0,
-    }
+    Answer::accepted(Counts::one(v))
 }
 
 // "A write gives 0 and zeros, even where its command is refused."
@@ -49,11 +46,11 @@ pub fn write(r: &mut [u8], t: &mut [u8], p: &mut [u8], offset: u32, value: u8) -
     ensures { panel_outcome result r.new t.new p.new ≡ panel_write_on call_on offset value r.old t.old p.old }
 {
     if no_register(&*r, offset) {
-        return counts_0(13);
+        return Answer::refused(Refusal::NoRegister);
     }
     enter(r, offset as usize, value);
     if offset as usize != COMMAND {
-        return counts_0(0);
+        return Answer::accepted(Counts::NONE);
     }
     command(r, t, p, value)
 }
@@ -63,13 +60,8 @@ pub fn line(r: &[u8]) -> Answer
     ensures { panel_outcome result r.now [] [] ≡ panel_line_on r.now }
 {
     if no_register(r, 0) {
-        return counts_0(13);
+        return Answer::refused(Refusal::NoRegister);
     }
     let v = line_of(r[CAUSE], r[MASK]);
-    Answer {
-        number: 0,
-        first: v,
-        second: 0,
-        third: 0,
-    }
+    Answer::accepted(Counts::one(v))
 }

@@ -8,13 +8,11 @@ use crate::table::{CAUSE, FIRST, NUMBER, SECOND, THIRD};
 use calls::answer::Answer;
 
 // "Counts over 255 show as 255."
+#[tactic(auto, unfolding(tables::specs::Panel::shown))]
 fn shown(n: u32) -> u8
     ensures { result ≡ Panel.shown n }
 {
-    if n > 255 {
-        return 255;
-    }
-    n as u8
+    n.min(255) as u8
 }
 
 // "bit 0 when accepted, bit 1 when refused"

@@ -3,7 +3,7 @@ ghost use Rattle.std.specs.Prelude.{◌≡◌, ◌<◌, length};
 ghost use Rattle.tables.specs.Panel;
 ghost use Rattle.tables.specs.Panel.{entered, line_of, no_register, register_count, reset_values, value_read};
 
-use crate::table::{CAUSE, COMMAND, REGISTERS, reset_of, writable_of};
+use crate::table::{CAUSE, COMMAND, REGISTERS, RESET, reset_of, writable_of};
 
 // "an offset over 15, or registers of another length"
 pub fn no_register(r: &[u8], offset: u32) -> bool
@@ -16,20 +16,12 @@ pub fn no_register(r: &[u8], offset: u32) -> bool
 }
 
 // Every register gets its reset value.
+#[tactic(auto, unfolding(tables::specs::Panel::reset_values))]
 pub fn reset_all(r: &mut [u8])
     requires { length r.old ≡ register_count }
     ensures { r.new ≡ reset_values }
 {
-    for i in 0..REGISTERS {
-        r[i] = reset_of(i);
-    }
-}
-
-// A byte as a wider number.
-pub fn wide(x: u8) -> u32
-    ensures { result ≡ x }
-{
-    x as u32
+    r.copy_from_slice(&RESET);
 }
 
 // The command register reads by the table, every other as what it holds.
@@ -38,9 +30,9 @@ pub fn value_read(r: &[u8], offset: usize) -> u32
     ensures { result ≡ value_read offset r.now }
 {
     if offset == COMMAND {
-        return wide(reset_of(offset));
+        return u32::from(reset_of(offset));
     }
-    wide(r[offset])
+    u32::from(r[offset])
 }
 
 // The value of a register after a write: its writable bits alone change, and ones clear those of the cause.
@@ -64,11 +56,9 @@ pub fn enter(r: &mut [u8], offset: usize, value: u8)
 }
 
 // "exactly when cause and mask share a one"
+#[tactic(auto, unfolding(tables::specs::Panel::line_of))]
 pub fn line_of(cause: u8, mask: u8) -> u32
     ensures { result ≡ line_of cause mask }
 {
-    if cause & mask == 0 {
-        return 0;
-    }
-    1
+    u32::from(cause & mask != 0)
 }

@@ -28,7 +28,7 @@ pub const REGISTERS: usize = 16;
 
 // "A table gives each register's reset value and its writable bits." Those of the cause are the bits that ones clear; of what
 // is written to the command register nothing is kept.
-const RESET: [u8; 16] = [0, 0, 0, 0, 0, 0, 0, 0, 0, 0, 0, 0, 0, 0, 0, 0];
+pub const RESET: [u8; 16] = [0, 0, 0, 0, 0, 0, 0, 0, 0, 0, 0, 0, 0, 0, 0, 0];
 
 const WRITABLE: [u8; 16] = [0, 0, 7, 255, 255, 255, 255, 0, 0, 0, 0, 0, 0, 0, 0, 0];
 

@@ -15,6 +15,7 @@ ghost use Rattle.compaction.specs.Call.{compact_on, free_in};
 ghost use Rattle.panel.specs.Outcomes.{panel_outcome};
 
 use calls::answer::Answer;
+use dates::Date;
 
 #[unsafe(no_mangle)]
 pub extern "C" fn sweep_format(tables: &mut [u8], pages: &mut [u8]) -> Answer
@@ -193,7 +194,8 @@ pub extern "C" fn sweep_set_term(
 ) -> Answer
     ensures { outcome result tables.new pages.new [] ≡ set_term_on set year month day months tables.old pages.old }
 {
-    calls::terms::set_term(tables, &*pages, set, year, month, day, months)
+    let date = Date { year, month, day };
+    calls::terms::set_term(tables, &*pages, set, date, months)
 }
 
 #[unsafe(no_mangle)]

@@ -9,9 +9,9 @@ use Rattle.numbers.proofs.of_current.Goals as goal
 pub returns-then-not-used : goal.returns-then-not-used
 returns-then-not-used c =
     let a = c.args in
-    current_row (store_of a.t.now a.p.now) a.set 2 (here _ 2 [] (ap not (sym c.is_used-used.ensures) ∙ c.if-not-used.true-raw))
+    current_row (store_of a.t.now a.p.now) a.set 2 (here _ 2 [] (ap not (sym c.is_used-used.ensures ∙ c.if-not-used.true)))
 
 pub returns : goal.returns
 returns c =
     let a = c.args in
-    current_row (store_of a.t.now a.p.now) a.set 0 (past _ 2 0 [] (ap not (sym c.is_used-used.ensures) ∙ c.if-not-used.false-raw) none_left)
+    current_row (store_of a.t.now a.p.now) a.set 0 (past _ 2 0 [] (ap not (sym c.is_used-used.ensures ∙ c.if-not-used.false)) none_left)

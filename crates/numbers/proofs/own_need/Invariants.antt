@@ -8,7 +8,4 @@ use Rattle.numbers.proofs.own_need.Given as goal
 
 abbrev pub invariant-loop-i : goal.invariant-loop-i
 invariant-loop-i l =
-    (l.i ≤ l.end) × (l.n ≤ l.i) × (l.n + own_need real l.s (from l.i (l.end - l.i)) ((unpack l.t).files l.f) ≡ own_need real l.s (from l.first l.m) ((unpack l.t).files l.f))
-
-abbrev pub decreases-loop-i : goal.decreases-loop-i
-decreases-loop-i l = l.end - l.i
+    (l.i ≤ (l.first + l.m)) × (l.n ≤ l.i) × (l.n + own_need real l.s (from l.i ((l.first + l.m) - l.i)) ((unpack l.t).files l.f) ≡ own_need real l.s (from l.first l.m) ((unpack l.t).files l.f))

@@ -1,6 +1,5 @@
 -- `numbers::truncate_need` meets its contract. Assumes nothing.
 use mathlib.Core.Path.{◌≡◌, ap, sym, ◌∙◌}
-use borrow.Author.Tests.{not-false, not-true}
 use Prim.Native.Nat.{◌/◌, ◌<◌, ◌≤◌}
 use native.Mathlib.Omega.{arith}
 use mathlib.Core.Bool.{not}
@@ -36,7 +35,7 @@ pub returns-then-not-is_stored : goal.returns-then-not-is_stored
 returns-then-not-is_stored c =
     let a = c.args in
     need_hole (tree_of (unpack a.t.now).sets) ((unpack a.t.now).files a.f) a.s a.n c.if-n-eq0.false
-    (resolved (goal.at.returns-then-not-is_stored c).After-is_stored ∙ not-true c.is_stored.result c.if-not-is_stored.true-raw)
+    (resolved (goal.at.returns-then-not-is_stored c).After-is_stored ∙ c.if-not-is_stored.true)
 
 pub returns : goal.returns
 returns c =
@@ -45,4 +44,4 @@ returns c =
     let files = (unpack a.t.now).files a.f in
     let l : a.n < size_by_reading tree files a.s = omega (arith, c.size_of.ensures.0) in
     c.missing.ensures.0 ∙ ap (λ x. digit (not (is_stored x))) c.entry_at.ensures ∙ ap (λ q. digit (not (is_stored ((files a.s).map q)))) c.new-page.ensures
-    ∙ need_one tree files a.s a.n l c.if-n-eq0.false (resolved (goal.at.returns c).After-is_stored ∙ not-false c.is_stored.result c.if-not-is_stored.false-raw)
+    ∙ need_one tree files a.s a.n l c.if-n-eq0.false (resolved (goal.at.returns c).After-is_stored ∙ c.if-not-is_stored.false)

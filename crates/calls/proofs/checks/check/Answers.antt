@@ -1,11 +1,16 @@
 -- `calls::checks::check` meets its contract. Assumes nothing.
-use Rattle.calls.proofs.Checked.{checked, checked_not}
+use mathlib.Core.Path.{ap, refl, ◌∙◌}
+use Rattle.numbers.specs.Refusals.{number}
+use Rattle.numbers.specs.declared.refusal.Refusal.{Refusal}
+use Rattle.rules.specs.Numbers.{refusal}
+use Rattle.calls.specs.Outcomes.{answer_meant}
+use Rattle.calls.proofs.Checked.{accepted_as, refused_as}
 use Rattle.calls.proofs.checks.check.Goals as goal
 
-pub returns-then-not-well_formed : goal.returns-then-not-well_formed
-returns-then-not-well_formed c =
-    checked_not _ _ _ _ _ c.well_formed-2.ensures c.if-not-well_formed.true-raw c.counts_0.ensures
+pub returns-in-Ok : goal.returns-in-Ok
+returns-in-Ok c = accepted_as _ _ _ _ _ refl c.in-Ok.ensures (ap answer_meant c.accepted.ensures)
 
-pub returns : goal.returns
-returns c =
-    checked _ _ _ _ _ c.well_formed-2.ensures c.if-not-well_formed.false-raw c.counts_0-2.ensures
+pub returns-in-Err : goal.returns-in-Err
+returns-in-Err c =
+    let e = c.in-Err.ensures in
+    refused_as _ _ _ _ _ refl e.0 (c.refused.ensures ∙ ap (λ (x : Refusal). refusal (number x)) e.1)

@@ -7,9 +7,9 @@ use Rattle.panel.proofs.registers.value_read.Goals as goal
 pub returns-then-offset-eq-COMMAND : goal.returns-then-offset-eq-COMMAND
 unfolding value_read
 returns-then-offset-eq-COMMAND c =
-    rw (eq-eqb c.args.offset 0 c.if-offset-eq-COMMAND.true) (c.wide.ensures ∙ c.reset_of.ensures)
+    rw (eq-eqb c.args.offset 0 c.if-offset-eq-COMMAND.true) (c.from.ensures ∙ c.reset_of.ensures)
 
 pub returns : goal.returns
 unfolding value_read
 returns c =
-    rw (ne_eqb c.args.offset 0 c.if-offset-eq-COMMAND.false) c.wide-2.ensures
+    rw (ne_eqb c.args.offset 0 c.if-offset-eq-COMMAND.false) c.from-2.ensures
