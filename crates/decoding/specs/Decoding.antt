@@ -1,13 +1,11 @@
 -- The calls of a session. Document 01, "The session program".
-use Rattle.std.specs.Prelude.{◌&&◌, Bool, cond, false, true, List, ◌∷◌, [], ◌<◌, ℕ, ◌≤◌, eqb, ltb, length, replicate}
+use Rattle.std.specs.Prelude.{◌&&◌, Bool, cond, false, true, List, ◌∷◌, [], None, Option, Some, ◌<◌, ℕ, ◌≤◌, eqb, ltb, length, replicate}
 use Rattle.packing.specs.Fields.{get_field}
 use Rattle.packing.specs.Words.{get_word}
 use Rattle.rules.specs.Numbers.{Call, create, delete, make, narrow_write, remove, truncate}
 use Rattle.decoding.specs.declared.decoding.Asked as declared
 use Rattle.decoding.specs.declared.decoding.Asked.TheVariants as asked
-use Rattle.decoding.specs.declared.decoding.Decoded.{Decoded}
 use Rattle.decoding.specs.declared.decoding.Fields.{Fields}
-use Rattle.decoding.specs.declared.decoding.Decoded.TheVariants as decoded
 
 -- what the bytes of a call ask for: a call with its op, or bad
 pub data Request : Type 0 where
@@ -83,9 +81,9 @@ op_of (asked.Delete s f) = 4
 op_of (asked.Make s c w) = cond w 6 5
 op_of (asked.Remove s) = 7
 
-abbrev pub request_meant : Decoded → Request
-request_meant decoded.Bad = bad
-request_meant (decoded.Call c) = ask (op_of c) (call_meant c)
+abbrev pub request_meant : Option declared.Asked → Request
+request_meant None = bad
+request_meant (Some c) = ask (op_of c) (call_meant c)
 
 -- For the contracts of the code, not for a reader of document 01: the fields as the code holds them, and bounds that callers want.
 abbrev pub fields_meant : Fields → CallFields
@@ -104,9 +102,9 @@ call_fits (asked.Delete s f) = Unit {0}
 call_fits (asked.Make s c w) = Unit {0}
 call_fits (asked.Remove s) = Unit {0}
 
-abbrev pub request_fits : Decoded → Type 0
-request_fits decoded.Bad = Unit {0}
-request_fits (decoded.Call c) = call_fits c
+abbrev pub request_fits : Option declared.Asked → Type 0
+request_fits None = Unit {0}
+request_fits (Some c) = call_fits c
 
 -- 4,096 copies of a byte
 unfoldable pub copies : ℕ → List ℕ

@@ -1,7 +1,7 @@
 // The 8-byte calls of a session.
-ghost use Rattle.std.specs.Prelude.{◌≡◌, ◌<◌, ◌≤◌, length, replicate, cond, [], ◌∷◌};
+ghost use Rattle.std.specs.Prelude.{◌≡◌, ◌<◌, ◌≤◌, replicate, cond, [], ◌∷◌};
 ghost use Rattle.rules.specs.Numbers;
-ghost use Rattle.decoding.specs.Decoding.{FieldsFit, all_zero, ask, bad, call_fields, call_fits, call_meant, fields_meant, op_of, request, request_fits, request_meant, request_of, unless};
+ghost use Rattle.decoding.specs.Decoding.{FieldsFit, all_zero, call_fields, fields_meant, op_of, request, request_fits, request_meant, request_of, unless};
 
 use packing::words;
 
@@ -38,11 +38,24 @@ pub enum Asked {
     },
 }
 
-#[derive(Clone, Copy)]
-pub enum Decoded {
-    Bad,
-    Call(Asked),
+impl Asked {
+    // The op of a call.
+    pub fn op(self) -> u32
+        ensures { result ≡ op_of self }
+    {
+        match self {
+            Asked::Create { .. } => 1,
+            Asked::Write { .. } => 2,
+            Asked::Truncate { .. } => 3,
+            Asked::Delete { .. } => 4,
+            Asked::Make { writeable, .. } => { if writeable { 6 } else { 5 } }
+            Asked::Remove { .. } => 7,
+        }
+    }
 }
+
+// "a length over 4,096" is bad
+const LONGEST: u32 = 4096;
 
 // "op 4 bits, set 4, file 4, other 4, offset 16, length 16, fill 8, zero 8"
 #[derive(Clone, Copy)]
@@ -78,176 +91,104 @@ fn fields_of(w: u64) -> Fields
     }
 }
 
-// Are six numbers all zero?
-fn are_zero(a: u32, b: u32, c: u32, d: u32, e: u32, f: u32) -> bool
-    ensures { result ≡ all_zero (a ∷ b ∷ c ∷ d ∷ e ∷ f ∷ []) }
+// Are all of some fields zero?
+fn are_zero(fields: &[u32]) -> bool
+    ensures { result ≡ all_zero fields.now }
 {
-    if a != 0 {
-        return false;
-    }
-    if b != 0 {
-        return false;
-    }
-    if c != 0 {
-        return false;
-    }
-    if d != 0 {
-        return false;
-    }
-    if e != 0 {
-        return false;
-    }
-    f == 0
-}
-
-// A call, unless a field is nonzero that the op does not use.
-fn checked(unused_zero: bool, c: Asked) -> Decoded
-    requires { call_fits c }
-    ensures { (request_meant result ≡ cond unused_zero (ask (op_of c) (call_meant c)) bad) × request_fits result }
-{
-    if unused_zero {
-        return Decoded::Call(c);
-    }
-    Decoded::Bad
+    fields.iter().all(|x| *x == 0)
 }
 
 // Op 1.
-fn decode_create(x: Fields) -> Decoded
+fn decode_create(x: Fields) -> Option<Asked>
     ensures { (request_meant result ≡ unless (x.other ∷ x.offset ∷ x.length ∷ x.fill ∷ x.zero ∷ []) 1 (Numbers.create x.set x.file)) × request_fits result }
 {
-    let c = Asked::Create {
+    are_zero(&[x.other, x.offset, x.length, x.fill, x.zero]).then_some(Asked::Create {
         set: x.set,
         file: x.file,
-    };
-    checked(are_zero(x.other, x.offset, x.length, x.fill, x.zero, 0), c)
+    })
 }
 
-// Op 4.
-fn decode_delete(x: Fields) -> Decoded
+// Op 4. The variant is all that differs from op 1; a function for both would be given each of the two whole.
+fn decode_delete(x: Fields) -> Option<Asked>
     ensures { (request_meant result ≡ unless (x.other ∷ x.offset ∷ x.length ∷ x.fill ∷ x.zero ∷ []) 4 (Numbers.delete x.set x.file)) × request_fits result }
 {
-    let c = Asked::Delete {
+    are_zero(&[x.other, x.offset, x.length, x.fill, x.zero]).then_some(Asked::Delete {
         set: x.set,
         file: x.file,
-    };
-    checked(are_zero(x.other, x.offset, x.length, x.fill, x.zero, 0), c)
+    })
 }
 
 // Ops 5 and 6.
-fn decode_make(x: Fields, writeable: bool) -> Decoded
+fn decode_make(x: Fields, writeable: bool) -> Option<Asked>
     ensures { (request_meant result ≡ unless (x.file ∷ x.offset ∷ x.length ∷ x.fill ∷ x.zero ∷ []) (cond writeable 6 5) (Numbers.make x.set x.other writeable)) × request_fits result }
 {
-    let c = Asked::Make {
+    are_zero(&[x.file, x.offset, x.length, x.fill, x.zero]).then_some(Asked::Make {
         parent: x.set,
         set: x.other,
         writeable,
-    };
-    checked(are_zero(x.file, x.offset, x.length, x.fill, x.zero, 0), c)
+    })
 }
 
 // Op 2.
-fn decode_write(x: Fields) -> Decoded
+fn decode_write(x: Fields) -> Option<Asked>
     requires { (x.length ≤ 4096) × (x.fill < 256) }
     ensures { (request_meant result ≡ unless (x.other ∷ x.zero ∷ []) 2 (Numbers.narrow_write x.set x.file x.offset (replicate x.length x.fill))) × request_fits result }
 {
-    let c = Asked::Write {
+    are_zero(&[x.other, x.zero]).then_some(Asked::Write {
         set: x.set,
         file: x.file,
         offset: x.offset,
         length: x.length as usize,
         fill: x.fill as u8,
-    };
-    checked(are_zero(x.other, x.zero, 0, 0, 0, 0), c)
+    })
 }
 
 // Op 3.
-fn decode_truncate(x: Fields) -> Decoded
+fn decode_truncate(x: Fields) -> Option<Asked>
     ensures { (request_meant result ≡ unless (x.other ∷ x.length ∷ x.fill ∷ x.zero ∷ []) 3 (Numbers.truncate x.set x.file x.offset)) × request_fits result }
 {
-    let c = Asked::Truncate {
+    are_zero(&[x.other, x.length, x.fill, x.zero]).then_some(Asked::Truncate {
         set: x.set,
         file: x.file,
         size: x.offset,
-    };
-    checked(are_zero(x.other, x.length, x.fill, x.zero, 0, 0), c)
+    })
 }
 
 // Op 7.
-fn decode_remove(x: Fields) -> Decoded
+fn decode_remove(x: Fields) -> Option<Asked>
     ensures { (request_meant result ≡ unless (x.file ∷ x.other ∷ x.offset ∷ x.length ∷ x.fill ∷ x.zero ∷ []) 7 (Numbers.remove x.set)) × request_fits result }
 {
-    checked(
-        are_zero(x.file, x.other, x.offset, x.length, x.fill, x.zero),
-        Asked::Remove { set: x.set },
-    )
+    are_zero(&[x.file, x.other, x.offset, x.length, x.fill, x.zero]).then_some(Asked::Remove {
+        set: x.set,
+    })
 }
 
-fn of_fields(x: Fields) -> Decoded
+// What the fields ask for, each op in its own way.
+fn of_fields(x: Fields) -> Option<Asked>
     requires { FieldsFit x }
     ensures { (request_meant result ≡ request_of (fields_meant x)) × request_fits result }
 {
-    if 4096 < x.length {
-        return Decoded::Bad;
+    if x.length > LONGEST {
+        return None;
     }
-    if x.op == 1 {
-        return decode_create(x);
+    match x.op {
+        1 => decode_create(x),
+        2 => decode_write(x),
+        3 => decode_truncate(x),
+        4 => decode_delete(x),
+        5 => decode_make(x, false),
+        6 => decode_make(x, true),
+        7 => decode_remove(x),
+        _ => None,
     }
-    if x.op == 2 {
-        return decode_write(x);
-    }
-    if x.op == 3 {
-        return decode_truncate(x);
-    }
-    if x.op == 4 {
-        return decode_delete(x);
-    }
-    if x.op == 5 {
-        return decode_make(x, false);
-    }
-    if x.op == 6 {
-        return decode_make(x, true);
-    }
-    if x.op == 7 {
-        return decode_remove(x);
-    }
-    Decoded::Bad
 }
 
-// What bytes ask for.
-pub fn decode(b: &[u8]) -> Decoded
+// What bytes ask for; none where they are bad.
+pub fn decode(b: &[u8]) -> Option<Asked>
     ensures { (request_meant result ≡ request b.now) × request_fits result }
 {
     if b.len() != 8 {
-        return Decoded::Bad;
+        return None;
     }
-    of_fields(fields_of(words::read64(b, 0)))
-}
-
-// The op of a call.
-pub fn op_of(c: Asked) -> u32
-    ensures { result ≡ op_of c }
-{
-    match c {
-        Asked::Create { set, file } => 1,
-        Asked::Write {
-            set,
-            file,
-            offset,
-            length,
-            fill,
-        } => 2,
-        Asked::Truncate { set, file, size } => 3,
-        Asked::Delete { set, file } => 4,
-        Asked::Make {
-            parent,
-            set,
-            writeable,
-        } => {
-            if writeable {
-                return 6;
-            }
-            5
-        }
-        Asked::Remove { set } => 7,
-    }
+    of_fields(fields_of(words::read::<8>(b, 0)))
 }

@@ -1,20 +1,13 @@
 // The calls that a session asks for, made on a store.
-ghost use Rattle.std.specs.Prelude.{[], ◌≡◌, ◌≤◌, length, replicate};
+ghost use Rattle.std.specs.Prelude.{[], ◌≡◌, ◌≤◌, replicate};
 ghost use Rattle.tables.specs.Calls.{call_on};
 ghost use Rattle.calls.specs.Outcomes.{outcome};
 ghost use Rattle.rules.specs.Numbers;
-ghost use Rattle.decoding.specs.Decoding.{call_fits, call_meant, copies};
+ghost use Rattle.decoding.specs.Decoding.{call_fits, call_meant};
 
 use crate::decoding::Asked;
 use calls::answer::Answer;
 use calls::{changes, records};
-
-// 4,096 copies of a byte.
-fn filled(fill: u8) -> [u8; 4096]
-    ensures { (result ≡ copies fill) × (length result ≡ 4096) }
-{
-    [fill; 4096]
-}
 
 // "write (length copies of fill)": "The session program ... now ask for narrow writes."
 fn write_copies(
@@ -29,7 +22,7 @@ fn write_copies(
     requires { length ≤ 4096 }
     ensures { outcome result t.new p.new [] ≡ call_on (Numbers.narrow_write set file offset (replicate length fill)) t.old p.old }
 {
-    let data = filled(fill);
+    let data = [fill; 4096];
     changes::write(t, p, 1, set, file, offset, &data[..length])
 }
 

@@ -1,5 +1,5 @@
 -- The lines of a session, and the listing of a store. Document 01, "The session program": "Lines"; document 02, Ask 1.
-use Rattle.std.specs.Prelude.{Bool, cond, false, not, true, ◌++◌, List, ◌∷◌, [], suc, zero, ℕ, eqb, leb, length}
+use Rattle.std.specs.Prelude.{Bool, Err, Ok, Result, cond, false, not, true, ◌++◌, List, ◌∷◌, [], suc, zero, ℕ, eqb, leb, length}
 use Rattle.base.specs.Logic.{digit}
 use Rattle.listing.specs.Text.{decimal, into_buffer, line, minus_one, minus_two, name_call, name_end, name_ext, name_file, name_set}
 use Rattle.rules.specs.Numbers.{Answer}
@@ -7,8 +7,8 @@ use Rattle.rules.specs.Reading.{size_by_reading}
 use Rattle.rules.specs.State.{Entry, SetRecord, State, Tables, absent, children_of, file_count, highest_level, hole, marked, own, page_count, stored, tree_of, unmapped, virgin}
 use Rattle.tables.specs.Layout.{state_number}
 use Rattle.tables.specs.Packed.{unpack, well_formed}
-use Rattle.listing.specs.declared.store.Listed.{Listed}
-use Rattle.listing.specs.declared.store.Listed.TheVariants.{NotWellFormed, TooSmall, Written}
+use Rattle.listing.specs.declared.store.ListError.{ListError}
+use Rattle.listing.specs.declared.store.ListError.TheVariants.{NotWellFormed, TooSmall}
 
 -- "`call` count, op, number, three counts."
 unfoldable pub call_line : ℕ → ℕ → Answer → List ℕ
@@ -110,11 +110,11 @@ pub record ListOutcome : Type 0 where
   pub size : ℕ
   pub buffer : List ℕ
 
--- what the code's enum means: "1 | tables not well formed or of wrong length"; no number of document 01 stands for a buffer that is too small
-abbrev pub list_outcome : Listed → List ℕ → ListOutcome
-list_outcome NotWellFormed b = record { number = 1; whole = false; size = 0; buffer = b }
-list_outcome (TooSmall n) b = record { number = 0; whole = false; size = n; buffer = b }
-list_outcome (Written n) b = record { number = 0; whole = true; size = n; buffer = b }
+-- what the code tells means: "1 | tables not well formed or of wrong length"; no number of document 01 stands for a buffer that is too small
+abbrev pub list_outcome : Result ℕ ListError → List ℕ → ListOutcome
+list_outcome (Err NotWellFormed) b = record { number = 1; whole = false; size = 0; buffer = b }
+list_outcome (Err (TooSmall n)) b = record { number = 0; whole = false; size = n; buffer = b }
+list_outcome (Ok n) b = record { number = 0; whole = true; size = n; buffer = b }
 
 -- a text in a lent buffer, from its front on: the whole of it, or as much as fits, with its size
 unfoldable pub list_into : List ℕ → List ℕ → ListOutcome

@@ -1,29 +1,66 @@
-// Bytes, decimal numbers and words, written into a lent buffer at a place. A byte that has no room is left out and counted
-// all the same, so that what is answered is always the place past the whole text.
-ghost use Rattle.std.specs.Prelude.{[], ◌∷◌, ◌≡◌, ◌%◌, ◌+◌, ◌<◌, ◌≤◌};
+// Bytes, decimal numbers and words, written into a lent buffer. Not by `Display`: of what `fmt` writes a proof knows nothing, and every byte of
+// a line is promised.
+ghost use Rattle.std.specs.Prelude.{[], ◌∷◌, ◌≡◌, ◌%◌, ◌+◌, ◌<◌, ◌≤◌, length};
 ghost use Rattle.listing.specs.Text.{blank, decimal, digit_code};
-ghost use Rattle.listing.specs.Written.{Wrote};
+ghost use Rattle.listing.specs.Written.{Put};
 
-// One byte.
-pub fn put(out: &mut [u8], cur: usize, b: u8) -> usize
-    requires { cur < 4294967296 }
-    ensures { Wrote out.old out.new cur result (b ∷ []) × (result ≡ cur + 1) }
-{
-    if cur < out.len() {
-        out[cur] = b;
-        return cur + 1;
-    }
-    cur + 1
+// A lent buffer, and the place past what is written into it. A byte that has no room is left out and counted all the same, so
+// that the place is always past the whole text.
+#[derive(Drop)]
+pub struct Writer<'a> {
+    out: &'a mut [u8],
+    pub at: usize,
 }
 
-// Three bytes.
-pub fn put_three(out: &mut [u8], cur: usize, a: u8, b: u8, c: u8) -> usize
-    requires { cur + 2 < 4294967296 }
-    ensures { Wrote out.old out.new cur result (a ∷ b ∷ c ∷ []) × (result ≡ cur + 3) }
-{
-    let x = put(out, cur, a);
-    let y = put(out, x, b);
-    put(out, y, c)
+impl<'a> Writer<'a> {
+    // Writing begins at the buffer's front.
+    pub fn new(out: &'a mut [u8]) -> Writer<'a>
+        ensures { (result.out.ghost_name ≡ out.entry.ghost_name) × (result.out.now ≡ out.old) × (result.at ≡ 0) }
+    {
+        Writer { out, at: 0 }
+    }
+
+    // One byte.
+    pub fn put(&mut self, b: u8)
+        requires { self.old.at < 4294967296 }
+        ensures { Put self.old self.new (b ∷ []) }
+    {
+        if self.at < self.out.len() {
+            self.out[self.at] = b;
+        }
+        self.at += 1;
+    }
+
+    // Bytes, one after the other.
+    pub fn put_bytes(&mut self, text: &[u8])
+        requires { self.old.at + length text.now ≤ 4294967296 }
+        ensures { Put self.old self.new text.now }
+    {
+        for b in text {
+            self.put(*b);
+        }
+    }
+
+    // A number in decimal.
+    fn put_decimal(&mut self, n: usize)
+        requires { self.old.at + 20 < 4294967296 }
+        ensures { Put self.old self.new (decimal n) × (self.new.at ≤ self.old.at + 20) }
+    {
+        if n < 10 {
+            return self.put(last_digit(n));
+        }
+        self.put_decimal(n / 10);
+        self.put(last_digit(n));
+    }
+
+    // A blank and a number.
+    pub fn put_word(&mut self, n: usize)
+        requires { self.old.at + 21 < 4294967296 }
+        ensures { Put self.old self.new (blank ∷ decimal n) × (self.new.at ≤ self.old.at + 21) × (n < 100000 → self.new.at ≤ self.old.at + 6) }
+    {
+        self.put(b' ');
+        self.put_decimal(n);
+    }
 }
 
 // The last digit of a number.
@@ -31,25 +68,4 @@ fn last_digit(n: usize) -> u8
     ensures { result ≡ digit_code (n % 10) }
 {
     48 + (n % 10) as u8
-}
-
-// A number in decimal.
-fn put_decimal(out: &mut [u8], cur: usize, n: usize) -> usize
-    requires { cur + 20 < 4294967296 }
-    ensures { Wrote out.old out.new cur result (decimal n) × (result ≤ cur + 20) }
-{
-    if n < 10 {
-        return put(out, cur, last_digit(n));
-    }
-    let at = put_decimal(out, cur, n / 10);
-    put(out, at, last_digit(n))
-}
-
-// A blank and a number.
-pub fn put_word(out: &mut [u8], cur: usize, n: usize) -> usize
-    requires { cur + 21 < 4294967296 }
-    ensures { Wrote out.old out.new cur result (blank ∷ decimal n) × (result ≤ cur + 21) × (n < 100000 → result ≤ cur + 6) }
-{
-    let at = put(out, cur, b' ');
-    put_decimal(out, at, n)
 }

@@ -2,44 +2,17 @@
 // the store. It only reads, prints and hands over: no rule of the store stands here, and no line.
 #![tactic(auto)]
 
-ghost use Rattle.std.specs.Prelude.{◌≡◌, ◌≤◌, length};
-ghost use Rattle.tables.specs.Layout.{table_bytes};
+ghost use Rattle.std.specs.Prelude.{◌≤◌, length};
 
 use listing::store;
-use listing::store::Listed;
+use std::io;
 use std::io::{Read, Write};
+use std::ops::ControlFlow;
 use tables::places::TABLE_BYTES;
 use turns::turn::take_turn;
 
-// What is to do after a turn: read on, list, or quit since a write failed.
-#[derive(Drop)]
-enum Next {
-    Read,
-    List,
-    Quit,
-}
-
-fn tables() -> [u8; TABLE_BYTES]
-    ensures { table_bytes ≡ length result }
-{
-    [0; TABLE_BYTES]
-}
-
-// "It formats 64 blocks"
-fn pages() -> [u8; 32768]
-    ensures { 32768 ≡ length result }
-{
-    [0; 32768]
-}
-
-// Room for any listing: none is longer than 137,056 bytes.
-fn room() -> [u8; 139264]
-    ensures { 139264 ≡ length result }
-{
-    [0; 139264]
-}
-
-// Reads until the buffer is full, the input ends or a read fails, and answers how many bytes it put at the buffer's front.
+// Reads until the buffer is full, the input ends or a read fails, and answers how many bytes it put at the buffer's front. It
+// stays a loop: the library's `read_exact` does not tell how many bytes came.
 fn read_full(input: &mut impl Read, buffer: &mut [u8]) -> usize
     ensures { result ≤ length buffer.new }
 {
@@ -54,55 +27,55 @@ fn read_full(input: &mut impl Read, buffer: &mut [u8]) -> usize
     done
 }
 
-// One call: reads that come in pieces are joined.
+// One call: reads that come in pieces are joined. Whether reading goes on, unless the line could not be written.
 fn turn(
     input: &mut impl Read,
     output: &mut impl Write,
     t: &mut [u8],
     p: &mut [u8],
     count: usize,
-) -> Next {
+) -> io::Result<ControlFlow<usize, usize>> {
     let mut bytes = [0u8; 8];
     let n = read_full(input, &mut bytes);
     let mut text = [0u8; 160];
     let told = take_turn(t, p, &bytes[..n], count, &mut text);
-    if output.write_all(&text[..told.size]).is_err() {
-        return Next::Quit;
-    }
-    if told.goes_on {
-        return Next::Read;
-    }
-    Next::List
+    let size = match told {
+        ControlFlow::Continue(size) | ControlFlow::Break(size) => size,
+    };
+    output.write_all(&text[..size])?;
+    Ok(told)
 }
 
-// All calls; false where a write failed.
-fn make_calls(input: &mut impl Read, output: &mut impl Write, t: &mut [u8], p: &mut [u8]) -> bool {
-    let mut count: usize = 1;
-    while count < usize::MAX {
-        let k = turn(input, output, t, p, count);
-        match k {
-            Next::Read => count += 1,
-            Next::List => return true,
-            Next::Quit => return false,
+// All calls, until reading ends or a line could not be written.
+fn make_calls(
+    input: &mut impl Read,
+    output: &mut impl Write,
+    t: &mut [u8],
+    p: &mut [u8],
+) -> io::Result<()> {
+    for count in 1..usize::MAX {
+        if turn(input, output, t, p, count)?.is_break() {
+            break;
         }
     }
-    true
+    Ok(())
 }
 
+// The listing, in a buffer with room for any: none is longer than 137,056 bytes.
 fn print_listing(output: &mut impl Write, t: &[u8], n: usize) {
-    let mut text = room();
-    let k = store::list_store(t, n, &mut text);
-    if let Listed::Written(m) = k {
+    let mut text = [0; 139264];
+    if let Ok(m) = store::list_store(t, n, &mut text) {
         let _ = output.write_all(&text[..m]);
     }
 }
 
 fn main(rt: HostRuntime) {
-    let mut t = tables();
-    let mut p = pages();
+    let mut t = [0; TABLE_BYTES];
+    // "It formats 64 blocks"
+    let mut p = [0; 32768];
     calls::format::format(&mut t, &mut p);
     let mut output = rt.stdout();
-    if make_calls(&mut rt.stdin(), &mut output, &mut t, &mut p) {
+    if make_calls(&mut rt.stdin(), &mut output, &mut t, &mut p).is_ok() {
         print_listing(&mut output, &t, 32768);
     }
 }

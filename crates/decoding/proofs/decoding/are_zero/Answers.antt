@@ -1,25 +1,11 @@
 -- `decoding::decoding::are_zero` meets its contract. Assumes nothing.
-use mathlib.Core.Path.{sym}
-use borrow.Author.Tests.{eq-eqb, ne_eqb}
-use Rattle.base.specs.Logic.{and_true}
+use Rattle.std.proofs.Common.{◌≡◌, EachIndex, IsTrue, get_or, rules}
+use mathlib.Core.Logic.{◌↔◌}
+use Rattle.decoding.proofs.Requests.{zeros}
 use Rattle.decoding.proofs.decoding.are_zero.Goals as goal
-
-pub returns-then-a-ne0 : goal.returns-then-a-ne0
-returns-then-a-ne0 c = simp (ne_eqb _ _ c.if-a-ne0.true)
-
-pub returns-then-b-ne0 : goal.returns-then-b-ne0
-returns-then-b-ne0 c = simp (eq-eqb _ _ c.if-a-ne0.false, ne_eqb _ _ c.if-b-ne0.true)
-
-pub returns-then-c-ne0 : goal.returns-then-c-ne0
-returns-then-c-ne0 c = simp (eq-eqb _ _ c.if-a-ne0.false, eq-eqb _ _ c.if-b-ne0.false, ne_eqb _ _ c.if-c-ne0.true)
-
-pub returns-then-d-ne0 : goal.returns-then-d-ne0
-returns-then-d-ne0 c = simp (eq-eqb _ _ c.if-a-ne0.false, eq-eqb _ _ c.if-b-ne0.false, eq-eqb _ _ c.if-c-ne0.false, ne_eqb _ _ c.if-d-ne0.true)
-
-pub returns-then-e-ne0 : goal.returns-then-e-ne0
-returns-then-e-ne0 c =
-    simp (eq-eqb _ _ c.if-a-ne0.false, eq-eqb _ _ c.if-b-ne0.false, eq-eqb _ _ c.if-c-ne0.false, eq-eqb _ _ c.if-d-ne0.false, ne_eqb _ _ c.if-e-ne0.true)
 
 pub returns : goal.returns
 returns c =
-    simp (eq-eqb _ _ c.if-a-ne0.false, eq-eqb _ _ c.if-b-ne0.false, eq-eqb _ _ c.if-c-ne0.false, eq-eqb _ _ c.if-d-ne0.false, eq-eqb _ _ c.if-e-ne0.false) (sym (and_true _))
+    let xs = c.args.fields.now in
+    let h : IsTrue c.all.result ↔ EachIndex xs (λ k. get_or xs k 0 ≡ 0) = search rules in
+    zeros xs c.all.result h.0 h.1

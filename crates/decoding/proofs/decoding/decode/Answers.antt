@@ -10,4 +10,4 @@ returns-then-b-ne8 c = (simp (ne_eqb _ _ c.if-b-ne8.true), tt)
 
 pub returns : goal.returns
 unfolding request
-returns c = (simp (eq-eqb _ _ c.if-b-ne8.false) (c.of_fields.ensures.0 ∙ ap request_of (c.fields_of.ensures.0 ∙ ap call_fields c.read64.ensures)), c.of_fields.ensures.1)
+returns c = (simp (eq-eqb _ _ c.if-b-ne8.false) (c.of_fields.ensures.0 ∙ ap request_of (c.fields_of.ensures.0 ∙ ap call_fields c.read.ensures.0)), c.of_fields.ensures.1)

@@ -3,4 +3,4 @@ use Rattle.decoding.proofs.Requests.{kept}
 use Rattle.decoding.proofs.decoding.decode_remove.Goals as goal
 
 pub returns : goal.returns
-returns c = (kept _ _ _ _ c.checked.ensures.0 c.are_zero.ensures, c.checked.ensures.1)
+returns c = kept _ _ _ c.then_some.ensures tt c.are_zero.ensures

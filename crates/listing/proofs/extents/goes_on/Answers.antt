@@ -1,23 +1,30 @@
 -- `listing::extents::goes_on` meets its contract. Assumes nothing.
-use mathlib.Core.Path.{ap, subst, sym, ◌∙◌}
+use mathlib.Core.Path.{ap, ap₂, ◌∙◌}
+use Prim.Native.Nat.{◌+◌, ℕ}
+use native.Mathlib.Numerals.{add-one}
+use lib.Dec.{eqb}
 use Rattle.tables.specs.Meaning.{entry_meant}
-use Rattle.tables.specs.OneReading.{block_fits}
-use Rattle.listing.specs.Listing.{continues}
-use Rattle.listing.proofs.Runs.{behind_unmapped}
+use Rattle.listing.proofs.Runs.{not_hole, not_stored, not_unmapped}
 use Rattle.listing.proofs.extents.goes_on.Goals as goal
 
-pub behind_stored-requires : goal.behind_stored-requires
+pub returns-in-Unmapped-Unmapped : goal.returns-in-Unmapped-Unmapped
 unfolding entry_meant
-behind_stored-requires c = subst (λ e. block_fits (entry_meant e)) c.in-Stored.is c.requires
+returns-in-Unmapped-Unmapped c = simp (c.in-Unmapped-Unmapped.is-0, c.in-Unmapped-Unmapped.is-1)
 
-pub returns-in-Unmapped : goal.returns-in-Unmapped
+pub returns-in-Hole-Hole : goal.returns-in-Hole-Hole
 unfolding entry_meant
-returns-in-Unmapped c = c.is_unmapped.ensures ∙ sym (behind_unmapped (entry_meant c.args.e)) ∙ ap (λ b. continues (entry_meant b) (entry_meant c.args.e)) (sym c.in-Unmapped.is)
+returns-in-Hole-Hole c = simp (c.in-Hole-Hole.is-0, c.in-Hole-Hole.is-1)
 
-pub returns-in-Hole : goal.returns-in-Hole
+pub returns-in-Stored-Stored : goal.returns-in-Stored-Stored
 unfolding entry_meant
-returns-in-Hole c = c.behind_hole.ensures ∙ ap (λ b. continues (entry_meant b) (entry_meant c.args.e)) (sym c.in-Hole.is)
+returns-in-Stored-Stored c =
+    simp (c.in-Stored-Stored.is-0, c.in-Stored-Stored.is-1) (ap₂ eqb c.number.ensures (ap (λ (n : ℕ). n + 1) c.number-in-Stored-Stored.ensures ∙ add-one _))
 
-pub returns-in-Stored : goal.returns-in-Stored
-unfolding entry_meant
-returns-in-Stored c = c.behind_stored.ensures ∙ ap (λ b. continues (entry_meant b) (entry_meant c.args.e)) (sym c.in-Stored.is)
+pub returns-in_default : goal.returns-in_default
+returns-in_default c = simp c.in_default.is-0 (not_unmapped c.args.e c.in_default.not-Unmapped-1)
+
+pub returns-in_default-2 : goal.returns-in_default-2
+returns-in_default-2 c = simp c.in_default.is-0 (not_hole c.args.e c.in_default.not-Hole-1)
+
+pub returns-in_default-3 : goal.returns-in_default-3
+returns-in_default-3 c = simp c.in_default.is-0 (not_stored _ c.args.e c.in_default.not-Stored-1)

@@ -7,13 +7,13 @@ use lib.Dec.{eqb}
 use Rattle.tables.specs.Meaning.{state_meant}
 use Rattle.tables.specs.Packed.{unpack}
 use Rattle.listing.specs.Listing.{ext_end, extents, file_line}
-use Rattle.listing.proofs.Writing.{wrote_as, wrote_then}
+use Rattle.listing.proofs.Writing.{put_as, put_then}
 use Rattle.listing.proofs.files.list_live.Goals as goal
 
 pub returns : goal.returns
 returns c =
     let a = c.args in (
-      wrote_as (ap (λ (n : ℕ). file_line a.s a.f (state_meant a.l) n ++ (extents (eqb a.s 0) ((unpack a.t.now).files a.f a.s).map 64 ++ ext_end)) c.size_of-n.ensures.0)
-          (wrote_then c.put_file-at.ensures.0 c.list_extents.ensures.0),
+      put_as (ap (λ (n : ℕ). file_line a.s a.f (state_meant a.l) n ++ (extents (eqb a.s 0) ((unpack a.t.now).files a.f a.s).map 64 ++ ext_end)) c.size_of-n.ensures.0)
+          (put_then c.put_file.ensures.0 c.list_extents.ensures.0),
       omega arith,
     )

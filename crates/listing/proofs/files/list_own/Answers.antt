@@ -2,10 +2,10 @@
 use mathlib.Core.Path.{ap}
 use native.Mathlib.Omega.{arith}
 use Rattle.listing.specs.Listing.{set_line, set_text}
-use Rattle.listing.proofs.Writing.{wrote_as, wrote_then}
+use Rattle.listing.proofs.Writing.{put_as, put_then}
 use Rattle.listing.proofs.files.list_own.Goals as goal
 
 pub returns : goal.returns
 unfolding set_text
 returns c =
-    (wrote_then (wrote_as (ap (set_line c.args.s) c.set_at-r.ensures.0) c.put_set-at.ensures.0) c.list_files.ensures.0, omega arith)
+    (put_then (put_as (ap (set_line c.args.s) c.set_at.ensures.0) c.put_set.ensures.0) c.list_files.ensures.0, omega arith)

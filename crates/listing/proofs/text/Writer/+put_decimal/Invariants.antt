@@ -1,0 +1,5 @@
+-- `listing::text::Writer::put_decimal` calls itself on the number without its last digit. Assumes nothing.
+use Rattle.listing.proofs.text.Writer.+put_decimal.Given as goal
+
+abbrev pub decreases-put_decimal : goal.decreases-put_decimal
+decreases-put_decimal l = l.n
