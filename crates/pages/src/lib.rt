@@ -14,7 +14,10 @@ pub fn copy_bytes(target: &mut [u8], at: usize, source: &[u8], start: usize, n: 
     requires { (at + n ≤ length target.old) × (start + n ≤ length source.now) }
     ensures { target.new ≡ run target.old at (λ i. get_or source.now (start + i) 0) n }
 {
-    target[at..at + n].copy_from_slice(&source[start..start + n]);
+    // By a loop: the slice's own copy would have the archive ask C's library for `memmove`.
+    for i in 0..n {
+        target[at + i] = source[start + i];
+    }
 }
 
 // Zeroes the n bytes of `target` from `at` on.
