@@ -9,7 +9,7 @@ use lib.Dec.{leb, ltb}
 use lib.ListN.{get_or, length}
 use borrow.Author.Tests.{le-leb, le-ltb, leb-true, lt-leb, lt-ltb, ltb-false, ltb-true}
 use Rattle.base.specs.Logic.{and_left, and_right, same?, test?}
-use Rattle.base.specs.Update.{upd, upd_other, upd_same}
+use Rattle.base.specs.Update.{upd, upd_other, upd_same, upd_self}
 use Rattle.pages.specs.Run.{run, run_in, run_out, run_same}
 use Rattle.rules.specs.Storage.{zero_from}
 use Rattle.tables.specs.Calls.{pages_of}
@@ -86,3 +86,9 @@ page_read l p at b x n h =
     run_same l at (λ i. get_or p (b * 512 + x + i) 0) (λ i. pages_of p b (x + i)) n
     (λ i k. let z : b * 512 + x + i ≡ b * 512 + (x + i) = omega arith in
     ap (λ y. get_or p y 0) z ∙ sym (pages_in p b (x + i) (omega arith)))
+
+-- a page copied to its own place
+pub copy_self : (l : List ℕ) (a b x y : ℕ) → x ≡ a → y ≡ b → x * 512 ≡ y * 512 → pages_of l ≡ upd (pages_of l) b (pages_of l a)
+copy_self l a b x y p q e =
+    let k : a ≡ b = omega (arith, p, q, e) in
+    sym (ap (λ z. upd (pages_of l) b (pages_of l z)) k ∙ upd_self (pages_of l) b)

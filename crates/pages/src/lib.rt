@@ -35,6 +35,10 @@ pub fn copy_page(pages: &mut [u8], from: Block, to: Block)
 {
     let a = from.number() * 512;
     let b = to.number() * 512;
+    // A page that a file has already stays where it is, at every write of a part of it.
+    if a == b {
+        return;
+    }
     pages.copy_within(a..a + 512, b);
 }
 

@@ -2,9 +2,13 @@
 use Rattle.std.proofs.Common.{◌+◌, ◌*◌, ◌∙◌, ap, arith, get_or}
 use Rattle.tables.specs.Calls.{pages_of}
 use Rattle.pages.specs.Run.{run}
-use Rattle.pages.proofs.PageRuns.{copied}
+use Rattle.pages.proofs.PageRuns.{copied, copy_self}
 use Rattle.pages.proofs.Parts.{moved_run}
 use Rattle.pages.proofs.copy_page.Goals as goal
+
+pub returns-then-a-b : goal.returns-then-a-b
+returns-then-a-b c =
+    copy_self c.args.pages.now c.args.from.0 c.args.to.0 c.number-a.result c.number-b.result c.number-a.ensures c.number-b.ensures c.if-a-b.true
 
 pub returns : goal.returns
 returns c =
