@@ -1,12 +1,13 @@
 -- Sets from which on the file records are zero: they pass every rule that concerns one file. Assumes nothing.
 use mathlib.Core.Bool.{Bool, false, true}
 use mathlib.Core.List.{List, ◌++◌}
-use mathlib.Core.Path.{ap, refl, sym, ◌∙◌, ◌≡◌}
-use Prim.Native.Nat.{◌*◌, ◌+◌, ◌-◌, ◌<◌, ℕ, ◌≤◌}
+use mathlib.Core.Path.{ap, refl, subst, sym, ◌∙◌, ◌≡◌}
+use Prim.Native.Nat.{◌%◌, ◌*◌, ◌+◌, ◌/◌, ◌<◌, ℕ, ◌≤◌}
 use native.Mathlib.Omega.{arith}
 use lib.Dec.{eqb}
 use lib.ListN.{get_or, length}
 use Rattle.base.specs.Count.{all_of}
+use Rattle.base.specs.Logic.{same?}
 use Rattle.entrycheck.specs.Records.{BlankFrom}
 use Rattle.masks.proofs.PageMasks.{mask_all}
 use Rattle.masks.specs.Pages.{page_mask}
@@ -48,12 +49,24 @@ module _ (front files : List ℕ) (len : length front ≡ files_at) (n : ℕ) (b
   pub blank_dead : live ((unpack t).files f s).state ≡ false
   blank_dead = ap (λ (x : File ℕ). live x.state) absent_here
 
--- ---- what the code tests at once
+-- ---- what the code tests, one set after the other
+
+-- the file records of the sets from set n on, before set m, are zero
+abbrev pub ZeroTo : List ℕ → ℕ → ℕ → Type 0
+ZeroTo files n m = (s : ℕ) → n ≤ s → s < m → zero_bytes files (s * set_files_bytes) set_files_bytes ≡ true
+
+pub zero_start : (files : List ℕ) (n : ℕ) → ZeroTo files n n
+zero_start files n s a b = absurd (omega arith)
+
+pub zero_next : (files : List ℕ) (n m : ℕ) → ZeroTo files n m → true ≡ zero_bytes files (m * set_files_bytes) set_files_bytes → ZeroTo files n (m + 1)
+zero_next files n m h e s a b = same? m s (λ q. subst (λ x. zero_bytes files (x * set_files_bytes) set_files_bytes ≡ true) q (sym e)) (λ q. h s a (omega arith))
+
 -- LAW: every byte from the first file record of set n on is zero
-pub blank_from : (files : List ℕ) (n : ℕ) → n ≤ 8 → zero_bytes files (n * set_files_bytes) ((8 - n) * set_files_bytes) ≡ true → BlankFrom files n
+pub blank_from : (files : List ℕ) (n : ℕ) → n ≤ 8 → ZeroTo files n 8 → BlankFrom files n
 blank_from files n most e = record {
   most = most;
   zero = λ i j l h k.
-      let q : n * set_files_bytes + ((i - n * file_count) * file_bytes + j) ≡ i * file_bytes + j = omega arith in
-      ap (λ a. get_or files a 0) (sym q) ∙ zero_at files (n * set_files_bytes) ((8 - n) * set_files_bytes) e ((i - n * file_count) * file_bytes + j) (omega arith);
+      let q : i / file_count * set_files_bytes + (i % file_count * file_bytes + j) ≡ i * file_bytes + j = omega arith in
+      ap (λ a. get_or files a 0) (sym q)
+      ∙ zero_at files (i / file_count * set_files_bytes) set_files_bytes (e (i / file_count) (omega arith) (omega arith)) (i % file_count * file_bytes + j) (omega arith);
 }

@@ -27,17 +27,19 @@ pub mod linked;
 pub mod places;
 
 // A number from which on sets are unused and their file records all zero: that after the last used set, or 8 where a record
-// behind it is not all zero.
+// behind it is not all zero. Set by set, so that the loop over the bytes is of one length and goes far in each turn: how long one over all of
+// them took went by where it came to stand in the program.
 fn blank_from(front: &[u8], files: &[u8]) -> usize
     requires { (files_at ≤ length front.now) × (length files.now ≡ all_files_bytes) }
     ensures { BlankFrom files.now result × UnusedFrom (unpack front.now).sets result }
 {
     let n = used_to(front);
-    if words::all_zero(files, n * SET_FILES_BYTES, (8 - n) * SET_FILES_BYTES) {
-        n
-    } else {
-        8
+    for s in n..8 {
+        if !words::all_zero(files, s * SET_FILES_BYTES, SET_FILES_BYTES) {
+            return 8;
+        }
     }
+    n
 }
 
 // THE FIRST PART: the rules on B, next start, kinds, blocks and bits. The masks of the pages of every file are kept. The
