@@ -2,7 +2,8 @@
 // the store. It only reads, prints and hands over: no rule of the store stands here, and no line.
 #![tactic(auto)]
 
-ghost use Rattle.std.specs.Prelude.{◌≤◌, length};
+ghost use Rattle.std.specs.Prelude.{◌≡◌, ◌≤◌, length};
+ghost use Rattle.tables.specs.Layout.{table_bytes};
 
 use listing::store;
 use std::io;
@@ -46,13 +47,15 @@ fn turn(
     Ok(told)
 }
 
-// All calls, until reading ends or a line could not be written.
+// All calls, on the tables and pages of a store of 64 blocks, until reading ends or a line could not be written.
 fn make_calls(
     input: &mut impl Read,
     output: &mut impl Write,
     t: &mut [u8],
     p: &mut [u8],
-) -> io::Result<()> {
+) -> io::Result<()>
+    requires { (length t.old ≡ table_bytes) × (length p.old ≡ 32768) }
+{
     for count in 1..usize::MAX {
         if turn(input, output, t, p, count)?.is_break() {
             break;
@@ -64,7 +67,14 @@ fn make_calls(
 // The listing, in a buffer with room for any: none is longer than 137,056 bytes.
 fn print_listing(output: &mut impl Write, t: &[u8], n: usize) {
     let mut text = [0; 139264];
-    if let Ok(m) = store::list_store(t, n, &mut text) {
+    print_by(output, t, n, &mut text);
+}
+
+// The same, by way of that buffer.
+fn print_by(output: &mut impl Write, t: &[u8], n: usize, text: &mut [u8])
+    requires { length text.old ≡ 139264 }
+{
+    if let Ok(m) = store::list_store(t, n, text) {
         let _ = output.write_all(&text[..m]);
     }
 }
