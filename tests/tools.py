@@ -699,6 +699,10 @@ class Cited(unittest.TestCase):
         self.assertFalse(cited.lacks_outcome(with_outcome))
         self.assertTrue(cited.lacks_outcome(without))
 
+    def test_functions_of_a_type_with_a_lifetime_are_read(self):
+        text = "impl<'a> Place<'a> {\n    pub fn at(&self) -> usize\n        ensures { result ≡ 0 }\n    {\n        0\n    }\n}\n"
+        self.assertEqual(["Place::at"], [function.name for function in sources.read_rt(text)])
+
     def test_what_must_be_believed_is_closed(self):
         text = read("docs", "PROMISES.md")
         files_listed, general = sources.believed(text)

@@ -168,18 +168,19 @@ def read_type(flat):
 
 
 def read_rt(text):
-    """functions with contract and body, structs, enums and constants, without `pub`; functions of `impl T` are named T::f, those of
-    `impl Trait for T` "Trait for T::f"; the ghost members of such a block stand in none"""
+    """functions with contract and body, structs, enums and constants, without `pub`; functions of `impl T`, or of `impl<'a> T<'a>`, are
+    named T::f, those of `impl Trait for T` "Trait for T::f"; the ghost members of such a block stand in none"""
     found = []
     lines = [line for line in without_comments(text, "//").split("\n") if not line.startswith("#![")]
     for item in code_items(lines):
         flat = squeeze("\n".join(item))
-        owner = re.match(r"impl (.*?) ?\{", flat)
+        owner = re.match(r"impl(?:<.*?>)? (.*?) ?\{", flat)
         if owner:
+            name = re.sub(r"<'\w+>", "", owner.group(1))
             for inner in code_items(item[1:-1]):
                 part = squeeze("\n".join(inner))
                 if FUNCTION.match(part):
-                    found.append(read_function(inner, owner.group(1) + "::"))
+                    found.append(read_function(inner, name + "::"))
                 elif TYPE.match(part):
                     found.append(read_type(part))
         elif FUNCTION.match(flat):
